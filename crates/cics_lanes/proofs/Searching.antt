@@ -1,12 +1,12 @@
 -- A search goes on: where it is, and what it keeps.
-use Rattle.std.proofs.Common.{◌≡◌, ◌≤◌, ℕ, ◌-◌, suc, Bool, true, false, List, [], ◌∷◌, ◌++◌, length, refl, ap, sym, ◌∙◌, arith, length-append, subst, take, min}
+use Rattle.std.proofs.Common.{◌≡◌, ◌<◌, ◌≤◌, ℕ, ◌-◌, zero, suc, Bool, true, false, List, [], ◌∷◌, ◌++◌, length, refl, ap, sym, ◌∙◌, arith, length-append, subst, take, min}
 use Rattle.std.proofs.lemmas.Bool.{true≢false}
 use Rattle.std.proofs.lemmas.List.{length-map}
 use Rattle.std.proofs.Math.Seq.{take-length, take-append_seam}
 use Rattle.cics_lanes.specs.Orders.{Order, Lanes, after, orders as all_orders}
 use Rattle.cics_lanes.specs.Endings.{Parts, Reported, kept_number, report, run_to}
 use Rattle.cics_lanes.specs.Reports.{IsReport, runs}
-use Rattle.cics_lanes.specs.Tables.{found, order_count, IsKept, IsTable, IsMerged, Joins}
+use Rattle.cics_lanes.specs.Tables.{found, lanes_left, order_count, IsKept, IsTable, IsMerged, Joins}
 use Rattle.cics_lanes.specs.Searches.{AreKept, GoesOn}
 use Rattle.cics_lanes.specs.declared.exploring.Report.{Report}
 use Rattle.cics_lanes.specs.declared.merging.Search.{Search}
@@ -56,22 +56,38 @@ kept_one lanes ending serial is_key s t n left key o b table at keyed same is wh
       ∙ (ap (found lanes ending serial n) at ∙ ap (λ m. found lanes ending serial m (after lanes s o)) (sym same))),
 )
 
+-- a search in which only the mark on lanes left out may change
+pub marked : {S K : Type 0} (lanes : Lanes S) (ending : S → Parts) (serial : S → Bool) (is_key : S → K → Type 0) (origin now : S) (old new : Search K) (b : Bool) →
+    new ≡ record old { is_whole = b } → (b ≡ true → old.is_whole ≡ true) → now ≡ origin → AreKept lanes ending serial is_key origin old.tables.kept.items →
+    GoesOn lanes ending serial is_key origin now old new
+marked lanes ending serial is_key origin now old new b is stays start kept = record {
+  order = ap (λ r. r.order.items) is;
+  lines = ap (λ r. r.lines) is;
+  start = start;
+  kept = subst (λ r. AreKept lanes ending serial is_key origin r.tables.kept.items) (sym is) kept;
+  whole = λ whole. stays (sym (ap (λ r. r.is_whole) is) ∙ whole);
+}
+
 -- a search that has just left a lane out
 pub left_out : {S K : Type 0} (lanes : Lanes S) (ending : S → Parts) (serial : S → Bool) (is_key : S → K → Type 0) (origin : S) (old new : Search K) (b : Bool)
     (n : ℕ) (s : S) (l : ℕ) (table : List Reported) → new ≡ record old { is_whole = b } → b ≡ false →
     AreKept lanes ending serial is_key origin old.tables.kept.items →
     GoesOn lanes ending serial is_key origin origin old new × Joins lanes ending serial n s l new.is_whole table table
-left_out lanes ending serial is_key origin old new b n s l table is left_out kept =
-    let cut : new.is_whole ≡ false = ap (λ r. r.is_whole) is ∙ left_out in (
-      record {
-        order = ap (λ r. r.order.items) is;
-        lines = ap (λ r. r.lines) is;
-        start = refl;
-        kept = subst (λ r. AreKept lanes ending serial is_key origin r.tables.kept.items) (sym is) kept;
-        whole = λ whole. absurd (true≢false (sym whole ∙ cut));
-      },
-      joins_none lanes ending serial n s l new.is_whole table cut,
-    )
+left_out lanes ending serial is_key origin old new b n s l table is cut kept = (
+  marked lanes ending serial is_key origin origin old new b is (λ whole. absurd (true≢false (sym whole ∙ cut))) refl kept,
+  joins_none lanes ending serial n s l new.is_whole table (ap (λ r. r.is_whole) is ∙ cut),
+)
+
+-- orders that are joined, told otherwise
+pub joins_as : {S : Type 0} (lanes : Lanes S) (ending : S → Parts) (serial : S → Bool) (n m : ℕ) (s t : S) (l : ℕ) (b : Bool) (old new : List Reported) →
+    n ≡ m → s ≡ t → Joins lanes ending serial n s l b old new → Joins lanes ending serial m t l b old new
+joins_as lanes ending serial n m s t l b old new lines here joins =
+    subst (λ k. Joins lanes ending serial k t l b old new) lines (subst (λ u. Joins lanes ending serial n u l b old new) here joins)
+
+-- if a lane may give, a line is left
+pub some_left : {S : Type 0} (lanes : Lanes S) (n : ℕ) (s : S) (ls : List ℕ) → ls ≡ lanes_left lanes n s → 0 < length ls → 0 < n
+some_left lanes zero s ls is some = absurd (omega (arith, ap length is, some))
+some_left lanes (suc n) s ls is some = omega arith
 
 -- a search that goes on twice
 pub goes_on : {S K : Type 0} (lanes : Lanes S) (ending : S → Parts) (serial : S → Bool) (is_key : S → K → Type 0) (origin now then : S) (old mid new : Search K) →

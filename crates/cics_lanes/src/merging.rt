@@ -209,7 +209,8 @@ fn table_at<W: Merge>(search: &mut Search<W::Key>, walk: &mut W) -> Result<Vec<E
     let lanes = lanes_left(search, walk)?;
     let alloc = *lanes.allocator();
     if lanes.is_empty() {
-        return sole(alloc, walk);
+        let table = sole(alloc, walk)?;
+        return Ok(table);
     }
     let mut table = Vec::new(alloc);
     join_lane(search, walk, lanes[0], &mut table)?;
@@ -219,7 +220,7 @@ fn table_at<W: Merge>(search: &mut Search<W::Key>, walk: &mut W) -> Result<Vec<E
     Ok(table)
 }
 
-// Joins to a table that of the state after a line of a lane.
+// Joins to a table that of the state after a line of a lane. It is kept for states of the same key.
 #[tactic(none)]
 #[cycle(tables)]
 fn join_lane<W: Merge>(
