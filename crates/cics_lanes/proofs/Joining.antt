@@ -90,9 +90,10 @@ module _ {S : Type 0} (lanes : Lanes S) (ending : S → Parts) (serial : S → B
       }
 
   -- all lanes that may give
-  pub part_all : (n m : ℕ) (s : S) (l : ℕ) (ls : List ℕ) (b : Bool) (t : List Reported) → n ≡ suc m → lanes_left lanes n s ≡ l ∷ ls →
-      IsPart lanes ending serial m s (l ∷ ls) b t → IsTable lanes ending serial n s b t
-  part_all n m s l ls b t one is part =
+  pub part_all : (n m : ℕ) (s : S) (ls : List ℕ) (b : Bool) (t : List Reported) → n ≡ suc m → lanes_left lanes n s ≡ ls → 0 < length ls →
+      IsPart lanes ending serial m s ls b t → IsTable lanes ending serial n s b t
+  part_all n m s [] b t one is some part = absurd (omega (arith, some))
+  part_all n m s (l ∷ ls) b t one is some part =
       let givers : lanes.givers s 0 ≡ l ∷ ls = ap (λ k. lanes_left lanes k s) (sym one) ∙ is in
       let all : all_orders lanes n s ≡ led_by (λ l. all_orders lanes m (lanes.given s l)) (l ∷ ls)
       = ap (λ k. all_orders lanes k s) one ∙ ap (led_by_any (λ l. all_orders lanes m (lanes.given s l))) givers in

@@ -1,7 +1,9 @@
 -- A search goes on: where it is, and what it keeps.
-use Rattle.std.proofs.Common.{◌≡◌, ◌<◌, ◌≤◌, ℕ, ◌-◌, zero, suc, Bool, true, false, List, [], ◌∷◌, ◌++◌, length, refl, ap, sym, ◌∙◌, arith, length-append, subst, take, min}
+use Rattle.std.proofs.Common.{◌≡◌, ◌<◌, ◌≤◌, ℕ, ◌-◌, zero, suc, Bool, true, false, Option, List, [], ◌∷◌, ◌++◌, length, refl, ap, sym, ◌∙◌, arith, length-append, subst, take, min}
 use Rattle.std.proofs.lemmas.Bool.{true≢false}
+use Rattle.std.specs.List.{All}
 use Rattle.std.proofs.lemmas.List.{length-map}
+use Rattle.std.proofs.lemmas.List.Elements.{All-append}
 use Rattle.std.proofs.Math.Seq.{take-length, take-append_seam}
 use Rattle.cics_lanes.specs.Orders.{Order, Lanes, after, orders as all_orders}
 use Rattle.cics_lanes.specs.Endings.{Parts, Reported, kept_number, report, run_to}
@@ -9,6 +11,7 @@ use Rattle.cics_lanes.specs.Reports.{IsReport, runs}
 use Rattle.cics_lanes.specs.Tables.{found, lanes_left, order_count, IsKept, IsTable, IsMerged, Joins}
 use Rattle.cics_lanes.specs.Searches.{AreKept, GoesOn}
 use Rattle.cics_lanes.specs.declared.exploring.Report.{Report}
+use Rattle.cics_lanes.specs.declared.merging.Kept.{Kept}
 use Rattle.cics_lanes.specs.declared.merging.Search.{Search}
 use Rattle.cics_lanes.proofs.Branching.{after-append}
 use Rattle.cics_lanes.proofs.Joining.{joins_none}
@@ -55,6 +58,18 @@ kept_one lanes ending serial is_key s t n left key o b table at keyed same is wh
       ∙ (ap (λ os. report (runs lanes ending serial t os)) (is.whole whole)
       ∙ (ap (found lanes ending serial n) at ∙ ap (λ m. found lanes ending serial m (after lanes s o)) (sym same))),
 )
+
+one_only : {X : Type 0} (P : X → Type 0) (x : X) → P x → All P (x ∷ [])
+one_only P x is zero d short = is
+one_only P x is (suc k) d short = absurd (omega (arith, short))
+
+-- one table more is kept
+pub kept_more : {S K : Type 0} (lanes : Lanes S) (ending : S → Parts) (serial : S → Bool) (is_key : S → K → Type 0) (s : S) (ts new : List (Kept K)) (t : Kept K)
+    (n : Option ℕ) → AreKept lanes ending serial is_key s ts → IsKept lanes ending serial is_key s t.left t.key t.table.items →
+    new ≡ ts ++ (record t { next = n }) ∷ [] → AreKept lanes ending serial is_key s new
+kept_more lanes ending serial is_key s ts new t n all is made =
+    let P = λ (u : Kept _). IsKept lanes ending serial is_key s u.left u.key u.table.items in
+    subst (AreKept lanes ending serial is_key s) (sym made) (All-append P ts ((record t { next = n }) ∷ []) all (one_only P (record t { next = n }) is))
 
 -- a search in which only the mark on lanes left out may change
 pub marked : {S K : Type 0} (lanes : Lanes S) (ending : S → Parts) (serial : S → Bool) (is_key : S → K → Type 0) (origin now : S) (old new : Search K) (b : Bool) →

@@ -1,9 +1,9 @@
 -- What is reported of the orders from a state on, as a table that its lanes' tables give.
-use Rattle.std.specs.Prelude.{◌≡◌, ◌<◌, ◌⊎◌, ℕ, zero, suc, ◌+◌, Bool, true, if◌then◌else◌, List, [], ◌∷◌, map, length}
+use Rattle.std.specs.Prelude.{◌≡◌, ◌<◌, ◌≤◌, ◌⊎◌, ℕ, zero, suc, ◌+◌, Bool, true, if◌then◌else◌, List, [], ◌∷◌, map, length}
 use Rattle.std.specs.List.{fold}
 use Rattle.cics_lanes.specs.Orders.{Order, Lanes, after, orders, orders as all_orders}
 use Rattle.cics_lanes.specs.Endings.{Parts, Reported, are_same, kept_number, report}
-use Rattle.cics_lanes.specs.Reports.{runs}
+use Rattle.cics_lanes.specs.Reports.{IsReport, runs}
 use Rattle.cics_lanes.specs.declared.exploring.Report.{Report}
 
 -- an ending with the orders of another table that lead to it
@@ -74,3 +74,8 @@ pub record IsMerged {S : Type 0} (lanes : Lanes S) (ending : S → Parts) (seria
   pub followed : r.orders ≡ kept_number (length kept)
   pub endings : r.endings ≡ report (runs lanes ending serial s kept)
   pub whole : r.is_whole ≡ true → kept ≡ all_orders lanes most s
+
+-- if a report is whole, and so many orders can be told, it is that of each order in turn
+abbrev pub IsAsExplored : {S : Type 0} → Lanes S → (S → Parts) → (S → Bool) → ℕ → S → Report → Type 0
+IsAsExplored lanes ending serial most s r =
+    r.is_whole ≡ true → length (all_orders lanes most s) ≤ 18446744073709551615 → IsReport lanes ending serial most 18446744073709551615 s r

@@ -1,12 +1,11 @@
 //! Every order, where states of which the same is reported are followed once.
 
-ghost use Rattle.std.specs.Prelude.{◌≡◌, ◌<◌, ◌≤◌, ◌-◌, ◌++◌, ℕ, suc, [], ◌∷◌, Option, true};
+ghost use Rattle.std.specs.Prelude.{◌≡◌, ◌<◌, ◌-◌, ◌++◌, ℕ, suc, [], ◌∷◌, Option, true};
 ghost use Rattle.std.specs.Prelude.{IfOk, OnOk, IfSome, length};
-ghost use Rattle.cics_lanes.specs.Orders.{Order, after, orders};
+ghost use Rattle.cics_lanes.specs.Orders.{Order, after};
 ghost use Rattle.cics_lanes.specs.Endings.{report, run_to};
-ghost use Rattle.cics_lanes.specs.Reports.{IsReport};
 ghost use Rattle.cics_lanes.specs.Tables.{found, lanes_left, order_count};
-ghost use Rattle.cics_lanes.specs.Tables.{IsKept, IsTable, Joins, IsMerged};
+ghost use Rattle.cics_lanes.specs.Tables.{IsKept, IsTable, Joins, IsMerged, IsAsExplored};
 ghost use Rattle.cics_lanes.specs.Searches.{AreKept, GoesOn};
 
 use crate::endings::{Ending, join, tell};
@@ -194,7 +193,6 @@ fn sole<W: Walk>(alloc: Global, walk: &W) -> Result<Vec<Ending>, NoMemory>
 }
 
 // Returns the table of the state, which the order leads to.
-#[tactic(none)]
 #[cycle(tables)]
 fn table_at<W: Merge>(search: &mut Search<W::Key>, walk: &mut W) -> Result<Vec<Ending>, NoMemory>
     requires at { walk.old ≡ after W.lanes (W.start walk.old) search.old.order.items }
@@ -221,7 +219,6 @@ fn table_at<W: Merge>(search: &mut Search<W::Key>, walk: &mut W) -> Result<Vec<E
 }
 
 // Joins to a table that of the state after a line of a lane. It is kept for states of the same key.
-#[tactic(none)]
 #[cycle(tables)]
 fn join_lane<W: Merge>(
     search: &mut Search<W::Key>,
@@ -268,7 +265,6 @@ fn join_lane<W: Merge>(
 
 // Joins to a table that of the state after the order and a line of another lane, if it may be
 // followed.
-#[tactic(none)]
 #[cycle(tables)]
 fn join_other<W: Merge>(
     search: &mut Search<W::Key>,
@@ -317,10 +313,8 @@ fn count(endings: &[Ending]) -> u64
 pub fn explore_merged<W: Merge>(alloc: Global, walk: &mut W, limit: u64) -> Result<Report, NoMemory>
     ensures merged { IfOk result (λ report. IsMerged W.lanes W.ending W.serial
         (W.most (W.start walk.old)) (W.start walk.old) report) }
-    ensures explored { IfOk result (λ report. report.is_whole ≡ true →
-        length (orders W.lanes (W.most (W.start walk.old)) (W.start walk.old)) ≤ 18446744073709551615 →
-        IsReport W.lanes W.ending W.serial (W.most (W.start walk.old)) 18446744073709551615
-        (W.start walk.old) report) }
+    ensures explored { IfOk result (λ report. IsAsExplored W.lanes W.ending W.serial
+        (W.most (W.start walk.old)) (W.start walk.old) report) }
 {
     walk.restart()?;
     let mut search = Search {
