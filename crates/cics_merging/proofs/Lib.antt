@@ -1,0 +1,6 @@
+pub mod Draining
+pub mod Lanes
+pub mod Lines
+pub mod Parts
+pub mod Starting
+pub mod Tables
