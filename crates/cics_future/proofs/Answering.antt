@@ -13,7 +13,7 @@ use Rattle.cics_names.specs.declared.conditions.Condition.TheVariants.{Normal, N
 use Rattle.cics_browse.specs.Positions.{Position, finds_start, start_at, read_next, after_next, read_prev, after_prev, reset_condition, after_reset}
 use Rattle.cics_browse.specs.declared.browses.Browsed.{Browsed}
 use Rattle.cics_tempstor.specs.Queues.{item_condition, has_item, number_if}
-use Rattle.cics_enqueue.specs.Resources.{most_count}
+use Rattle.cics_history.specs.Resources.{most_count}
 use Rattle.cics_history.specs.State.{UnitsState, Store}
 use Rattle.cics_history.specs.Store.{apply, ts_queue}
 use Rattle.cics_history.specs.Holding.{store_of, awaited, value_holder}

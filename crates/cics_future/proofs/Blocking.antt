@@ -12,10 +12,10 @@ use Rattle.cics_names.specs.KeyedLaws.{is_same-self, is_same-eq, same_bytes}
 use Rattle.cics_names.specs.declared.commands.Verb.{Verb}
 use Rattle.cics_names.specs.declared.commands.Verb.TheVariants.{Enq}
 use Rattle.cics_ksds.specs.Prefixes.{has_prefix}
-use Rattle.cics_enqueue.specs.Resources.{is_one}
-use Rattle.cics_enqueue.specs.ResourceLaws.{is_one-eq, same_test}
-use Rattle.cics_enqueue.specs.declared.resources.Resource.{Resource}
-use Rattle.cics_enqueue.specs.declared.resources.Resource.TheVariants.{FileKey, TsQueue, TdRead as ReadingEnd, TdWrite as WritingEnd, User, FilePrefix}
+use Rattle.cics_history.specs.Resources.{is_one}
+use Rattle.cics_history.specs.ResourceLaws.{is_one-eq, same_test}
+use Rattle.cics_history.specs.declared.resources.Resource.{Resource}
+use Rattle.cics_history.specs.declared.resources.Resource.TheVariants.{FileKey, TsQueue, TdRead as ReadingEnd, TdWrite as WritingEnd, User, FilePrefix}
 use Rattle.cics_history.specs.State.{queue_logical}
 use Rattle.cics_history.specs.Headline.{outcome_of, is_open, is_backed_out}
 use Rattle.cics_history.specs.Holding.{uses_of, held_by, conflicts, bytes_in, owned, smallest_conflict, blocker_at, first_some, blocker_among, committed_for, is_nothing, writer_awaited, awaited, own_value, value_holder}

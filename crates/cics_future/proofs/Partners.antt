@@ -4,7 +4,7 @@ use Rattle.std.specs.Prelude.{option_map, map, slice_get}
 use Rattle.std.specs.List.{list_any}
 use Rattle.std.proofs.lemmas.Bool.{true≢false, false≢true, cases_Bool, and_parts, and_from, eqb-true, eq-eqb, lt-ltb, false_from_ne_true}
 use Rattle.std.proofs.lemmas.Option.{slice_get-map}
-use Rattle.cics_enqueue.specs.declared.resources.Resource.{Resource}
+use Rattle.cics_history.specs.declared.resources.Resource.{Resource}
 use Rattle.cics_history.specs.State.{OpeningState, initial_store}
 use Rattle.cics_history.specs.Headline.{outcome_of, is_open, is_backed_out, replay}
 use Rattle.cics_history.specs.Isolation.{Outcomes, Extends, Each, stays, left_by}

@@ -3,7 +3,7 @@
 use Rattle.std.specs.Prelude.{◌≡◌, ℕ, ◌==◌, true, false, Option, Some, None, option_map, filter, map, flat_map, nat_lt, slice_get, List, [], ◌∷◌}
 use Rattle.std.specs.List.{list_any}
 use Rattle.cics_names.specs.Keyed.{is_below}
-use Rattle.cics_enqueue.specs.declared.resources.Resource.{Resource}
+use Rattle.cics_history.specs.declared.resources.Resource.{Resource}
 use Rattle.cics_history.specs.State.{UnitsState, UpdateRead, EnqCount, initial_store}
 use Rattle.cics_history.specs.Headline.{outcome_of, is_backed_out}
 use Rattle.cics_history.specs.Holding.{held_by_entry}

@@ -14,7 +14,7 @@ use Rattle.cics_dispatch.specs.declared.outcomes.Outcome.TheVariants.{Replied, W
 use Rattle.cics_deadlock.specs.Circles.{circles}
 use Rattle.cics_deadlock.specs.Deadlocks.{blocker_at, waits_below, waits_of, labels_of, deadlocks}
 use Rattle.cics_script.specs.Texts.{bare}
-use Rattle.cics_run.specs.Listings.{file_text, storage_text, transient_text}
+use Rattle.cics_listing.specs.Listings.{file_text, storage_text, transient_text}
 use Rattle.cics_report.specs.Parts.{mark}
 use Rattle.cics_plans.specs.Taking.{NumberedLine}
 use Rattle.cics_endings.specs.Telling.{blocks, end_text, blocker_text, number_text, stand_text, state_text, task_text, told_parts, lane_parts, is_deadlocked, parts_of}
