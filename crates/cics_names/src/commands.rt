@@ -1,6 +1,7 @@
 //! The commands that a task issues.
 
 ghost use Rattle.std.specs.Prelude.{◌≡◌, IfOk};
+ghost use Rattle.std.specs.Bool.{OnTrue};
 ghost use Rattle.std.specs.Option.{option_copied};
 ghost use Rattle.cics_names.specs.Commands.{file_named, length_of};
 
@@ -36,7 +37,7 @@ impl Drop for Command {
 /// - `from`: what is written; `length`, where it is given, says how many of its first bytes.
 /// - `length` of a command that reads: how many bytes the task takes, where it is given. A longer
 ///   content is LENGERR with its first bytes, and counts as read.
-#[derive(Drop)]
+#[derive(PartialEq, Drop)]
 pub enum Verb {
     /// READ (file control): the record of a key. With `gteq` the least key that isn't below the one
     /// given, with `generic` a key that begins with it, with both the least key whose first bytes
@@ -180,6 +181,13 @@ impl Command {
             verb: self.verb.copy()?,
             resp: self.resp,
         })
+    }
+
+    /// Returns true only if another command asks for the same.
+    pub fn is_same(&self, other: &Command) -> bool
+        ensures { OnTrue result (self.now ≡ other.now) }
+    {
+        self.resp == other.resp && self.verb.is_same(&other.verb)
     }
 }
 
@@ -339,6 +347,13 @@ impl Verb {
             Verb::Return => Ok(Verb::Return),
             Verb::Abend { code } => Ok(Verb::Abend { code: *code }),
         }
+    }
+
+    // Returns true only if another verb asks for the same, with the same options.
+    fn is_same(&self, other: &Verb) -> bool
+        ensures { OnTrue result (self.now ≡ other.now) }
+    {
+        self == other
     }
 
     /// The file that the command names, or None where it names none.
