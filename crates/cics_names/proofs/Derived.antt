@@ -1,7 +1,7 @@
 -- What a derived `==` of an enum tells: where it holds, the values are the same.
 use Rattle.std.proofs.Common.{◌≡◌, Option, Some, None, refl, ap, sym, ◌&&◌, Bool, true, false, List, [], ◌∷◌, rules}
 use Rattle.std.specs.Bool.{OnTrue}
-use Rattle.std.specs.Cmp.Lexicographic.{bytes_decides}
+use Rattle.std.specs.Cmp.Lexicographic.{pointwise, bytes_decides}
 use Rattle.cics_names.specs.Keyed.{Bytes}
 use mathlib.Core.Bool.{true≢false}
 use mathlib.Core.Logic.{inl, inr}
@@ -93,3 +93,16 @@ bytes_or_none = record { same = either } where
   either None (Some y) h = absurd (true≢false (sym h))
   either (Some x) None h = absurd (true≢false (sym h))
   either (Some x) (Some y) h = ap Some (bytes.same x y h)
+
+-- the test of lists, value by value
+pub list : {X : Type 0} {E : X → X → Bool} → Tells E → Tells (pointwise E)
+list {X} {E} e = record { same = each } where
+  each : (xs ys : List X) → pointwise E xs ys ≡ true → xs ≡ ys
+  each [] [] h = refl
+  each [] (y ∷ ys) h = absurd (true≢false (sym h))
+  each (x ∷ xs) [] h = absurd (true≢false (sym h))
+  each (x ∷ xs) (y ∷ ys) h = λ i. e.same x y (and_left _ _ h) i ∷ each xs ys (and_right _ _ h) i
+
+-- of two values
+pub pair : {X Y : Type 0} {E : X → X → Bool} {F : Y → Y → Bool} → Tells E → Tells F → Tells {X = X × Y} (λ x y. E x.0 y.0 && F x.1 y.1)
+pair e f = both e f
