@@ -15,16 +15,16 @@ ghost use Rattle.cics_history.specs.Resources.{bytes_of, is_user};
 ghost use Rattle.cics_enqueue.specs.Table.{holder_of, holder_over, held_with_prefix};
 ghost use Rattle.cics_enqueue.specs.Table.{count_of, IsFreeFor, IsFreeBut, HoldsLeast, is_full};
 ghost use Rattle.cics_enqueue.specs.Table.{taken, given_back, released, other_than};
-ghost use Rattle.cics_enqueue.specs.Table.{held_at, is_in_order, resource_key};
+ghost use Rattle.cics_enqueue.specs.Table.{held_at, is_in_order, resource_key, values_in};
 ghost use Rattle.cics_enqueue.specs.Order.{resource_of};
 
 use crate::borrowed::{Kind, ResourceRef};
-use crate::compact::{compact, held, set_resource, set_value};
+use crate::compact::{compact, held, set_resource, set_value, value_of};
 use crate::conflicts::{has_prefixes, key_holder, least_holder, other_unit, shorter_holder};
 use crate::keys::Key;
 use crate::owned::{self, Owned};
 use cics_history::{Resource, UnitId};
-use cics_names::{Name8, NoMemory};
+use cics_names::{Items, Name8, NoMemory, Record};
 use indexmap::IndexMap;
 use std::alloc::{AllocError, Global};
 use std::cell::Cell;
@@ -242,6 +242,26 @@ impl Enqueues {
         };
         self.bound.set(key);
         count
+    }
+
+    /// Returns the values of programs' own that are held, in their order, each with its unit and how
+    /// many times.
+    ///
+    /// Errors: `NoMemory`.
+    ///
+    /// Cost: O(what is held).
+    #[tactic(auto, using(crate::proofs::Values::values_at_end))]
+    pub fn values(&self) -> Result<Items<(Record, UnitId, u16)>, NoMemory>
+        ensures { IfOk result (λ values. values ≡ values_in self.now) }
+    {
+        let mut values = Items::new(self.alloc);
+        for (key, holding) in &self.table {
+            if let Some(value) = value_of(key.as_slice()) {
+                let value = Record::from_slice(self.alloc, value)?;
+                values.push((value, holding.unit, holding.count))?;
+            }
+        }
+        Ok(values)
     }
 
     /// The unit, another than `but_not`, that holds the least of what conflicts with a resource, or

@@ -1,6 +1,7 @@
 //! The files and queues of a plain replay.
 
 ghost use Rattle.std.specs.Prelude.{◌≡◌, [], ◌∷◌, IfOk, OnOk};
+ghost use Rattle.std.specs.Bool.{OnTrue};
 ghost use Rattle.cics_names.specs.Keyed.{value_at, with_value};
 ghost use Rattle.cics_tempstor.specs.Queues.{has_item};
 ghost use Rattle.cics_units.specs.Listings.{listing_of};
@@ -26,7 +27,7 @@ const MOST_ITEMS: usize = 32_767;
 /// The files that are defined, the temporary storage queues that are there, and the transient data
 /// queues that are defined.
 #[derive(Drop)]
-pub(crate) struct PlainStore {
+pub struct PlainStore {
     files: BTreeMap<Name8, PlainRecords>,
     temp_storage: BTreeMap<Name8, Items<Record>>,
     trans_data: BTreeMap<Name4, PlainQueue>,
@@ -280,6 +281,15 @@ impl PlainStore {
                 Ok(())
             }
         }
+    }
+
+    /// Returns true only if another store holds the same.
+    pub fn is_same(&self, other: &PlainStore) -> bool
+        ensures { OnTrue result (self.now ≡ other.now) }
+    {
+        self.files == other.files
+            && self.temp_storage == other.temp_storage
+            && self.trans_data == other.trans_data
     }
 
     /// What stands in the files and queues. `opening` says what of it is recoverable.

@@ -1,0 +1,2 @@
+mod Projected
+pub mod Same
