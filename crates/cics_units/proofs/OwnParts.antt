@@ -55,6 +55,12 @@ own_reads u n (suc d) (row ∷ rows) e =
     drop_other u n row (reads_from (suc n) rows) (ne_eqb n u (λ same. omega (arith, e, same)))
     ∙ own_reads u (suc n) d rows (omega (arith, e))
 
+-- so what stands in it, where a row is had by the number of its unit
+module _ (n u : ℕ) (rows : List (Map Bytes)) (now : List UpdateRead) (number : n ≡ u) (view : reads_from 0 rows ≡ now) where
+  pub own_now : (o : Option (Map Bytes)) → slice_get rows n ≡ o → filter (is_own u) now ≡ reads_of u (unwrap_or o [])
+  own_now o there =
+      ap (filter (is_own u)) (sym view) ∙ own_reads u 0 n rows (omega (arith, number)) ∙ ap (λ o. reads_of u (unwrap_or o [])) there
+
 -- ---- values
 
 -- the values that are held are those that are counted

@@ -57,13 +57,12 @@ impl OpenReads {
     }
 
     /// Returns the update reads of a unit, if it has a row.
-    #[tactic(auto, using(crate::proofs::OwnParts::own_reads))]
     pub(crate) fn of_unit(&self, unit: UnitId) -> Option<&[(Name8, Record)]>
         ensures { filter (λ r. r.unit == unit) self.now
             ≡ reads_of unit (unwrap_or (option_copied result) []) }
     {
-        let row = self.rows.get(unit.number() as usize)?;
-        Some(row.as_slice())
+        let at = unit.number() as usize;
+        Some(self.rows.get(at)?.as_slice())
     }
 
     /// Opens a unit's update read of the record of a key in a file.

@@ -443,7 +443,7 @@ impl Units {
     ///
     /// Errors: `NoMemory`.
     pub fn next_places(&self) -> Result<Items<(Name8, u16)>, NoMemory>
-        ensures places { IfOk result (λ places. places ≡ self.now.state.next) }
+        ensures { IfOk result (λ places. places ≡ self.now.state.next) }
     {
         next_places(self.alloc, &self.core.store.temp_storage)
     }
@@ -451,7 +451,7 @@ impl Units {
     /// Returns the update reads of a unit: the files, in the order of their names, each with the key
     /// of the record that is read. `None` if it never had one.
     pub fn reads_of(&self, unit: UnitId) -> Option<&[(Name8, Record)]>
-        ensures reads { filter (λ r. r.unit == unit) self.now.state.reads
+        ensures { filter (λ r. r.unit == unit) self.now.state.reads
             ≡ reads_of unit (unwrap_or (option_copied result) []) }
     {
         self.core.reads.of_unit(unit)
@@ -461,9 +461,8 @@ impl Units {
     /// many times.
     ///
     /// Errors: `NoMemory`.
-    #[tactic(auto, using(crate::proofs::OwnParts::values_counted))]
     pub fn values(&self) -> Result<Items<(Record, UnitId, u16)>, NoMemory>
-        ensures values { IfOk result (λ values. values
+        ensures { IfOk result (λ values. values
             ≡ map (λ c. (c.value, c.unit, c.count)) self.now.state.counts) }
     {
         self.core.locks.values()

@@ -58,6 +58,33 @@ fn has_item(items: &Items<Record>, number: u64) -> bool
     0 < number && number <= items.len() as u64
 }
 
+// Returns true only if files have the same records.
+fn same_files(
+    files: &BTreeMap<Name8, PlainRecords>,
+    others: &BTreeMap<Name8, PlainRecords>,
+) -> bool
+    ensures { OnTrue result (files.now.entries ≡ others.now.entries) }
+{
+    files == others
+}
+
+// Returns true only if temporary storage queues have the same items.
+fn same_ts(
+    queues: &BTreeMap<Name8, Items<Record>>,
+    others: &BTreeMap<Name8, Items<Record>>,
+) -> bool
+    ensures { OnTrue result (queues.now.entries ≡ others.now.entries) }
+{
+    queues == others
+}
+
+// Returns true only if transient data queues have the same records.
+fn same_td(queues: &BTreeMap<Name4, PlainQueue>, others: &BTreeMap<Name4, PlainQueue>) -> bool
+    ensures { OnTrue result (queues.now.entries ≡ others.now.entries) }
+{
+    queues == others
+}
+
 impl PlainStore {
     /// No file and no queue.
     fn new(alloc: Global) -> PlainStore
@@ -287,9 +314,9 @@ impl PlainStore {
     pub fn is_same(&self, other: &PlainStore) -> bool
         ensures { OnTrue result (self.now ≡ other.now) }
     {
-        self.files == other.files
-            && self.temp_storage == other.temp_storage
-            && self.trans_data == other.trans_data
+        same_files(&self.files, &other.files)
+            && same_ts(&self.temp_storage, &other.temp_storage)
+            && same_td(&self.trans_data, &other.trans_data)
     }
 
     /// What stands in the files and queues. `opening` says what of it is recoverable.
