@@ -1,2 +1,2 @@
-mod Projected
+pub mod Projected
 pub mod Same

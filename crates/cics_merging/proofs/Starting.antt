@@ -25,6 +25,9 @@ use Rattle.cics_future.specs.Compared.{LookAlike}
 use Rattle.cics_future.proofs.Comparing.{looks_same}
 use Rattle.cics_future.proofs.Events.{same_begins, down_same, attached_same}
 use Rattle.cics_orders.specs.Giving.{attaching, lanes, defined_more, opened, unless_refused, with_task, initial_state}
+use Rattle.cics_look.specs.Looks.{look_of}
+use Rattle.cics_look.proofs.Projected.{alike}
+use Rattle.cics_merging.proofs.Openings.{opening_after}
 use Rattle.cics_merging.specs.Merging.{Compared, as_told, AreMergeable}
 use Rattle.cics_merging.proofs.Lines.{after_same}
 
@@ -138,3 +141,17 @@ looks_merge b p o q look told last serial = record {
   last = last;
   serial = serial;
 }
+
+-- so states of one plan whose regions have one look may be taken for one
+pub one_look_merges : (b : Compared) (p : Plan) (o q : Order) → look_of (after lanes (initial_state p) o).machine ≡ look_of (after lanes (initial_state p) q).machine →
+    map (as_told b) (after lanes (initial_state p) o).lanes ≡ map (as_told b) (after lanes (initial_state p) q).lanes →
+    (b.turns ≡ true → (after lanes (initial_state p) o).last ≡ (after lanes (initial_state p) q).last) →
+    (b.turns ≡ true → (after lanes (initial_state p) o).is_serial ≡ (after lanes (initial_state p) q).is_serial) →
+    AreMergeable b (after lanes (initial_state p) o) (after lanes (initial_state p) q)
+one_look_merges b p o q look told last serial =
+    looks_merge b p o q
+    (alike (after lanes (initial_state p) o).machine (after lanes (initial_state p) q).machine
+    (after_same b (initial_state p) (initial_state p) o (start_same b p)).machine.first.sound.known
+    (after_same b (initial_state p) (initial_state p) q (start_same b p)).machine.first.sound.known
+    (opening_after p o ∙ sym (opening_after p q)) look)
+    told last serial

@@ -7,6 +7,7 @@ ghost use Rattle.cics_lanes.specs.Orders.{Order, after, orders};
 ghost use Rattle.cics_orders.specs.Giving.{State, givers, given, lanes, initial_state};
 ghost use Rattle.cics_plans.specs.declared.plans.Plan.{Plan};
 ghost use Rattle.cics_future.specs.Compared.{LookAlike};
+ghost use Rattle.cics_look.specs.Looks.{look_of};
 ghost use Rattle.cics_endings.specs.Telling.{parts_of};
 ghost use Rattle.cics_merging.specs.Tables.{found, by_lanes};
 ghost use Rattle.cics_merging.specs.Merging.{Compared, as_told, AreMergeable};
@@ -39,6 +40,17 @@ pub fn states_that_look_alike_merge()
         let s = after lanes (initial_state p) o in
         let t = after lanes (initial_state p) q in
         LookAlike s.machine t.machine → map (as_told b) s.lanes ≡ map (as_told b) t.lanes →
+        (b.turns ≡ true → s.last ≡ t.last) → (b.turns ≡ true → s.is_serial ≡ t.is_serial) →
+        AreMergeable b s t }
+{}
+
+/// Two states of one script may be taken for one if their regions have one look (`cics_look`), and
+/// their lanes are told the same. This is what the program compares.
+pub fn states_with_one_look_merge()
+    ensures { (b : Compared) (p : Plan) (o q : Order) →
+        let s = after lanes (initial_state p) o in
+        let t = after lanes (initial_state p) q in
+        look_of s.machine ≡ look_of t.machine → map (as_told b) s.lanes ≡ map (as_told b) t.lanes →
         (b.turns ≡ true → s.last ≡ t.last) → (b.turns ≡ true → s.is_serial ≡ t.is_serial) →
         AreMergeable b s t }
 {}
