@@ -1,7 +1,7 @@
 //! What is compared of two regions, to tell whether they have the same future.
 //!
-//! `look` copies it, and `Look::is_same` compares it. The law says that regions with one opening and
-//! one look look alike, so that they have the same future (`cics_future`).
+//! `look` copies it, and `Look::is_same` compares it. The law says that regions with one opening
+//! and one look look alike, so that they have the same future (`cics_future`).
 #![tactic(auto)]
 
 mod laws;

@@ -2,14 +2,14 @@
 
 ghost use Rattle.std.specs.Prelude.{◌≡◌, IfOk, map};
 ghost use Rattle.cics_history.specs.Serial.{is_done_by};
-ghost use Rattle.cics_look.specs.Looks.{browse_look, closed, counts_of, look_of, ops_of, reads_of};
-ghost use Rattle.cics_look.specs.Looks.{task_look, wait_look};
+ghost use Rattle.cics_look.specs.Looks.{browse_look, closed, counts_of, look_of, of_unit, ops_of};
+ghost use Rattle.cics_look.specs.Looks.{reads_of, task_look, wait_look};
 
 use crate::looks::{Look, TaskLook, WaitLook};
 use cics_browse::Place;
 use cics_dispatch::{Browses, Region, Suspended, Task, Waits};
 use cics_history::{Entry, Op, UnitId, UnitState};
-use cics_names::{Command, Condition, Items, Name8, NoMemory, Record};
+use cics_names::{Condition, Items, Name8, NoMemory, Record};
 use cics_units::{Opening, Units, replayed};
 use std::alloc::Global;
 
@@ -36,13 +36,18 @@ fn is_done_by(opening: &Opening, unit: UnitId, entry: &Entry) -> bool
         && opening.is_recoverable(&entry.op)
 }
 
-// Returns what a unit did to recoverable files and queues.
-fn ops_of(alloc: Global, units: &Units, unit: UnitId) -> Result<Items<Op>, NoMemory>
-    ensures { IfOk result (λ ops. ops ≡ ops_of units.now.state unit) }
+// Returns what a task's unit did to recoverable files and queues, if the task has one.
+fn ops_of(alloc: Global, units: &Units, unit: Option<UnitId>) -> Result<Items<Op>, NoMemory>
+    ensures { IfOk result (λ ops. ops ≡ of_unit (ops_of units.now.state) unit) }
 {
     let mut ops = Items::new(alloc);
-    for entry in units.trace() {
-        if is_done_by(units.opening(), unit, entry) {
+    let Some(unit) = unit else {
+        return Ok(ops);
+    };
+    let opening = units.opening();
+    let trace = units.trace();
+    for entry in trace {
+        if is_done_by(opening, unit, entry) {
             ops.push(entry.op.copy()?)?;
         }
     }
@@ -60,21 +65,37 @@ fn copied(alloc: Global, reads: &[(Name8, Record)]) -> Result<Items<(Name8, Reco
     Ok(copies)
 }
 
-// Returns the update reads of a unit.
-fn reads_of(alloc: Global, units: &Units, unit: UnitId) -> Result<Items<(Name8, Record)>, NoMemory>
-    ensures { IfOk result (λ reads. reads ≡ reads_of units.now.state unit) }
+// Returns the update reads of a task's unit, if the task has one.
+#[tactic(auto, using(crate::proofs::Owned::reads_found))]
+fn reads_of(
+    alloc: Global,
+    units: &Units,
+    unit: Option<UnitId>,
+) -> Result<Items<(Name8, Record)>, NoMemory>
+    ensures { IfOk result (λ reads. reads ≡ of_unit (reads_of units.now.state) unit) }
 {
+    let Some(unit) = unit else {
+        return Ok(Items::new(alloc));
+    };
     match units.reads_of(unit) {
         Some(reads) => copied(alloc, reads),
         None => Ok(Items::new(alloc)),
     }
 }
 
-// Returns the values that a unit has enqueued on.
-fn counts_of(alloc: Global, units: &Units, unit: UnitId) -> Result<Items<(Record, u16)>, NoMemory>
-    ensures { IfOk result (λ counts. counts ≡ counts_of units.now.state unit) }
+// Returns the values that a task's unit has enqueued on, if the task has one.
+#[tactic(auto, using(crate::proofs::Owned::counts_found))]
+fn counts_of(
+    alloc: Global,
+    units: &Units,
+    unit: Option<UnitId>,
+) -> Result<Items<(Record, u16)>, NoMemory>
+    ensures { IfOk result (λ counts. counts ≡ of_unit (counts_of units.now.state) unit) }
 {
     let mut counts = Items::new(alloc);
+    let Some(unit) = unit else {
+        return Ok(counts);
+    };
     let values = units.values()?;
     for (value, owner, count) in values.as_slice() {
         if *owner == unit {
@@ -103,24 +124,16 @@ fn browses_of(
 fn task_look(alloc: Global, units: &Units, task: &Task) -> Result<TaskLook, NoMemory>
     ensures { IfOk result (λ look. look ≡ task_look units.now.state task.now) }
 {
-    let mut look = TaskLook {
+    Ok(TaskLook {
         label: task.label(),
         dtimout: task.dtimout(),
         has_unit: task.unit().is_some(),
         has_ended: task.has_ended(),
         browses: browses_of(alloc, task.browses())?,
-        ops: Items::new(alloc),
-        reads: Items::new(alloc),
-        counts: Items::new(alloc),
-    };
-    if let Some(unit) = task.unit() {
-        let asked = unit;
-        let counted = unit;
-        look.ops = ops_of(alloc, units, unit)?;
-        look.reads = reads_of(alloc, units, asked)?;
-        look.counts = counts_of(alloc, units, counted)?;
-    }
-    Ok(look)
+        ops: ops_of(alloc, units, task.unit())?,
+        reads: reads_of(alloc, units, task.unit())?,
+        counts: counts_of(alloc, units, task.unit())?,
+    })
 }
 
 // Returns the looks of a region's tasks.
