@@ -118,6 +118,18 @@ impl Same for WaitLook {
 }
 
 impl Look {
+    /// Returns a number by which looks are sought: it is the same for looks that are the same.
+    pub fn hash(&self) -> u64 {
+        let mut hash = self.committed.hash(self.now.hash(self.clock));
+        for task in self.tasks.as_slice() {
+            let units = u64::from(task.has_unit) + 2 * u64::from(task.has_ended);
+            let rows = task.ops.len() ^ task.reads.len().rotate_left(8);
+            let more = task.counts.len().rotate_left(16) ^ task.browses.len().rotate_left(24);
+            hash = hash.rotate_left(5) ^ units ^ (rows ^ more).rotate_left(2) as u64;
+        }
+        hash ^ self.waiting.len() as u64
+    }
+
     /// Returns true only if another look is the same.
     pub fn is_same(&self, other: &Look) -> bool
         ensures { OnTrue result (self.now ≡ other.now) }

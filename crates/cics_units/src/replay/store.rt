@@ -58,6 +58,15 @@ fn has_item(items: &Items<Record>, number: u64) -> bool
     0 < number && number <= items.len() as u64
 }
 
+/// Mixes bytes into a number, by the way of Fowler, Noll and Vo.
+pub(crate) fn mixed(hash: u64, bytes: &[u8]) -> u64 {
+    let mut hash = hash;
+    for byte in bytes {
+        hash = (hash ^ u64::from(*byte)).wrapping_mul(0x0100_0000_01b3);
+    }
+    hash
+}
+
 // Returns true only if files have the same records.
 fn same_files(
     files: &BTreeMap<Name8, PlainRecords>,
@@ -317,6 +326,24 @@ impl PlainStore {
         same_files(&self.files, &other.files)
             && same_ts(&self.temp_storage, &other.temp_storage)
             && same_td(&self.trans_data, &other.trans_data)
+    }
+
+    /// Returns a number by which stores are sought: it is the same for stores that are the same.
+    pub fn hash(&self, seed: u64) -> u64 {
+        let mut hash = seed;
+        for (name, records) in &self.files {
+            hash = records.hash(mixed(hash, &name.bytes()));
+        }
+        for (name, items) in &self.temp_storage {
+            hash = mixed(hash, &name.bytes());
+            for item in items.as_slice() {
+                hash = mixed(hash, item.bytes());
+            }
+        }
+        for (name, queue) in &self.trans_data {
+            hash = queue.hash(mixed(hash, &name.bytes()));
+        }
+        hash
     }
 
     /// What stands in the files and queues. `opening` says what of it is recoverable.
