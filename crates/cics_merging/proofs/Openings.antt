@@ -1,6 +1,7 @@
--- No step of a region changes what it opened with. So all states of the lanes of a plan have one opening.
-use Rattle.std.proofs.Common.{◌≡◌, ℕ, zero, suc, Bool, true, false, List, [], ◌∷◌, length, Option, None, Some, Result, Ok, Err, refl, ap, ◌∙◌}
-use Rattle.std.specs.Prelude.{slice_get, if◌then◌else◌, fold, map, take}
+-- No step of a region changes what it opened with, and none changes the label or the lines of a lane. So all states of the
+-- lanes of a plan have one opening, and one list of labels and lines.
+use Rattle.std.proofs.Common.{◌≡◌, ℕ, zero, suc, Bool, true, false, List, [], ◌∷◌, length, Option, None, Some, Result, Ok, Err, refl, ap, sym, ◌∙◌}
+use Rattle.std.specs.Prelude.{slice_get, slice_set, if◌then◌else◌, fold, map, take}
 use Rattle.cics_names.specs.Keyed.{Bytes, value_at, with_value, without}
 use Rattle.cics_names.specs.Conditions.{default_abend_of}
 use Rattle.cics_names.specs.declared.conditions.Condition.{Condition}
@@ -30,6 +31,7 @@ use Rattle.cics_dispatch.specs.Waking.{clock_refusal, clock_set, first_free, wen
 use Rattle.cics_dispatch.specs.Shutdown.{unless_down, all_ended, shut_down}
 use Rattle.cics_dispatch.specs.declared.outcomes.Reply.{Reply}
 use Rattle.cics_dispatch.specs.declared.outcomes.Outcome.{Outcome}
+use Rattle.cics_dispatch.specs.declared.outcomes.Outcome.TheVariants.{Replied, Waiting, Abended, Ended}
 use Rattle.cics_dispatch.specs.declared.outcomes.Refused.{Refused}
 use Rattle.cics_dispatch.specs.declared.outcomes.Refused.TheVariants.{RegionDown}
 use Rattle.cics_dispatch.specs.declared.outcomes.Woken.{Woken}
@@ -42,7 +44,7 @@ use Rattle.cics_lanes.specs.Orders.{Order, after}
 use Rattle.cics_plans.specs.Taking.{NumberedLine}
 use Rattle.cics_plans.specs.declared.plans.Plan.{Plan}
 use Rattle.cics_plans.specs.declared.plans.TaskPlan.{TaskPlan}
-use Rattle.cics_orders.specs.Giving.{State, hearing, shut, issuing, timing, shutting, attaching, left_by, after_line, late, resumed, drain_step, told_by, drained_once, after_step, drained_within, drained, ends_turn, counted, given_line, given_by, given, lanes, unless_refused, with_task as with_plan, opened, initial_state}
+use Rattle.cics_orders.specs.Giving.{State, is_of, told_more, with_told, hearing, shut, with_given, initial_lanes, issuing, timing, shutting, attaching, left_by, after_line, late, resumed, drain_step, told_by, drained_once, after_step, drained_within, drained, ends_turn, counted, given_line, given_by, given, lanes, unless_refused, with_task as with_plan, opened, initial_state}
 use Rattle.cics_orders.specs.declared.lanes.Lane.{Lane}
 
 module _ (o : OpeningState) where
@@ -193,7 +195,7 @@ module _ (o : OpeningState) where
   expired_at m None at = at
   expired_at m (Some t) at = abended_at m t at
 
-  -- ---- lines
+  -- ---- what a caller makes
 
   issuing_at : (m : Machine) (label : Bytes) (c : Command) → At m → At (issuing m label c).machine
   unfolding issuing
@@ -206,16 +208,6 @@ module _ (o : OpeningState) where
   shutting_at : (m : Machine) → At m → At (shutting m).machine
   unfolding shutting
   shutting_at m at = down_at m m.is_down (shut_down m) at (all_at (with_waiting m []) m.tasks at)
-
-  left_at : {X : Type 0} (s : State) (xs : X → List Lane) (r : Result X Refused) (m : Machine) → At s.machine → At m → At (left_by s xs r m).machine
-  left_at s xs (Ok x) m at there = there
-  left_at s xs (Err e) m at there = at
-
-  line_at : (s : State) (r : Result Line LineFault) → At s.machine → At (after_line s r).machine
-  line_at s (Ok (says.Issue label c)) at = left_at s (hearing s.lanes label) (issuing s.machine label c).outcome (issuing s.machine label c).machine at (issuing_at s.machine label c at)
-  line_at s (Ok (says.Clock seconds)) at = left_at s (λ _. s.lanes) (timing s.machine seconds).outcome (timing s.machine seconds).machine at (timing_at s.machine seconds at)
-  line_at s (Ok says.Shutdown) at = left_at s (λ _. map shut s.lanes) (shutting s.machine).outcome (shutting s.machine).machine at (shutting_at s.machine at)
-  line_at s _ at = at
 
   -- ---- draining
 
@@ -233,48 +225,7 @@ module _ (o : OpeningState) where
       resumed_at (woken m).outcome (woken m).machine (late m (expired m).outcome (expired m).machine) (woken_at m (first_free m m.waiting) at)
       (late_at m (expired m).outcome (expired m).machine at (expired_at m (first_late m m.waiting) at))
 
-  abbrev AtOrNone : Option State → Type 0
-  AtOrNone None = Unit {0}
-  AtOrNone (Some s) = At s.machine
-
-  told_at : (s : State) (told : Option (Bytes × Outcome)) (m : Machine) → At m → AtOrNone (told_by s told m)
-  told_at s None m at = tt
-  told_at s (Some told) m at = at
-
-  once_at : (s : State) → At s.machine → AtOrNone (drained_once s)
-  unfolding drained_once
-  once_at s at = told_at s (drain_step s.machine).outcome (drain_step s.machine).machine (drain_at s.machine at)
-
-  within_at : (k : ℕ) (s : State) → At s.machine → At (drained_within k s).machine
-  unfolding drained_within
-  within_at zero s at = at
-  within_at (suc k) s at = by (within_at k) (drained_once s) (once_at s at)
-    where
-      by : ((s : State) → At s.machine → At (drained_within k s).machine) → (next : Option State) → AtOrNone next → At (after_step s next (drained_within k)).machine
-      by rest None there = at
-      by rest (Some next) there = rest next there
-
-  drained_at : (s : State) → At s.machine → At (drained s).machine
-  unfolding drained
-  drained_at s at = within_at (length s.machine.waiting) s at
-
-  -- ---- orders
-
-  given_at : (s : State) (l : ℕ) → At s.machine → At (given s l).machine
-  unfolding given
-  given_at s l at = by (slice_get s.lanes l)
-    where
-      of_line : (x : Lane) (next : Option NumberedLine) → At (given_line s l x next).machine
-      of_line x None = at
-      of_line x (Some next) = drained_at (after_line (counted s l x (ends_turn (line next.1))) (line next.1)) (line_at (counted s l x (ends_turn (line next.1))) (line next.1) at)
-
-      by : (x : Option Lane) → At (given_by s l x).machine
-      by None = at
-      by (Some x) = of_line x (slice_get x.lines x.given)
-
-  after_at : (s : State) (q : Order) → At s.machine → At (after lanes s q).machine
-  after_at s [] at = at
-  after_at s (l ∷ q) at = after_at (given s l) q (given_at s l at)
+  -- ---- the start
 
   unless_at : {X : Type 0} (m : Machine) (r : Result X Refused) (next : Machine) → At m → At next → At (unless_refused m r next)
   unless_at m (Ok x) next at there = there
@@ -291,7 +242,106 @@ module _ (o : OpeningState) where
   tasks_at m [] at = at
   tasks_at m (t ∷ ts) at = tasks_at (with_plan m t) ts (planned_at m t at)
 
--- all states of the lanes of a plan have the plan's opening
-pub opening_after : (p : Plan) (q : Order) → (after lanes (initial_state p) q).machine.units.opening ≡ opened p.definitions
+-- ---- labels and lines
+
+abbrev pub fixed : Lane → Option Bytes × List NumberedLine
+fixed x = (x.label, x.lines)
+
+told_fixed : (xs : List Lane) (label : Bytes) (outcome : Outcome) → map fixed (with_told xs label outcome) ≡ map fixed xs
+told_fixed [] label outcome = refl
+told_fixed (x ∷ xs) label outcome = by (is_of x label)
+  where
+    by : (b : Bool) → map fixed (if b then told_more x outcome ∷ xs else x ∷ with_told xs label outcome) ≡ map fixed (x ∷ xs)
+    by true = refl
+    by false = ap (λ l. fixed x ∷ l) (told_fixed xs label outcome)
+
+hearing_fixed : (xs : List Lane) (label : Bytes) (outcome : Outcome) → map fixed (hearing xs label outcome) ≡ map fixed xs
+hearing_fixed xs label (Waiting holder) = refl
+hearing_fixed xs label (Replied reply) = told_fixed xs label (Replied reply)
+hearing_fixed xs label (Abended code reply) = told_fixed xs label (Abended code reply)
+hearing_fixed xs label Ended = told_fixed xs label Ended
+
+shut_fixed : (xs : List Lane) → map fixed (map shut xs) ≡ map fixed xs
+shut_fixed [] = refl
+shut_fixed (x ∷ xs) = ap (λ l. fixed x ∷ l) (shut_fixed xs)
+
+set_fixed : (xs : List Lane) (l : ℕ) (x y : Lane) → slice_get xs l ≡ Some x → fixed y ≡ fixed x → map fixed (slice_set xs l y) ≡ map fixed xs
+set_fixed [] l x y there same = refl
+set_fixed (z ∷ zs) zero x y there same =
+    let one : z ≡ x = cc in
+    ap (λ k. k ∷ map fixed zs) (same ∙ ap fixed (sym one))
+set_fixed (z ∷ zs) (suc l) x y there same = ap (λ k. fixed z ∷ k) (set_fixed zs l x y there same)
+
+-- ---- states
+
+module _ (o : OpeningState) (f : List (Option Bytes × List NumberedLine)) where
+  -- a state has this opening, and these labels and lines
+  pub record IsOf (s : State) : Type 0 where
+    pub opening : At o s.machine
+    pub lanes : map fixed s.lanes ≡ f
+
+  left_of : {X : Type 0} (s : State) (xs : X → List Lane) (r : Result X Refused) (m : Machine) → IsOf s → At o m →
+      ((x : X) → map fixed (xs x) ≡ map fixed s.lanes) → IsOf (left_by s xs r m)
+  left_of s xs (Ok x) m is at keeps = record { opening = at; lanes = keeps x ∙ is.lanes }
+  left_of s xs (Err e) m is at keeps = is
+
+  line_of : (s : State) (r : Result Line LineFault) → IsOf s → IsOf (after_line s r)
+  line_of s (Ok (says.Issue label c)) is =
+      left_of s (hearing s.lanes label) (issuing s.machine label c).outcome (issuing s.machine label c).machine is (issuing_at o s.machine label c is.opening)
+      (λ outcome. hearing_fixed s.lanes label outcome)
+  line_of s (Ok (says.Clock seconds)) is =
+      left_of s (λ _. s.lanes) (timing s.machine seconds).outcome (timing s.machine seconds).machine is (timing_at o s.machine seconds is.opening) (λ _. refl)
+  line_of s (Ok says.Shutdown) is =
+      left_of s (λ _. map shut s.lanes) (shutting s.machine).outcome (shutting s.machine).machine is (shutting_at o s.machine is.opening) (λ _. shut_fixed s.lanes)
+  line_of s _ is = is
+
+  abbrev IsOfOrNone : Option State → Type 0
+  IsOfOrNone None = Unit {0}
+  IsOfOrNone (Some s) = IsOf s
+
+  told_of : (s : State) (told : Option (Bytes × Outcome)) (m : Machine) → IsOf s → At o m → IsOfOrNone (told_by s told m)
+  told_of s None m is at = tt
+  told_of s (Some told) m is at = record { opening = at; lanes = hearing_fixed s.lanes told.0 told.1 ∙ is.lanes }
+
+  once_of : (s : State) → IsOf s → IsOfOrNone (drained_once s)
+  unfolding drained_once
+  once_of s is = told_of s (drain_step s.machine).outcome (drain_step s.machine).machine is (drain_at o s.machine is.opening)
+
+  within_of : (k : ℕ) (s : State) → IsOf s → IsOf (drained_within k s)
+  unfolding drained_within
+  within_of zero s is = is
+  within_of (suc k) s is = by (within_of k) (drained_once s) (once_of s is)
+    where
+      by : ((s : State) → IsOf s → IsOf (drained_within k s)) → (next : Option State) → IsOfOrNone next → IsOf (after_step s next (drained_within k))
+      by rest None there = is
+      by rest (Some next) there = rest next there
+
+  drained_of : (s : State) → IsOf s → IsOf (drained s)
+  unfolding drained
+  drained_of s is = within_of (length s.machine.waiting) s is
+
+  given_of : (s : State) (l : ℕ) → IsOf s → IsOf (given s l)
+  unfolding given
+  given_of s l is = by (slice_get s.lanes l) refl
+    where
+      of_line : (x : Lane) → slice_get s.lanes l ≡ Some x → (next : Option NumberedLine) → IsOf (given_line s l x next)
+      of_line x there None = is
+      of_line x there (Some next) =
+          let ends = ends_turn (line next.1) in
+          drained_of (after_line (counted s l x ends) (line next.1))
+          (line_of (counted s l x ends) (line next.1) (record { opening = is.opening; lanes = set_fixed s.lanes l x (with_given x ends) there refl ∙ is.lanes }))
+
+      by : (x : Option Lane) → slice_get s.lanes l ≡ x → IsOf (given_by s l x)
+      by None there = is
+      by (Some x) there = of_line x there (slice_get x.lines x.given)
+
+  after_of : (s : State) (q : Order) → IsOf s → IsOf (after lanes s q)
+  after_of s [] is = is
+  after_of s (l ∷ q) is = after_of (given s l) q (given_of s l is)
+
+-- all states of the lanes of a plan have the plan's opening, and its labels and lines
+pub after_plan : (p : Plan) (q : Order) → IsOf (opened p.definitions) (map fixed (initial_lanes p)) (after lanes (initial_state p) q)
 unfolding initial_state
-opening_after p q = after_at (opened p.definitions) (initial_state p) q (tasks_at (opened p.definitions) (beginning_region (opened p.definitions)) p.tasks refl)
+after_plan p q =
+    after_of (opened p.definitions) (map fixed (initial_lanes p)) (initial_state p) q
+    (record { opening = tasks_at (opened p.definitions) (beginning_region (opened p.definitions)) p.tasks refl; lanes = refl })

@@ -25,10 +25,11 @@ use Rattle.cics_future.specs.Compared.{LookAlike}
 use Rattle.cics_future.proofs.Comparing.{looks_same}
 use Rattle.cics_future.proofs.Events.{same_begins, down_same, attached_same}
 use Rattle.cics_orders.specs.Giving.{attaching, lanes, defined_more, opened, unless_refused, with_task, initial_state}
+use Rattle.cics_orders.specs.declared.lanes.Lane.{Lane}
 use Rattle.cics_look.specs.Looks.{look_of}
 use Rattle.cics_look.proofs.Projected.{alike}
-use Rattle.cics_merging.proofs.Openings.{opening_after}
-use Rattle.cics_merging.specs.Merging.{Compared, as_told, AreMergeable}
+use Rattle.cics_merging.proofs.Openings.{fixed, after_plan}
+use Rattle.cics_merging.specs.Merging.{Compared, as_told, Heard, as_heard, AreMergeable}
 use Rattle.cics_merging.proofs.Lines.{after_same}
 
 -- ---- What is defined is in order
@@ -142,16 +143,33 @@ looks_merge b p o q look told last serial = record {
   serial = serial;
 }
 
+abbrev lane_of : Option Bytes × List NumberedLine → Heard → Lane
+lane_of k h = record { label = k.0; lines = k.1; given = h.given; told = h.told; has_ended = h.has_ended; is_in_turn = h.is_in_turn }
+
+-- lanes with the same labels and lines that are heard the same are told the same
+heard_same : (b : Compared) (xs ys : List Lane) → map fixed xs ≡ map fixed ys → map (as_heard b) xs ≡ map (as_heard b) ys → map (as_told b) xs ≡ map (as_told b) ys
+heard_same b [] [] plan heard = refl
+heard_same b [] (y ∷ ys) plan heard = cc
+heard_same b (x ∷ xs) [] plan heard = cc
+heard_same b (x ∷ xs) (y ∷ ys) plan heard =
+    let one : fixed x ≡ fixed y = cc in
+    let other : as_heard b x ≡ as_heard b y = cc in
+    let rest : map fixed xs ≡ map fixed ys = cc in
+    let more : map (as_heard b) xs ≡ map (as_heard b) ys = cc in
+    λ i. lane_of (one i) (other i) ∷ heard_same b xs ys rest more i
+
 -- so states of one plan whose regions have one look may be taken for one
 pub one_look_merges : (b : Compared) (p : Plan) (o q : Order) → look_of (after lanes (initial_state p) o).machine ≡ look_of (after lanes (initial_state p) q).machine →
-    map (as_told b) (after lanes (initial_state p) o).lanes ≡ map (as_told b) (after lanes (initial_state p) q).lanes →
+    map (as_heard b) (after lanes (initial_state p) o).lanes ≡ map (as_heard b) (after lanes (initial_state p) q).lanes →
     (b.turns ≡ true → (after lanes (initial_state p) o).last ≡ (after lanes (initial_state p) q).last) →
     (b.turns ≡ true → (after lanes (initial_state p) o).is_serial ≡ (after lanes (initial_state p) q).is_serial) →
     AreMergeable b (after lanes (initial_state p) o) (after lanes (initial_state p) q)
-one_look_merges b p o q look told last serial =
+one_look_merges b p o q look heard last serial =
+    let first = after_plan p o in
+    let second = after_plan p q in
     looks_merge b p o q
     (alike (after lanes (initial_state p) o).machine (after lanes (initial_state p) q).machine
     (after_same b (initial_state p) (initial_state p) o (start_same b p)).machine.first.sound.known
     (after_same b (initial_state p) (initial_state p) q (start_same b p)).machine.first.sound.known
-    (opening_after p o ∙ sym (opening_after p q)) look)
-    told last serial
+    (first.opening ∙ sym second.opening) look)
+    (heard_same b (after lanes (initial_state p) o).lanes (after lanes (initial_state p) q).lanes (first.lanes ∙ sym second.lanes) heard) last serial

@@ -1,5 +1,5 @@
 -- Which states of the lanes of a script may be taken for one: from both the same orders lead on, and to the same endings.
-use Rattle.std.specs.Prelude.{◌≡◌, ◌-◌, Bool, true, false, ◌&&◌, List, [], ◌∷◌, map, length, Option, Some, None, slice_get}
+use Rattle.std.specs.Prelude.{◌≡◌, ◌-◌, ℕ, Bool, true, false, ◌&&◌, List, [], ◌∷◌, map, length, Option, Some, None, slice_get}
 use Rattle.cics_dispatch.specs.declared.outcomes.Outcome.{Outcome}
 use Rattle.cics_dispatch.specs.declared.outcomes.Outcome.TheVariants.{Abended, Ended}
 use Rattle.cics_future.specs.Futures.{HaveSameFuture}
@@ -26,6 +26,16 @@ pub record Compared : Type 0 where
 -- a lane as it is compared
 abbrev pub as_told : Compared → Lane → Lane
 as_told b lane = record lane { told = told_if b.told lane.told; is_in_turn = b.turns && lane.is_in_turn }
+
+-- what is compared of a lane, beside its label and its lines, which the plan gives
+pub record Heard : Type 0 where
+  pub given : ℕ
+  pub told : List Outcome
+  pub has_ended : Bool
+  pub is_in_turn : Bool
+
+abbrev pub as_heard : Compared → Lane → Heard
+as_heard b lane = record { given = lane.given; told = told_if b.told lane.told; has_ended = lane.has_ended; is_in_turn = b.turns && lane.is_in_turn }
 
 -- two states may be taken for one
 pub record AreMergeable (b : Compared) (s t : State) : Type 0 where

@@ -10,7 +10,7 @@ ghost use Rattle.cics_future.specs.Compared.{LookAlike};
 ghost use Rattle.cics_look.specs.Looks.{look_of};
 ghost use Rattle.cics_endings.specs.Telling.{parts_of};
 ghost use Rattle.cics_merging.specs.Tables.{found, by_lanes};
-ghost use Rattle.cics_merging.specs.Merging.{Compared, as_told, AreMergeable};
+ghost use Rattle.cics_merging.specs.Merging.{Compared, as_told, as_heard, AreMergeable};
 
 /// From two states that may be taken for one the same orders lead on, and to the same endings.
 ///
@@ -45,12 +45,13 @@ pub fn states_that_look_alike_merge()
 {}
 
 /// Two states of one script may be taken for one if their regions have one look (`cics_look`), and
-/// their lanes are told the same. This is what the program compares.
+/// as much of their lanes is given and told. This is what the program compares: labels and lines of
+/// lanes are those of the script.
 pub fn states_with_one_look_merge()
     ensures { (b : Compared) (p : Plan) (o q : Order) →
         let s = after lanes (initial_state p) o in
         let t = after lanes (initial_state p) q in
-        look_of s.machine ≡ look_of t.machine → map (as_told b) s.lanes ≡ map (as_told b) t.lanes →
+        look_of s.machine ≡ look_of t.machine → map (as_heard b) s.lanes ≡ map (as_heard b) t.lanes →
         (b.turns ≡ true → s.last ≡ t.last) → (b.turns ≡ true → s.is_serial ≡ t.is_serial) →
         AreMergeable b s t }
 {}
