@@ -105,7 +105,7 @@ module _ (o : OpeningState) (outcomes : List UnitState) where
   kept_closed [] known = refl
   kept_closed (e ∷ es) known =
       let same : is_backed_out (outcome_of (map closed outcomes) e.unit) ≡ is_backed_out (are_backed_out_but [] (outcome_of outcomes) e.unit) =
-          ap is_backed_out (closed_at outcomes e.unit known.0) ∙ closed_out (outcome_of outcomes e.unit) (outcome_of outcomes e.unit) refl in
+      ap is_backed_out (closed_at outcomes e.unit known.0) ∙ closed_out (outcome_of outcomes e.unit) (outcome_of outcomes e.unit) refl in
       λ i. if not (is_recoverable o e.op && same i) then e ∷ kept_closed es known.1 i else kept_closed es known.1 i
 
 closed_same : (s : UnitsState) → AreKnown s → closed_store s ≡ store_without_others s []

@@ -6,5 +6,6 @@
 mod laws;
 
 pub use laws::{
-    merged_states_go_on_alike, states_that_look_alike_merge, states_with_one_look_merge, tables_join,
+    merged_states_go_on_alike, states_that_look_alike_merge, states_with_one_look_merge,
+    tables_join,
 };

@@ -103,7 +103,8 @@ found_all : (rows : Map Row) → T (is_rising rows) → AreFound rows rows
 found_all [] rising = tt
 found_all (e ∷ es) rising = (
   ap (λ b. cond b (Some e.1) (value_at e.0 es)) (is_same-self e.0),
-  found_more e es es (first (below_all bytes_cmp e.0 es) (is_rising es) rising) (found_all es (second (below_all bytes_cmp e.0 es) (is_rising es) rising)))
+  found_more e es es (first (below_all bytes_cmp e.0 es) (is_rising es) rising) (found_all es (second (below_all bytes_cmp e.0 es) (is_rising es) rising)),
+)
 
 there_or_not : (rows : Map Row) (e : Bytes × Row) (es : Map Row) (there : Bool) → is_there e.1.items ≡ there → next_place e.0 rows ≡ place_of e.1 →
     placed rows (queues_of es) ≡ places_of es → placed rows (queues_of (e ∷ es)) ≡ places_of (e ∷ es)

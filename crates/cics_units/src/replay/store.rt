@@ -68,20 +68,14 @@ pub(crate) fn mixed(hash: u64, bytes: &[u8]) -> u64 {
 }
 
 // Returns true only if files have the same records.
-fn same_files(
-    files: &BTreeMap<Name8, PlainRecords>,
-    others: &BTreeMap<Name8, PlainRecords>,
-) -> bool
+fn same_files(files: &BTreeMap<Name8, PlainRecords>, others: &BTreeMap<Name8, PlainRecords>) -> bool
     ensures { OnTrue result (files.now.entries ≡ others.now.entries) }
 {
     files == others
 }
 
 // Returns true only if temporary storage queues have the same items.
-fn same_ts(
-    queues: &BTreeMap<Name8, Items<Record>>,
-    others: &BTreeMap<Name8, Items<Record>>,
-) -> bool
+fn same_ts(queues: &BTreeMap<Name8, Items<Record>>, others: &BTreeMap<Name8, Items<Record>>) -> bool
     ensures { OnTrue result (queues.now.entries ≡ others.now.entries) }
 {
     queues == others
