@@ -250,7 +250,6 @@ impl Enqueues {
     /// Errors: `NoMemory`.
     ///
     /// Cost: O(what is held).
-    #[tactic(auto, using(crate::proofs::Values::values_at_end))]
     pub fn values(&self) -> Result<Items<(Record, UnitId, u16)>, NoMemory>
         ensures { IfOk result (λ values. values ≡ values_in self.now) }
     {
