@@ -8,7 +8,7 @@ use Rattle.cics_future.specs.Futures.{any_read, any_count}
 
 -- the counts of a unit among values with their units
 abbrev pub counts_among : ℕ → List (Bytes × ℕ × ℕ) → List (Bytes × ℕ)
-counts_among u values = map (λ v. (v.0, v.1.1)) (filter (λ v. v.1.0 == u) values)
+counts_among u values = map (λ v. (v.0, v.2)) (filter (λ v. v.1 == u) values)
 
 -- they are the rows of its counts
 pub counts_found : (u : ℕ) (cs : List EnqCount) →
@@ -16,7 +16,7 @@ pub counts_found : (u : ℕ) (cs : List EnqCount) →
 counts_found u [] = refl
 counts_found u (c ∷ cs) = by (c.unit == u) (counts_found u cs) where
   by : (b : Bool) → counts_among u (map (λ c. (c.value, c.unit, c.count)) cs) ≡ map (λ c. (c.value, c.count)) (map any_count (filter (λ c. c.unit == u) cs)) →
-      map (λ v. (v.0, v.1.1)) (if b then (c.value, c.unit, c.count) ∷ filter (λ v. v.1.0 == u) (map (λ c. (c.value, c.unit, c.count)) cs) else filter (λ v. v.1.0 == u) (map (λ c. (c.value, c.unit, c.count)) cs))
+      map (λ v. (v.0, v.2)) (if b then (c.value, c.unit, c.count) ∷ filter (λ v. v.1 == u) (map (λ c. (c.value, c.unit, c.count)) cs) else filter (λ v. v.1 == u) (map (λ c. (c.value, c.unit, c.count)) cs))
       ≡ map (λ c. (c.value, c.count)) (map any_count (if b then c ∷ filter (λ c. c.unit == u) cs else filter (λ c. c.unit == u) cs))
   by true more = ap (λ l. (c.value, c.count) ∷ l) more
   by false more = more

@@ -22,14 +22,19 @@ use Rattle.cics_look.specs.Looks.{closed, closed_store, ops_of, reads_of, counts
 
 -- ---- tasks
 
-abbrev browse_of : Bytes × Bytes × Place × Bool → Bytes × Position
+abbrev browse_of : Bytes × (Bytes × (Place × Bool)) → Bytes × Position
 browse_of l = (l.0, record { key = l.1.0; place = l.1.1.0; generic = l.1.1.1 })
+
+-- a unit without a number, if there is one
+abbrev some_unit : Bool → Option ℕ
+some_unit true = Some 0
+some_unit false = None
 
 abbrev task_of : TaskLook → Task
 task_of l = record {
   label = l.label;
   dtimout = l.dtimout;
-  unit = if l.has_unit then Some 0 else None;
+  unit = some_unit l.has_unit;
   browses = map browse_of l.browses;
   has_ended = l.has_ended;
 }
@@ -38,7 +43,7 @@ browses_back : (bs : Map Position) → map browse_of (map browse_look bs) ≡ bs
 browses_back [] = refl
 browses_back (b ∷ bs) = ap (λ l. b ∷ l) (browses_back bs)
 
-unit_back : (o : Option ℕ) → (if is_some o then Some 0 else None) ≡ option_map (λ u. 0) o
+unit_back : (o : Option ℕ) → some_unit (is_some o) ≡ option_map (λ u. 0) o
 unit_back None = refl
 unit_back (Some u) = refl
 

@@ -44,7 +44,7 @@ of_unit own None = []
 of_unit own (Some u) = own u
 
 -- a browse
-abbrev pub browse_look : Bytes × Position → Bytes × Bytes × Place × Bool
+abbrev pub browse_look : Bytes × Position → Bytes × (Bytes × (Place × Bool))
 browse_look b = (b.0, (b.1.key, (b.1.place, b.1.generic)))
 
 -- a task
