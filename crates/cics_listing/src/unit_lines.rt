@@ -36,21 +36,21 @@ fn gather(
     ensures { OnOk result ((unit : ℕ) → lines_at rows.new.items unit
         ≡ lines_at rows.old.items unit ++ lines_added opening.now entry.now unit) }
 {
-    if !is_done(opening, entry) {
+    if !is_done(opening, entry)? {
         return Ok(());
     }
-    let at = entry.unit.number() as usize;
+    let at = entry.unit().number() as usize;
     grow(rows, alloc, at)?;
     push_entry(&mut rows[at], entry)?;
     Ok(())
 }
 
 // Whether a command was answered NORMAL, in a recoverable file or queue.
-fn is_done(opening: &Opening, entry: &Entry) -> bool
-    ensures { result ≡ (is_normal entry.now.answer.condition
-        && is_recoverable opening.now entry.now.op) }
+fn is_done(opening: &Opening, entry: &Entry) -> Result<bool, NoMemory>
+    ensures { IfOk result (λ done. done ≡ (is_normal entry.now.answer.condition
+        && is_recoverable opening.now entry.now.op)) }
 {
-    entry.answer.condition == Condition::Normal && opening.is_recoverable(&entry.op)
+    Ok(entry.condition() == Condition::Normal && opening.is_recoverable(&entry.op()?))
 }
 
 // Makes an empty row for each unit up to this one that has none.
@@ -69,8 +69,9 @@ fn grow(rows: &mut Vec<Vec<u8>>, alloc: Global, last: usize) -> Result<(), NoMem
 fn push_entry(out: &mut Vec<u8>, entry: &Entry) -> Result<(), NoMemory>
     ensures { OnOk result (out.new.items ≡ out.old.items ++ entry_lines entry.now) }
 {
-    push_unlock(out, entry.unit, &entry.op)?;
-    push_command(out, entry.unit, verb_for(&entry.op)?)
+    let op = entry.op()?;
+    push_unlock(out, entry.unit(), &op)?;
+    push_command(out, entry.unit(), verb_for(&op)?)
 }
 
 // Prints an UNLOCK before a READ UPDATE, since an update read of the file may be open.
