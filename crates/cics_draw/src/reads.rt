@@ -171,7 +171,12 @@ fn changes(units: &Units, shown: &Op, entry: &Entry) -> Result<bool, NoMemory>
     Ok(match shown {
         Op::Delete { file, key } => changes_record(file, key, &op),
         Op::TsDelete { queue } => {
-            writes_item(queue, u64::from(units.next_place(queue)), &op, entry.number())
+            writes_item(
+                queue,
+                u64::from(units.next_place(queue)),
+                &op,
+                entry.number(),
+            )
         }
         _ => false,
     })

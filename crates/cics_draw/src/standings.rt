@@ -106,11 +106,13 @@ pub fn is_change(op: &Op) -> bool
 fn stays(opening: &Opening, unit: u64, entry: &Entry) -> Result<bool, NoMemory>
     ensures { IfOk result (λ yes. yes ≡ stays opening.now unit entry.now) }
 {
-    if entry.unit().number() != unit || entry.condition() != Condition::Normal {
-        return Ok(false);
-    }
     let op = entry.op()?;
-    Ok(is_change(&op) && !opening.is_recoverable(&op))
+    Ok(
+        entry.unit().number() == unit
+            && entry.condition() == Condition::Normal
+            && is_change(&op)
+            && !opening.is_recoverable(&op),
+    )
 }
 
 // Returns whether a unit made a change that stays by one of these entries.

@@ -1,13 +1,10 @@
 -- How an entry of the history is packed: its kind with the name, one text, and one number.
-use Rattle.std.specs.Prelude.{◌≡◌, ℕ, ◌+◌, ◌≤◌, Bool, true, false, if◌then◌else◌, Option, Some, None, IfSome, length, take, drop}
+use Rattle.std.specs.Prelude.{◌≡◌, ℕ, ◌+◌, ◌≤◌, Bool, if◌then◌else◌, Option, Some, None, IfSome, length, take, drop}
 use Rattle.cics_names.specs.Keyed.{Bytes}
-use Rattle.cics_names.specs.declared.conditions.Condition.{Condition}
-use Rattle.cics_history.specs.State.{EntryValue}
 use Rattle.cics_history.specs.declared.ops.Kind.{Kind}
 use Rattle.cics_history.specs.declared.ops.Kind.TheVariants as kind
 use Rattle.cics_history.specs.declared.ops.Op.{Op}
 use Rattle.cics_history.specs.declared.ops.Op.TheVariants.{Write, Rewrite, Delete, DeleteGeneric, ReadUpdate, TsWrite, TsRewrite, TsDelete, TdWrite, TdRead, TdDelete}
-use Rattle.cics_history.specs.declared.ops.Answer.{Answer}
 
 -- the command of a kind, with this key in the text, this text, and this number
 abbrev pub op_of : Kind → (key text : Bytes) → ℕ → Op

@@ -36,7 +36,8 @@ fn gather(
     ensures { OnOk result ((unit : ℕ) → lines_at rows.new.items unit
         ≡ lines_at rows.old.items unit ++ lines_added opening.now entry.now unit) }
 {
-    if !is_done(opening, entry)? {
+    let done = is_done(opening, entry)?;
+    if !done {
         return Ok(());
     }
     let at = entry.unit().number() as usize;
@@ -50,7 +51,8 @@ fn is_done(opening: &Opening, entry: &Entry) -> Result<bool, NoMemory>
     ensures { IfOk result (λ done. done ≡ (is_normal entry.now.answer.condition
         && is_recoverable opening.now entry.now.op)) }
 {
-    Ok(entry.condition() == Condition::Normal && opening.is_recoverable(&entry.op()?))
+    let op = entry.op()?;
+    Ok(entry.condition() == Condition::Normal && opening.is_recoverable(&op))
 }
 
 // Makes an empty row for each unit up to this one that has none.

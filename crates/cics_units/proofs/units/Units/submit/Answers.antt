@@ -175,7 +175,7 @@ pack-entry-requires c =
     let fit = ready_fits (before at) (core at).stores (core at).table c.self.invariant.0 c.args.unit (op at) (known at).ready in
     let done = c.in_ok-answer.ensures.executed in
     let told : c.in_ok-answer.answer ≡ (apply (shown_store u.core.store) (op at)).answer =
-        done.done.applied.answered ∙ ap (λ m. (apply (shown_store m) (op at)).answer) done.room.store in
+    done.done.applied.answered ∙ ap (λ m. (apply (shown_store m) (op at)).answer) done.room.store in
     record {
       packable = subst (λ o. IsPackable o c.in_ok-content.content c.in_ok-answer.answer.number) c.bind-bound.ensures.op
           (subst (λ n. IsPackable (op at) c.in_ok-content.content n) (sym (ap (λ a. a.number) told))
