@@ -387,6 +387,8 @@ impl Entry {
     ///
     /// A key that stands beside a record has to lie in it. Only READ UPDATE and READQ TD are
     /// answered with a record, and REWRITE of an item with no other number than the item's.
+    ///
+    /// Cost: O(k * p), for a key of k bytes at the p-th byte of its record.
     pub fn pack(alloc: Global, unit: UnitId, op: Op, answer: Answer) -> Entry
         requires packable { IsPackable op answer.content answer.number }
         requires short { length (key_of op) ≤ 255 }
@@ -448,7 +450,9 @@ impl Entry {
         }
     }
 
-    /// Returns what the command asked for. It takes memory for copies of its records.
+    /// Returns what the command asked for.
+    ///
+    /// Errors: `NoMemory` if the memory for copies of its key and record is refused.
     pub fn op(&self) -> Result<Op, NoMemory>
         ensures { IfOk result (λ op. op ≡ self.now.op) }
     {
