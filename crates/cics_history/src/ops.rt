@@ -235,8 +235,8 @@ struct Packed {
 
 /// A command that was executed: its unit, what it asked for, and what it was answered.
 ///
-/// Contracts see these three. A history is long, so an entry is packed into 64 bytes and has one
-/// text: a key that lies in the record beside it isn't kept twice.
+/// Contracts see these three. A history is long, so an entry is packed. It has one text: a key that
+/// lies in the record beside it isn't kept twice.
 #[derive(Drop)]
 pub struct Entry {
     unit: UnitId,
