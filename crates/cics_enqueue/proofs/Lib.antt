@@ -2,7 +2,6 @@ mod Rows
 pub mod Apart
 pub mod Lawful
 pub mod Least
-pub mod Numbers
 pub mod Owning
 pub mod Seeking
 pub mod TableLaws

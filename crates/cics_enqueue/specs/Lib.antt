@@ -1,6 +1,5 @@
 pub mod Borrowed
 pub mod FreedomLaws
 pub mod Kept
-pub mod Keys
 pub mod Table
 pub mod Order

@@ -14,8 +14,8 @@ ghost use Rattle.cics_enqueue.specs.Table.{first_of};
 
 use crate::compact::{KEY, PREFIX, file_bytes, held_under};
 use crate::enqueues::Holding;
-use crate::keys::Key;
 use cics_history::UnitId;
+use cics_keys::Key;
 use cics_names::Name8;
 use std::collections::BTreeMap;
 

@@ -8,7 +8,6 @@ mod borrowed;
 mod compact;
 mod conflicts;
 mod enqueues;
-mod keys;
 pub mod laws;
 mod owned;
 

@@ -10,8 +10,8 @@ ghost use Rattle.cics_enqueue.specs.Kept.{finds, owns, own_count, OwnsSame, Adds
 ghost use Rattle.cics_history.specs.Holding.{is_other};
 
 use crate::conflicts::is_another;
-use crate::keys::Key;
 use cics_history::UnitId;
+use cics_keys::Key;
 use cics_names::NoMemory;
 use indexmap::IndexMap;
 use std::alloc::Global;

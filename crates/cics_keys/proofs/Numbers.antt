@@ -7,8 +7,8 @@ use Rattle.std.specs.Cmp.{ranks, nat_cmp_is}
 use Rattle.std.specs.Cmp.Lexicographic.{nat_list_cmp_total}
 use Rattle.std.proofs.lemmas.List.{length-drop}
 use Rattle.cics_names.specs.Keyed.{Bytes, bytes_cmp}
-use Rattle.cics_enqueue.specs.declared.keys.Numbers.{Numbers}
-use Rattle.cics_enqueue.specs.Keys.{first_or_zero, behind, filled, AreBytes, AreNumbers}
+use Rattle.cics_keys.specs.declared.keys.Numbers.{Numbers}
+use Rattle.cics_keys.specs.Keys.{first_or_zero, behind, filled, AreBytes, AreNumbers}
 
 -- a greater number stays greater, whatever bytes come behind both
 rises : (n a b : ℕ) (k l : Bytes) → AreBytes n k → a < b → filled n a k < filled n b l

@@ -1,6 +1,6 @@
 use Rattle.std.proofs.Common.{◌∙◌}
-use Rattle.cics_enqueue.proofs.Numbers.{by_first_number, by_second_number, by_third_number, by_lengths}
-use Rattle.cics_enqueue.proofs.keys.KeyOrd.cmp.Goals as goal
+use Rattle.cics_keys.proofs.Numbers.{by_first_number, by_second_number, by_third_number, by_lengths}
+use Rattle.cics_keys.proofs.keys.KeyOrd.cmp.Goals as goal
 
 pub returns-then-self-other : goal.returns-then-self-other
 returns-then-self-other c = rw (← c.self.view_is, ← c.other.view_is) (c.cmp.ensures ∙ by_first_number _ _ _ _ c.self.invariant c.other.invariant c.if-self-other.true)

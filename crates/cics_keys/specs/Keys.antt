@@ -1,7 +1,7 @@
 -- The first bytes of a key as numbers.
 use Rattle.std.specs.Prelude.{◌≡◌, ℕ, suc, zero, ◌*◌, ◌+◌, ◌<◌, drop, [], ◌∷◌}
 use Rattle.cics_names.specs.Keyed.{Bytes}
-use Rattle.cics_enqueue.specs.declared.keys.Numbers.{Numbers}
+use Rattle.cics_keys.specs.declared.keys.Numbers.{Numbers}
 
 -- the first byte, or 0 if there is none
 abbrev pub first_or_zero : Bytes → ℕ

@@ -3,7 +3,7 @@
 ghost use Rattle.std.specs.Prelude.{◌≡◌, ◌≤◌, ◌+◌, ◌++◌, OnOk, OnErr, IfOk, [], length};
 ghost use Rattle.std.specs.Ordering.{nat_cmp};
 ghost use Rattle.cics_names.specs.Keyed.{bytes_cmp};
-ghost use Rattle.cics_enqueue.specs.Keys.{filled, AreBytes, AreNumbers};
+ghost use Rattle.cics_keys.specs.Keys.{filled, AreBytes, AreNumbers};
 
 use cics_names::NoMemory;
 use std::alloc::Global;
@@ -11,7 +11,7 @@ use std::cmp::Ordering;
 use std::marker::Model;
 
 // Two bytes, a name of eight and a key of 255.
-pub(crate) const MOST: usize = 265;
+pub const MOST: usize = 265;
 
 // How many bytes a number has.
 const WORD: usize = 8;
@@ -21,10 +21,10 @@ const HEAD: usize = 24;
 
 // A key head: the first 24 bytes of a key as three numbers, with zeros for bytes that aren't there.
 #[derive(Clone, Copy)]
-pub(crate) struct Numbers {
-    pub(crate) first: u64,
-    pub(crate) second: u64,
-    pub(crate) third: u64,
+struct Numbers {
+    first: u64,
+    second: u64,
+    third: u64,
 }
 
 // Returns the first eight bytes as a number.
@@ -57,7 +57,7 @@ fn numbers_of(bytes: &[u8]) -> Numbers
 // The bytes of a resource, and their head. Heads tell nearly all keys apart. They are in the node
 // of the tree, while the bytes are elsewhere in memory.
 #[derive(Drop)]
-pub(crate) struct Key {
+pub struct Key {
     numbers: Numbers,
     bytes: Vec<u8>,
 }
@@ -65,7 +65,7 @@ pub(crate) struct Key {
 impl Model for Key {
     ghost use Rattle.std.specs.Prelude.{ℕ};
     ghost use Rattle.std.specs.Global.{Vec};
-    ghost use Rattle.cics_enqueue.specs.Keys.{AreNumbers};
+    ghost use Rattle.cics_keys.specs.Keys.{AreNumbers};
 
     ghost Value = { Vec ℕ };
 
@@ -89,7 +89,7 @@ fn refill(bytes: &mut Vec<u8>, front: &[u8], rest: &[u8]) -> Result<(), NoMemory
 
 impl Key {
     // Returns the key of no bytes.
-    pub(crate) fn new(alloc: Global) -> Key
+    pub fn new(alloc: Global) -> Key
         ensures { result.items ≡ [] }
     {
         Key {
@@ -103,14 +103,14 @@ impl Key {
     }
 
     // Returns its bytes.
-    pub(crate) fn as_slice(&self) -> &[u8]
+    pub fn as_slice(&self) -> &[u8]
         ensures { result.now ≡ self.now.items }
     {
         self.bytes.as_slice()
     }
 
     // Returns a key of the same bytes.
-    pub(crate) fn copy(&self, alloc: Global) -> Result<Key, NoMemory>
+    pub fn copy(&self, alloc: Global) -> Result<Key, NoMemory>
         ensures { IfOk result (λ copy. copy.items ≡ self.now.items) }
     {
         Ok(Key {
@@ -121,7 +121,7 @@ impl Key {
 
     // Makes it the key of these few bytes, or of none if there is no room for any key. It doesn't
     // read the key's bytes back, as `set` does.
-    pub(crate) fn set_short<const N: usize>(&mut self, bytes: &[u8; N]) -> Result<(), NoMemory>
+    pub fn set_short<const N: usize>(&mut self, bytes: &[u8; N]) -> Result<(), NoMemory>
         requires most { length bytes.now ≤ 265 }
         ensures set { OnOk result (self.new.items ≡ bytes.now) }
         ensures err { OnErr result (self.new.items ≡ []) }
@@ -137,7 +137,7 @@ impl Key {
 
     // Makes it the key of these bytes and what comes after them, or of none if there is no room for
     // them.
-    pub(crate) fn set(&mut self, front: &[u8], rest: &[u8]) -> Result<(), NoMemory>
+    pub fn set(&mut self, front: &[u8], rest: &[u8]) -> Result<(), NoMemory>
         requires most { length front.now + length rest.now ≤ 265 }
         ensures set { OnOk result (self.new.items ≡ front.now ++ rest.now) }
         ensures err { OnErr result (self.new.items ≡ []) }

@@ -1,8 +1,8 @@
 use Rattle.std.proofs.Common.{◌++◌, ◌∙◌, ap, sym, subst, arith, drop, replicate}
 use Rattle.cics_names.specs.Keyed.{Bytes}
-use Rattle.cics_enqueue.specs.Keys.{filled, AreBytes}
-use Rattle.cics_enqueue.proofs.Numbers.{HaveSame, head-same, numbers-same}
-use Rattle.cics_enqueue.proofs.keys.numbers_of.Goals as goal
+use Rattle.cics_keys.specs.Keys.{filled, AreBytes}
+use Rattle.cics_keys.proofs.Numbers.{HaveSame, head-same, numbers-same}
+use Rattle.cics_keys.proofs.keys.numbers_of.Goals as goal
 
 pub returns : goal.returns
 returns c =
