@@ -16,7 +16,7 @@ use cics_script::{
 use std::alloc::Global;
 
 /// Why a line ended the run.
-#[derive(Clone, Copy, Debug)]
+#[derive(Clone, Copy)]
 pub enum Cause {
     /// The line can't be read, or is a definition that stands too late.
     Line(Placed),

@@ -12,7 +12,7 @@ const BLANK: u8 = 0x40;
 static UNDEFINED: [&[u8]; 4] = [b" DSIDERR ", b" QIDERR ", b" ABEND AEIL ", b" ABEND AEYH "];
 
 /// The name of a file or of a queue of transient data.
-#[derive(Clone, Copy, Debug, PartialEq, Eq)]
+#[derive(Clone, Copy, PartialEq, Eq)]
 pub enum Named {
     File(Name8),
     Queue(Name4),

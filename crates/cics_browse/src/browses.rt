@@ -10,7 +10,7 @@ use cics_names::{Condition, NoMemory, Record};
 use std::marker::Model;
 
 /// What the key of a position is.
-#[derive(Clone, Copy, Debug, PartialEq, Eq)]
+#[derive(Clone, Copy, PartialEq, Eq)]
 pub enum Place {
     /// The key that STARTBR or RESETBR asked for.
     Start,

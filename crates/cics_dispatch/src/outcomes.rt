@@ -8,7 +8,7 @@ use cics_names::{AbendCode, Condition, Name8, NoMemory, Record};
 use cics_units::Op;
 
 /// The number that a reply carries.
-#[derive(Clone, Copy, Debug, PartialEq, Eq)]
+#[derive(Clone, Copy, PartialEq, Eq)]
 pub enum Number {
     /// The number of an item of temporary storage, from 1 on.
     Item(u64),
@@ -17,7 +17,7 @@ pub enum Number {
 }
 
 /// What a command was answered.
-#[derive(Debug, PartialEq, Eq, Drop)]
+#[derive(PartialEq, Eq, Drop)]
 pub struct Reply {
     /// The condition. The fields below are there at NORMAL, and at LENGERR if there are more bytes
     /// than the task takes.
@@ -32,7 +32,7 @@ pub struct Reply {
 }
 
 /// The outcome of a command.
-#[derive(Debug, PartialEq, Eq, Drop)]
+#[derive(PartialEq, Eq, Drop)]
 pub enum Outcome {
     /// The task goes on with this reply.
     Replied(Reply),
@@ -57,7 +57,7 @@ pub(crate) enum Attempt {
 }
 
 /// A waiting command that resumed.
-#[derive(Debug, PartialEq, Eq, Drop)]
+#[derive(PartialEq, Eq, Drop)]
 pub struct Woken {
     /// The label of its task.
     pub label: Name8,
@@ -66,7 +66,7 @@ pub struct Woken {
 }
 
 /// A task that has waited too long, and was abended.
-#[derive(Clone, Copy, Debug, PartialEq, Eq)]
+#[derive(Clone, Copy, PartialEq, Eq)]
 pub struct Expired {
     /// The label of the task.
     pub label: Name8,

@@ -214,7 +214,7 @@ pub struct Entry {
 }
 
 /// Whether a unit has ended, and how.
-#[derive(Clone, Copy, Debug, PartialEq, Eq)]
+#[derive(Clone, Copy, PartialEq, Eq)]
 pub enum UnitState {
     /// It hasn't ended.
     Open,
@@ -235,7 +235,7 @@ pub enum Done {
 }
 
 /// Result of an ENQ.
-#[derive(Clone, Copy, Debug, PartialEq, Eq)]
+#[derive(Clone, Copy, PartialEq, Eq)]
 pub enum Enqueued {
     /// This unit, which may have begun with it, owns the value once more.
     Taken(UnitId),

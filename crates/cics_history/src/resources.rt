@@ -10,7 +10,7 @@ use cics_names::{Name4, Name8};
 use std::marker::Model;
 
 /// A unit of work, by its number.
-#[derive(Clone, Copy, Debug, PartialEq, Eq, Hash)]
+#[derive(Clone, Copy, PartialEq, Eq, Hash)]
 pub struct UnitId {
     number: u64,
 }

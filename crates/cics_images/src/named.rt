@@ -3,7 +3,7 @@
 use cics_names::Name8;
 
 /// The before image of one change of the value of a name: of a file, of a transient data queue.
-#[derive(Debug, Drop)]
+#[derive(Drop)]
 pub struct NamedImage<I> {
     /// The name of the value.
     pub name: Name8,

@@ -22,7 +22,7 @@ pub(crate) const HALF: usize = 32;
 
 /// Up to 64 intervals, in the order of their keys. It is made with room for all 64, so that no edit
 /// of it takes memory. Contracts see the list of its intervals, each as the list of its slots.
-#[derive(Debug, Drop)]
+#[derive(Drop)]
 pub(crate) struct Area {
     intervals: Vec<Interval>,
     /// The key head of the first slot, by which an area is found without reading its intervals.

@@ -26,7 +26,7 @@ fn word_of(key: &[u8]) -> u64
 ///
 /// If a key has fewer than 16 bytes, the second number is that of its last eight. Bytes that it
 /// shares with the first don't change the order of keys with equal first numbers.
-#[derive(Clone, Copy, Debug)]
+#[derive(Clone, Copy)]
 pub(crate) struct Numbers {
     /// The first eight bytes.
     pub(crate) first: u64,

@@ -20,7 +20,7 @@ use std::marker::Model;
 ///
 /// Contracts see the list of the areas, each as the list of its intervals, each as the list of its
 /// slots.
-#[derive(Debug, Drop)]
+#[derive(Drop)]
 pub(crate) struct Dataset {
     areas: Vec<Area>,
     /// How many intervals there are in all areas.

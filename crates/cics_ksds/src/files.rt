@@ -28,7 +28,7 @@ use std::marker::Model;
 /// slots on its way, and in one step over an interval without records. A write of a new key and a
 /// delete that leaves no slot move the slots behind it in its interval. If an interval is added or
 /// removed, those behind it in its area move too. If an area is, so do the areas behind it.
-#[derive(Debug, Drop)]
+#[derive(Drop)]
 pub struct File {
     pub(crate) definition: FileDef,
     pub(crate) places: Dataset,

@@ -22,7 +22,7 @@ pub(crate) const HALF: usize = 8;
 
 /// Up to 16 slots, in the order of their keys. It is made with room for all 16, so that no edit of
 /// it takes memory. Contracts see the list of its slots.
-#[derive(Debug, Drop)]
+#[derive(Drop)]
 pub(crate) struct Interval {
     places: Vec<Place>,
     /// How many of the slots have a record.

@@ -9,7 +9,7 @@ use std::alloc::Global;
 use std::marker::Model;
 
 /// A key head: where a key lies in a record, and its first bytes as numbers.
-#[derive(Clone, Copy, Debug)]
+#[derive(Clone, Copy)]
 pub(crate) struct Mark {
     /// How many bytes of the record stand before the key.
     pub(crate) offset: u32,
@@ -64,7 +64,7 @@ impl Mark {
 /// compares keys without reading the records, which are elsewhere in memory.
 ///
 /// Contracts see the bytes of the record alone.
-#[derive(Debug, Drop)]
+#[derive(Drop)]
 pub(crate) struct Numbered {
     content: Record,
     /// Where the key lies in the record, and its numbers.

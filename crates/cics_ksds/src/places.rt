@@ -27,7 +27,7 @@ use std::alloc::Global;
 use std::cmp::Ordering;
 
 /// One slot of a file.
-#[derive(Debug, Drop)]
+#[derive(Drop)]
 pub(crate) enum Place {
     /// A record, which has its own key.
     Filled(Numbered),
@@ -117,7 +117,7 @@ impl Place {
 
 /// Where a slot is, or would be inserted: the index of its area, of its interval there, and of
 /// itself in that, each from 0.
-#[derive(Clone, Copy, Debug)]
+#[derive(Clone, Copy)]
 pub(crate) struct Position {
     pub(crate) area: usize,
     pub(crate) interval: usize,
@@ -125,7 +125,7 @@ pub(crate) struct Position {
 }
 
 /// Where the slot of a key is.
-#[derive(Clone, Copy, Debug)]
+#[derive(Clone, Copy)]
 pub(crate) enum Spot {
     /// A slot with a record.
     At(Position),

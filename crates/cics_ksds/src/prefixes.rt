@@ -102,7 +102,7 @@ fn drop_under(definition: FileDef, places: &mut Dataset, prefix: &[u8]) -> u64
 }
 
 /// What a DELETE with GENERIC removed.
-#[derive(Debug, Drop)]
+#[derive(Drop)]
 pub struct Removed {
     /// How many records were deleted.
     pub number: u64,

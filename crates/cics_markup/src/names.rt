@@ -4,7 +4,7 @@ ghost use Rattle.std.specs.Prelude.{◌≡◌};
 ghost use Rattle.cics_markup.specs.Names.{tag_name, key_name};
 
 /// An element of SVG.
-#[derive(Clone, Copy, Debug, PartialEq, Eq)]
+#[derive(Clone, Copy, PartialEq, Eq)]
 pub enum Tag {
     Svg,
     Title,
@@ -43,7 +43,7 @@ impl Tag {
 }
 
 /// An attribute of such an element.
-#[derive(Clone, Copy, Debug, PartialEq, Eq)]
+#[derive(Clone, Copy, PartialEq, Eq)]
 pub enum Key {
     Class,
     Cx,

@@ -9,7 +9,7 @@ use crate::names::Name4;
 ///
 /// The exceptional conditions chapter of the Application Programmer's Reference Manual describes
 /// them.
-#[derive(Clone, Copy, Debug, PartialEq, Eq)]
+#[derive(Clone, Copy, PartialEq, Eq)]
 pub enum Condition {
     /// The command did what it was asked for.
     Normal,
@@ -38,7 +38,7 @@ pub enum Condition {
 }
 
 /// The code that a task is ended with when it is abended.
-#[derive(Clone, Copy, Debug, PartialEq, Eq)]
+#[derive(Clone, Copy, PartialEq, Eq)]
 pub struct AbendCode(pub Name4);
 
 impl Condition {

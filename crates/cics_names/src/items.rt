@@ -12,7 +12,7 @@ use std::marker::Model;
 /// This is a `Vec` that contracts see as the list of its values alone. Two lists with the same
 /// values are equal, whatever memory they hold. So types that clauses compare, such as a listing,
 /// hold `Items` and not a `Vec`.
-#[derive(Debug, Drop)]
+#[derive(Drop)]
 pub struct Items<T> {
     items: Vec<T>,
 }

@@ -29,7 +29,7 @@ pub enum NameFault {
 ///
 /// Two spellings that are filled up to the same bytes are one name. Names are equal, are ordered
 /// and are hashed by the eight bytes, the order being that of unsigned bytes from the first one on.
-#[derive(Clone, Copy, Debug, PartialEq, Eq, PartialOrd, Ord)]
+#[derive(Clone, Copy, PartialEq, Eq, PartialOrd, Ord)]
 pub struct Name8 {
     bytes: [u8; 8],
 }
@@ -39,7 +39,7 @@ pub struct Name8 {
 ///
 /// Two spellings that are filled up to the same bytes are one name. Names are equal, are ordered
 /// and are hashed by the four bytes, the order being that of unsigned bytes from the first one on.
-#[derive(Clone, Copy, Debug, PartialEq, Eq, PartialOrd, Ord)]
+#[derive(Clone, Copy, PartialEq, Eq, PartialOrd, Ord)]
 pub struct Name4 {
     bytes: [u8; 4],
 }

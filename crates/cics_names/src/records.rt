@@ -28,7 +28,7 @@ impl<T: Drop> From<AllocFailed<T>> for NoMemory {
 }
 
 // Up to 30 bytes, which lie in the value itself.
-#[derive(Debug, Drop)]
+#[derive(Drop)]
 struct Short {
     len: u8,
     bytes: [u8; SHORT],
@@ -91,7 +91,7 @@ impl Short {
 }
 
 // Where the bytes of a record lie.
-#[derive(Debug, Drop)]
+#[derive(Drop)]
 enum Room {
     Short(Short),
     Long(Vec<u8>),
@@ -102,7 +102,6 @@ enum Room {
 ///
 /// Contracts see the bytes alone. Two records are equal if they have the same bytes. They are
 /// ordered by the first byte that differs, the bytes unsigned, or else by their length.
-#[derive(Debug)]
 pub struct Record {
     room: Room,
 }

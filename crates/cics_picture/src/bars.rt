@@ -19,7 +19,7 @@ use crate::lanes::{MOST_LANES, lane_x, row_y};
 use cics_names::{Items, NoMemory};
 
 /// How the task of a lane stands after a line of the script.
-#[derive(Clone, Copy, Debug, PartialEq, Eq)]
+#[derive(Clone, Copy, PartialEq, Eq)]
 pub struct Standing {
     /// The number of its open unit of work, if it has one.
     pub unit: Option<u64>,
@@ -34,7 +34,7 @@ pub struct Standing {
 
 /// A lane so far, and how its task stands. `last` is the height of the row of its last event,
 /// `top` the top of its open unit's bar. `asked` is the row at which the task last waited.
-#[derive(Clone, Copy, Debug, PartialEq, Eq)]
+#[derive(Clone, Copy, PartialEq, Eq)]
 pub struct Lane {
     pub last: u64,
     pub asked: u64,
@@ -43,7 +43,7 @@ pub struct Lane {
 }
 
 /// The bar of a unit.
-#[derive(Clone, Copy, Debug, PartialEq, Eq)]
+#[derive(Clone, Copy, PartialEq, Eq)]
 pub struct Bar {
     pub unit: u64,
     pub x: u64,
@@ -53,7 +53,7 @@ pub struct Bar {
 
 /// How the bar of a unit looks: light if the unit is open, filled if it committed, hollow if it was
 /// backed out.
-#[derive(Clone, Copy, Debug, PartialEq, Eq)]
+#[derive(Clone, Copy, PartialEq, Eq)]
 pub enum Look {
     Open,
     Filled,

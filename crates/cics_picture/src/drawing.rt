@@ -28,7 +28,7 @@ pub struct Drawing {
 }
 
 /// Why a picture isn't drawn.
-#[derive(Clone, Copy, Debug, PartialEq, Eq)]
+#[derive(Clone, Copy, PartialEq, Eq)]
 pub enum Undrawn {
     /// A request for memory was refused.
     NoMemory,

@@ -7,7 +7,7 @@ ghost use Rattle.cics_picture.specs.Events.{class_of, shape_of, is_number, regio
 ghost use Rattle.cics_picture.specs.Events.{woken_kind, told_kind};
 
 /// What a task was told, or what the region did: `Down` is a shutdown or a line's fault.
-#[derive(Clone, Copy, Debug, PartialEq, Eq)]
+#[derive(Clone, Copy, PartialEq, Eq)]
 pub enum Kind {
     Attached,
     Normal,

@@ -44,7 +44,7 @@ pub struct Plan {
 
 /// A line that is refused in every order: the second ATTACH of a label, or a command of a label
 /// that isn't attached before it.
-#[derive(Clone, Copy, Debug, PartialEq, Eq)]
+#[derive(Clone, Copy, PartialEq, Eq)]
 pub struct RefusedLine {
     pub number: u64,
     pub label: Name8,
@@ -59,7 +59,7 @@ pub struct Planned {
 }
 
 /// Why a script can't be taken apart.
-#[derive(Clone, Copy, Debug, PartialEq, Eq)]
+#[derive(Clone, Copy, PartialEq, Eq)]
 pub enum ScriptFault {
     /// A line can't be read, or stands where it may not.
     Line(LineFault),

@@ -82,7 +82,7 @@ END";
 /// - `told`: whether endings with different answers are different.
 /// - `limit`: how many orders are followed at most.
 /// - `ending`: the number of the ending to print as a script, if one is given.
-#[derive(Clone, Copy, Debug, PartialEq, Eq)]
+#[derive(Clone, Copy, PartialEq, Eq)]
 pub struct Orders {
     pub told: bool,
     pub limit: u64,

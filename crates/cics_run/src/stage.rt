@@ -26,7 +26,7 @@ use std::alloc::Global;
 use std::mem::replace;
 
 /// Why a line ends the run.
-#[derive(Clone, Copy, Debug, PartialEq, Eq)]
+#[derive(Clone, Copy, PartialEq, Eq)]
 pub enum Fault {
     /// The line can't be read, or stands where it may not.
     Line(LineFault),

@@ -8,7 +8,7 @@ ghost use Rattle.cics_run.specs.Streams.{Rises, Tells, given, failed_reads, fail
 use std::io::{Read, Write};
 
 /// A read or a write failed.
-#[derive(Clone, Copy, Debug, PartialEq, Eq)]
+#[derive(Clone, Copy, PartialEq, Eq)]
 pub struct Failed;
 
 /// Gives the bytes of a script.

@@ -5,7 +5,7 @@ ghost use Rattle.cics_script.specs.Faults.{number_of, title_of};
 
 /// Why a line can't be read: the fault of its first wrong token, or of the whole line. The order of
 /// the variants is that of the numbers that a journal prints.
-#[derive(Clone, Copy, Debug, PartialEq, Eq)]
+#[derive(Clone, Copy, PartialEq, Eq)]
 pub enum LineFault {
     /// The line has more than 70,000 bytes.
     TooLong,

@@ -12,14 +12,14 @@ use std::alloc::{AllocError, Global};
 const QUOTE: u8 = b'\'';
 
 /// How a literal is written.
-#[derive(Clone, Copy, Debug, PartialEq, Eq)]
+#[derive(Clone, Copy, PartialEq, Eq)]
 pub enum Notation {
     Quoted,
     Hexadecimal,
 }
 
 /// A literal where it stands in its line.
-#[derive(Clone, Copy, Debug)]
+#[derive(Clone, Copy)]
 pub struct Literal<'a> {
     pub notation: Notation,
     // Whether each character between the quotes of a quoted literal stands for itself.
@@ -35,7 +35,7 @@ pub struct Literal<'a> {
 }
 
 /// In which code a literal's bytes are copied.
-#[derive(Clone, Copy, Debug, PartialEq, Eq)]
+#[derive(Clone, Copy, PartialEq, Eq)]
 pub enum Encoding {
     AsWritten,
     Ebcdic,

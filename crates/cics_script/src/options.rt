@@ -28,7 +28,7 @@ const MOST: usize = 13;
 pub type Options<'a> = ArrayVec<Found<'a>, MOST>;
 
 /// What stood in an option's parentheses.
-#[derive(Clone, Copy, Debug)]
+#[derive(Clone, Copy)]
 pub enum Value<'a> {
     /// No parentheses, or what is read without effect.
     Nothing,
@@ -39,7 +39,7 @@ pub enum Value<'a> {
 }
 
 /// An option that was read.
-#[derive(Clone, Copy, Debug)]
+#[derive(Clone, Copy)]
 pub struct Found<'a> {
     pub option: OptionWord,
     pub value: Value<'a>,
@@ -56,7 +56,7 @@ impl Default for Found<'_> {
 }
 
 /// What an option that was read takes, and the line behind it.
-#[derive(Clone, Copy, Debug)]
+#[derive(Clone, Copy)]
 struct Next<'a> {
     kind: Kind,
     rest: &'a [u8],

@@ -16,7 +16,7 @@ use crate::literals::{CLASSES, Literal, Notation, is_quote_byte, literal_at};
 use crate::words::capital_of;
 
 /// A token where it stands in its line.
-#[derive(Clone, Copy, Debug)]
+#[derive(Clone, Copy)]
 pub enum Token<'a> {
     /// A word as it is written. Small letters count as capitals.
     Word(&'a [u8]),

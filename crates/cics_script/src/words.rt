@@ -19,7 +19,7 @@ use crate::words::OptionWord::{
 };
 
 /// A word that begins a line and is no label.
-#[derive(Clone, Copy, Debug, PartialEq, Eq)]
+#[derive(Clone, Copy, PartialEq, Eq)]
 pub enum Start {
     Define,
     Load,
@@ -29,7 +29,7 @@ pub enum Start {
 }
 
 /// What a DEFINE line defines.
-#[derive(Clone, Copy, Debug, PartialEq, Eq)]
+#[derive(Clone, Copy, PartialEq, Eq)]
 pub enum DefineObject {
     File,
     TsPrefix,
@@ -37,14 +37,14 @@ pub enum DefineObject {
 }
 
 /// What a LOAD line loads.
-#[derive(Clone, Copy, Debug, PartialEq, Eq)]
+#[derive(Clone, Copy, PartialEq, Eq)]
 pub enum LoadObject {
     File,
     TdQueue,
 }
 
 /// The verb of a command, with TS or TD where it acts on a queue.
-#[derive(Clone, Copy, Debug, PartialEq, Eq)]
+#[derive(Clone, Copy, PartialEq, Eq)]
 pub enum CommandWord {
     Read,
     Write,
@@ -70,7 +70,7 @@ pub enum CommandWord {
 }
 
 /// A line with options.
-#[derive(Clone, Copy, Debug, PartialEq, Eq)]
+#[derive(Clone, Copy, PartialEq, Eq)]
 pub enum Form {
     Define(DefineObject),
     Load(LoadObject),
@@ -81,7 +81,7 @@ pub enum Form {
 }
 
 /// An option of some line. FILE and DATASET are one.
-#[derive(Clone, Copy, Debug, PartialEq, Eq)]
+#[derive(Clone, Copy, PartialEq, Eq)]
 pub enum OptionWord {
     File,
     TsPrefix,
@@ -125,7 +125,7 @@ pub enum OptionWord {
 }
 
 /// What an option takes in its parentheses.
-#[derive(Clone, Copy, Debug, PartialEq, Eq)]
+#[derive(Clone, Copy, PartialEq, Eq)]
 pub enum Kind {
     /// No parentheses.
     Flag,

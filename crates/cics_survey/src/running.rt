@@ -14,7 +14,7 @@ use cics_whole::{lines_of, read_script};
 use std::alloc::Global;
 
 /// How the orders of a script were told.
-#[derive(Clone, Copy, Debug, PartialEq, Eq)]
+#[derive(Clone, Copy, PartialEq, Eq)]
 pub enum Surveyed {
     /// The report is written, or the order that is wanted.
     Done,

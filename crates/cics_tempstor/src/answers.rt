@@ -9,7 +9,7 @@ use cics_names::{Condition, Record};
 ///   item of the number.
 /// - `number`: the number of the item, from 1 on, if there is one.
 /// - `content`: the bytes of the item, if there is one.
-#[derive(Debug, Drop)]
+#[derive(Drop)]
 pub struct TsRead {
     pub condition: Condition,
     pub number: Option<u64>,
@@ -22,7 +22,7 @@ pub struct TsRead {
 ///   such item. QIDERR if there is no queue to replace an item of.
 /// - `number`: the number of the item, from 1 on, if the condition is NORMAL.
 /// - `image`: what undoes the change, if it was requested and the condition is NORMAL.
-#[derive(Debug, Drop)]
+#[derive(Drop)]
 pub struct TsWritten {
     pub condition: Condition,
     pub number: Option<u64>,

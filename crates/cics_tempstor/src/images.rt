@@ -6,7 +6,7 @@ use crate::item_lists::ItemList;
 use cics_names::{Name8, Record};
 
 /// What a change of a queue did, and what it takes to undo it.
-#[derive(Debug, Drop)]
+#[derive(Drop)]
 pub(crate) enum Before {
     /// An item was added as the last one.
     Added,
@@ -21,7 +21,7 @@ pub(crate) enum Before {
 /// A change makes one if it was requested and the condition is NORMAL. No item is copied for it:
 /// what a change replaces or deletes moves into it. The same store takes it once: `undo` and then
 /// `settle`, or `settle` alone.
-#[derive(Debug, Drop)]
+#[derive(Drop)]
 pub struct TsImage {
     pub(crate) name: Name8,
     pub(crate) before: Before,

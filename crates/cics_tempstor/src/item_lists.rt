@@ -16,7 +16,7 @@ use std::mem;
 const MOST_ITEMS: usize = 32_767;
 
 /// The items of a queue, the oldest first: never more than 32,767.
-#[derive(Debug, Drop)]
+#[derive(Drop)]
 pub(crate) struct ItemList {
     items: Vec<Record>,
 }

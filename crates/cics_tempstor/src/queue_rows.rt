@@ -19,7 +19,7 @@ use std::mem;
 
 /// The row of a name. A row without items is empty: its queue is absent, and the row stays for an
 /// undo.
-#[derive(Debug, Drop)]
+#[derive(Drop)]
 pub(crate) struct Row {
     pub(crate) items: ItemList,
     /// The NEXT cursor, if the queue is there. Else what it was, for an undo that brings the queue

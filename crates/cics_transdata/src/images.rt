@@ -4,7 +4,7 @@
 ///
 /// A change of a LOGICAL queue makes one if its condition is NORMAL, a change of another queue
 /// none. The same queue takes it once: `undo` and then `settle`, or `settle` alone.
-#[derive(Debug, Drop)]
+#[derive(Drop)]
 pub enum TdImage {
     /// Records were marked as read. This is how many were so marked before.
     Taken(usize),

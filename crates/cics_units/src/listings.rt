@@ -17,7 +17,7 @@ use std::alloc::Global;
 
 /// What a task that hasn't ended does: it has no unit of work, it has one that is open, or a
 /// command of it waits.
-#[derive(Clone, Copy, Debug, PartialEq, Eq)]
+#[derive(Clone, Copy, PartialEq, Eq)]
 pub enum TaskState {
     Idle,
     HasUnit,
