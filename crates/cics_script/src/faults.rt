@@ -11,11 +11,11 @@ pub enum LineFault {
     TooLong,
     /// A byte of the line is neither a tab nor printable ASCII.
     NotAscii,
-    /// A word that can't stand here, another token instead of a word, or a byte that begins no
-    /// token.
+    /// A word that isn't known here, another token instead of a word, a byte that begins no token,
+    /// or a token after END-EXEC.
     UnknownWord,
-    /// A literal or name that is wrong or missing. Also a parenthesis too many or too few, unless
-    /// the option takes a number.
+    /// A literal, name or area that is wrong or missing. Also a parenthesis too many or too few,
+    /// unless the option takes a number.
     BadLiteral,
     /// A number that is wrong, missing or above 18,446,744,073,709,551,615. Also a parenthesis too
     /// many or too few of an option that takes a number.

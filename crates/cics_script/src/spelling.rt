@@ -15,8 +15,11 @@ use cics_names::Command;
 
 /// States that a command is read from its options in any order. It is a law: the call does nothing.
 ///
-/// None may stand twice, no two may exclude each other, and END-EXEC must be last. TS may be left
-/// out, and so may options that are read without effect.
+/// No option may stand twice, no two may exclude each other, and END-EXEC must be last. TS may be
+/// left out, and so may options that are read without effect.
+///
+/// `first` is the command's word, and `left_out` says that TS is left out. `written` has the
+/// options as tokens, `entries` has what they give. `padded` is the label, filled up with blanks.
 ///
 /// - `read`: tokens that spell a command are read as that command.
 /// - `bytes`: so are the bytes of a line that has a space after each token, if it isn't too long.

@@ -45,6 +45,7 @@ fn is_letter_byte(byte: u8) -> bool
     byte.is_ascii_alphabetic()
 }
 
+// Returns whether a byte has class 2.
 fn is_in_word(byte: u8) -> bool
     ensures { result ≡ is_word_byte byte }
 {
@@ -222,7 +223,7 @@ fn is_ended(bytes: &[u8]) -> bool
 }
 
 /// Returns the line after a word in capitals, if it begins with that whole word. `None` decides
-/// nothing: the word may have small letters.
+/// nothing: the word may have small letters, or a tab after it.
 pub fn behind_word<'a>(bytes: &'a [u8], capitals: &[u8]) -> Option<&'a [u8]>
     requires { is_word capitals.now ≡ true }
     ensures { IfSome result (λ rest. StartsWith capitals.now bytes.entry.now rest.now) }
