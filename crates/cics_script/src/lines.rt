@@ -178,6 +178,7 @@ fn label_of(word: &[u8]) -> Result<Name8, LineFault>
 fn read_define(alloc: Global, bytes: &[u8]) -> Result<Line, LineFault>
     ensures { Reads (define (tokens bytes.now)) result }
 {
+    // The word is read again, as the first option.
     let (word, _) = first_word(bytes)?;
     let Some(object) = define_object(word) else {
         return Err(LineFault::UnknownWord);
@@ -201,6 +202,7 @@ fn read_define(alloc: Global, bytes: &[u8]) -> Result<Line, LineFault>
 fn read_load(alloc: Global, bytes: &[u8]) -> Result<Line, LineFault>
     ensures { Reads (load (tokens bytes.now)) result }
 {
+    // The word is read again, as the first option.
     let (word, _) = first_word(bytes)?;
     let Some(object) = load_object(word) else {
         return Err(LineFault::UnknownWord);
@@ -403,7 +405,7 @@ const BLOCK: usize = 16;
 fn few_are_in_script(bytes: &[u8]) -> bool
     ensures { result ≡ list_all is_script_byte bytes.now }
 {
-    // No early end: it would mean that bytes are tested one by one.
+    // No early end, so that the bytes aren't tested one by one.
     let mut all = true;
     for byte in bytes {
         all &= is_in_script(*byte);
