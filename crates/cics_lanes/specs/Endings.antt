@@ -16,18 +16,19 @@ pub record Run : Type 0 where
   pub ending : Parts
   pub is_serial : Bool
 
--- an ending that is reported: its first order, its parts, how many orders lead to it, and how many serial ones
+-- an ending that is reported: its first order, its parts, how many orders lead to it, and how many
+-- of these are serial
 pub record Reported : Type 0 where
   pub order : Order
   pub ending : Parts
   pub orders : ℕ
   pub serial : ℕ
 
--- whether they are the same parts
+-- whether two endings have the same parts
 abbrev pub are_same : Parts → Parts → Bool
 are_same = pointwise bytes_eq
 
--- the runs that lead where no run before them does
+-- the runs that lead to an ending to which no run before leads
 abbrev pub firsts : List Run → List Run
 firsts [] = []
 firsts (r ∷ rs) = r ∷ filter (λ s. not (are_same s.ending r.ending)) (firsts rs)
@@ -36,7 +37,7 @@ firsts (r ∷ rs) = r ∷ filter (λ s. not (are_same s.ending r.ending)) (first
 abbrev pub kept_number : ℕ → ℕ
 kept_number n = min n 18446744073709551615
 
--- what is reported of the ending of a run, from all runs
+-- the ending of a run as it is reported, counted over all runs
 abbrev pub reported : List Run → Run → Reported
 reported rs r = record {
   order = r.order;
@@ -49,24 +50,24 @@ reported rs r = record {
 abbrev pub report : List Run → List Reported
 report rs = map (reported rs) (firsts rs)
 
--- a run is told by the state after its order
+-- the run of an order, from the state after it
 abbrev pub run_to : {S : Type 0} → (S → Parts) → (S → Bool) → Order → S → Run
 run_to ending serial o s = record { order = o; ending = ending s; is_serial = serial s }
 
--- one more run leads to an ending
+-- an ending for which one more run is counted
 abbrev pub counted : Reported → Bool → Reported
 counted f is_serial = record f { orders = kept_number (f.orders + 1); serial = if is_serial then kept_number (f.serial + 1) else f.serial }
 
--- a run that leads to none of the endings before it
+-- the ending of the first run that leads to it
 abbrev pub first_run : Run → Reported
 first_run r = record { order = r.order; ending = r.ending; orders = 1; serial = if r.is_serial then 1 else 0 }
 
--- the place of the ending that has these parts
+-- the index of the ending that has these parts, if there is one
 abbrev pub place_of : List Reported → Parts → Option ℕ
 place_of [] ps = None
 place_of (f ∷ fs) ps = if are_same f.ending ps then Some 0 else option_map suc (place_of fs ps)
 
--- endings with one run more
+-- endings after one more run, which is counted for its ending or adds it
 abbrev pub told : List Reported → Run → List Reported
 told [] r = first_run r ∷ []
 told (f ∷ fs) r = if are_same f.ending r.ending then counted f r.is_serial ∷ fs else f ∷ told fs r

@@ -1,4 +1,4 @@
-//! The endings that runs lead to.
+//! Gathers the endings that runs lead to, each once.
 
 ghost use Rattle.std.specs.Prelude.{◌≡◌, OnOk};
 ghost use Rattle.cics_lanes.specs.Endings.{are_same, counted, first_run, place_of, told};
@@ -6,7 +6,7 @@ ghost use Rattle.cics_lanes.specs.Endings.{are_same, counted, first_run, place_o
 use cics_names::{Items, NoMemory, Record};
 use std::marker::Model;
 
-/// An ending of a script's orders.
+/// An ending, with its first order and how many orders lead to it.
 #[derive(Drop)]
 pub struct Ending {
     order: Items<usize>,
@@ -29,35 +29,35 @@ impl Model for Ending {
 }
 
 impl Ending {
-    /// Its first order: for each line that is given, the lane that gives it.
+    /// Returns its first order: for each line that is given, the lane that gives it.
     pub fn order(&self) -> &[usize]
         ensures { result.now ≡ self.now.order }
     {
         self.order.as_slice()
     }
 
-    /// The parts that it is told in.
+    /// Returns the parts in which it is told.
     pub fn parts(&self) -> &[Record]
         ensures { result.now ≡ self.now.ending }
     {
         self.parts.as_slice()
     }
 
-    /// How many orders lead to it; u64::MAX is that many or more.
+    /// Returns how many orders lead to it; `u64::MAX` is that many or more.
     pub fn orders(&self) -> u64
         ensures { result ≡ self.now.orders }
     {
         self.orders
     }
 
-    /// How many serial orders lead to it; u64::MAX is that many or more.
+    /// Returns how many serial orders lead to it; `u64::MAX` is that many or more.
     pub fn serial(&self) -> u64
         ensures { result ≡ self.now.serial }
     {
         self.serial
     }
 
-    // The ending of a run that leads to none told so far.
+    // Returns the ending of the first run that leads to it.
     fn new(run: Run) -> Ending
         ensures { result ≡ first_run run }
     {
@@ -80,7 +80,7 @@ impl Ending {
     }
 }
 
-// Whether two endings have the same parts.
+// Returns whether two endings have the same parts.
 fn are_same(parts: &[Record], others: &[Record]) -> bool
     ensures { result ≡ are_same parts.now others.now }
 {
@@ -115,7 +115,7 @@ impl Model for Run {
     } };
 }
 
-// The place of the ending that has these parts.
+// Returns the index of the ending that has these parts, if there is one.
 fn find(endings: &[Ending], parts: &[Record]) -> Option<usize>
     ensures { result ≡ place_of endings.now parts.now }
 {
@@ -127,7 +127,7 @@ fn find(endings: &[Ending], parts: &[Record]) -> Option<usize>
     None
 }
 
-/// Counts one run more at its ending, or adds the ending.
+/// Counts one more run for its ending, or adds the ending. Errors: `NoMemory`. Cost: O(endings).
 pub(crate) fn tell(endings: &mut Vec<Ending>, run: Run) -> Result<(), NoMemory>
     ensures { OnOk result (endings.new.items ≡ told endings.old.items run) }
 {

@@ -1,4 +1,4 @@
-//! Every order, one after the other.
+//! Follows every order, one after the other.
 
 ghost use Rattle.std.specs.Prelude.{◌≡◌, ◌≤◌, ◌<◌, ℕ, [], ◌∷◌, ◌++◌, IfOk, length};
 ghost use Rattle.cics_lanes.specs.Orders.{Order, BranchesAt, Reaches, IsFollowed, after, orders};
@@ -10,14 +10,15 @@ use crate::walks::Walk;
 use cics_names::{Items, NoMemory};
 use std::alloc::Global;
 
-/// Where an order branches off: as far as `depth` it stays as it is, and there `lane` gives.
+/// Where the next order branches off: its first `depth` lanes are those of this one, and then
+/// `lane` gives.
 #[derive(Clone, Copy)]
 pub(crate) struct Branch {
     pub(crate) depth: usize,
     pub(crate) lane: usize,
 }
 
-/// The endings of orders.
+/// The endings of the orders that were followed.
 #[derive(Drop)]
 pub struct Report {
     /// The endings, in the order of their first orders.
@@ -28,8 +29,8 @@ pub struct Report {
     pub is_whole: bool,
 }
 
-// Returns where an order branches off once a lane has given: where another lane may, or else where
-// it did.
+// Returns where the next order branches off, if `lane` gives now. That is here if a later lane may
+// give instead, else `before`.
 fn branch_at<W: Walk>(walk: &W, depth: usize, lane: usize, before: Option<Branch>) -> Option<Branch>
     ensures { (n : ℕ) (s : W) (o : Order) → walk.now ≡ after W.lanes s o → length o ≡ depth →
         length o < n → BranchesAt W.lanes n s o before →
@@ -41,7 +42,7 @@ fn branch_at<W: Walk>(walk: &W, depth: usize, lane: usize, before: Option<Branch
     }
 }
 
-// Gives the lines of an order. Returns where it branches off.
+// Gives the lines of an order. Returns where the next order branches off.
 fn retrace<W: Walk>(walk: &mut W, order: &[usize]) -> Result<Option<Branch>, NoMemory>
     ensures { IfOk result (λ branch. (n : ℕ) → length order.now ≤ n →
         Reaches W.lanes n walk.old order.now walk.new order.now branch) }
@@ -55,8 +56,8 @@ fn retrace<W: Walk>(walk: &mut W, order: &[usize]) -> Result<Option<Branch>, NoM
     Ok(branch)
 }
 
-// Goes on to the end of an order of at most so many lines, with the first lane that may give.
-// Returns where the order branches off.
+// Follows an order to its end, at most to `lines` lines: in each state the first lane that may give
+// does. Returns where the next order branches off.
 fn go_on<W: Walk>(
     walk: &mut W,
     lines: usize,
@@ -79,7 +80,8 @@ fn go_on<W: Walk>(
     Ok(branch)
 }
 
-// Follows an order from the start to its end. Returns where it branches off.
+// Gives the lines of an order from the start, and follows it to its end. Returns where the next
+// order branches off.
 fn follow<W: Walk>(
     walk: &mut W,
     lines: usize,
@@ -94,7 +96,7 @@ fn follow<W: Walk>(
     go_on(walk, lines, order, branch)
 }
 
-// The run of an order that was followed.
+// Returns the run of an order that was followed.
 fn run_to<W: Walk>(alloc: Global, walk: &W, order: &[usize]) -> Result<Run, NoMemory>
     ensures { IfOk result (λ run. run ≡ run_to W.ending W.serial order.now walk.now) }
 {
@@ -106,16 +108,17 @@ fn run_to<W: Walk>(alloc: Global, walk: &W, order: &[usize]) -> Result<Run, NoMe
     })
 }
 
-/// Follows every order from the start of a walk, at most so many. Returns the endings that they
-/// lead to.
+/// Follows the orders from the start of a walk, at most `limit` of them. Returns the endings that
+/// they lead to.
 ///
-/// If the report is whole, the endings are those of all orders. Each stands once, with the first
-/// order that leads to it, and how many orders and serial orders do. They stand in the order of
-/// their first orders. Else they are the endings of the first orders, as many as were followed.
-///
-/// Cost: O(orders * (lines + endings)).
+/// The first order has in each state the first lane that may give. The next one branches off as
+/// late as it can, to the next lane that may. Each ending stands once, with the first order that
+/// leads to it, and how many orders and serial orders do. Endings stand in the order of these first
+/// orders.
 ///
 /// Errors: `NoMemory`.
+///
+/// Cost: O(orders * (lines + endings)).
 pub fn explore<W: Walk>(alloc: Global, walk: &mut W, limit: u64) -> Result<Report, NoMemory>
     ensures { IfOk result (λ report. IsReport W.lanes W.ending W.serial
         (W.most (W.start walk.old)) limit (W.start walk.old) report) }

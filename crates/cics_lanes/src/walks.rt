@@ -1,4 +1,4 @@
-//! What is walked along an order.
+//! What `explore` walks along an order.
 
 ghost use Rattle.std.specs.Prelude.{◌≡◌, ℕ, suc, Bool, [], All, IfOk, OnOk};
 ghost use Rattle.cics_lanes.specs.Orders.{Lanes, IsFirst, IsOrdered, after, orders};
@@ -6,41 +6,42 @@ ghost use Rattle.cics_lanes.specs.Endings.{Parts};
 
 use cics_names::{Items, NoMemory, Record};
 
-/// A state that lanes give their lines to, one after the other, and that can go back to its start.
+/// A state to which lanes give their lines, and which can go back to its start. The ghost items say
+/// what the calls do. Errors of each call: `NoMemory`.
 pub trait Walk {
-    /// Which lanes may give in a state, and what giving a line leads to.
+    /// Which lanes may give in a state, and the state after a lane has given its next line.
     ghost lanes: { Lanes Self };
 
     /// The state before the first line.
     ghost start: { Self → Self };
 
-    /// The parts of the ending that a state is.
+    /// The parts of the ending in a state.
     ghost ending: { Self → Parts };
 
     /// Whether the order that led to a state is serial.
     ghost serial: { Self → Bool };
 
-    /// How many lines an order may have at most.
+    /// The most lines of an order.
     ghost most: { Self → ℕ };
 
-    /// The lanes that may give stand in their order.
+    /// `lanes` lists the lanes that may give in their order.
     ghost is_ordered: { IsOrdered lanes };
 
-    /// After at most so many lines no lane may give.
+    /// No lane may give at the end of an order of at most so many lines.
     ghost most_ends: { (s : Self) → All (λ o. lanes.givers (after lanes (start s) o) 0 ≡ [])
         (orders lanes (most (start s)) (start s)) };
 
-    /// No line moves the start.
+    /// A line that is given doesn't change the start.
     ghost start_stays: { (s : Self) (l : ℕ) → start (lanes.given s l) ≡ start s };
 
-    /// The start starts where it is.
+    /// The start of the start is itself.
     ghost start_is_start: { (s : Self) → start (start s) ≡ start s };
 
     /// Goes back to the start.
     fn restart(&mut self) -> Result<(), NoMemory>
         ensures { OnOk result (self.new ≡ start self.old) };
 
-    /// How many lines an order may have at most.
+    /// Returns the most lines of an order.
     fn line_count(&self) -> usize
         ensures { result ≡ most self.now };
 
@@ -48,7 +49,7 @@ pub trait Walk {
     fn first_giver(&self) -> Option<usize>
         ensures { IsFirst result (lanes.givers self.now 0) };
 
-    /// Returns the first lane after another that may give.
+    /// Returns the first lane after this one that may give.
     fn giver_after(&self, lane: usize) -> Option<usize>
         ensures { IsFirst result (lanes.givers self.now (suc lane)) };
 
@@ -56,7 +57,7 @@ pub trait Walk {
     fn give(&mut self, lane: usize) -> Result<(), NoMemory>
         ensures { OnOk result (self.new ≡ lanes.given self.old lane) };
 
-    /// Returns the parts of the ending.
+    /// Returns the parts of the ending in this state.
     fn parts(&self) -> Result<Items<Record>, NoMemory>
         ensures { IfOk result (λ parts. parts ≡ ending self.now) };
 

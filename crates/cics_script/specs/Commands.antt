@@ -1,4 +1,4 @@
--- What a command asks for, by its verb and its options.
+-- The verb of a command, from its word and its options.
 use Rattle.std.specs.Prelude.{ℕ, Bool, false, ◌||◌, if◌then◌else◌, List, Option, None, Some, Result, Ok, Err}
 use Rattle.cics_names.specs.declared.commands.Verb.{Verb}
 use Rattle.cics_names.specs.declared.commands.Verb.TheVariants as verb
@@ -11,11 +11,11 @@ use Rattle.cics_script.specs.Faults.{◌>>=◌}
 use Rattle.cics_script.specs.Options.{Entry}
 use Rattle.cics_script.specs.Values.{has, content_at, as_needed_amount, text_at, name8_at, name4_at, amount_at, needed}
 
--- the file of a command, and the key that it names
+-- the file of a command, and its key
 abbrev pub keyed_in : List Entry → Result (List ℕ × List ℕ) LineFault
 keyed_in entries = needed (name8_at File entries) λ file. needed (text_at Ridfld entries) λ ridfld. Ok (file, ridfld)
 
--- the value that a command enqueues on or gives back, and how many of its bytes count
+-- the value that ENQ acquires or DEQ releases, and how many of its bytes count
 abbrev pub enqueued_in : List Entry → Result (List ℕ × ℕ) LineFault
 enqueued_in entries = needed (text_at Resource entries) λ resource. needed (amount_at Length entries) λ length. Ok (resource, length)
 
@@ -23,16 +23,17 @@ enqueued_in entries = needed (text_at Resource entries) λ resource. needed (amo
 abbrev pub needs_key : List Entry → Bool
 needs_key entries = has KeyLength entries || has Generic entries || has NumRec entries
 
--- DELETE of the record of a key, with GENERIC of each whose key begins with it, or without a key of the one that was read for update
+-- DELETE. With a key it is of the record with that key, or with GENERIC of each whose key begins
+-- so. Without a key it is of the record that was read for update
 abbrev pub delete_of : List ℕ → Option (List ℕ) → List Entry → Result Verb LineFault
 delete_of file None entries = if needs_key entries then Err MissingOption else Ok (verb.Delete file None None false)
 delete_of file (Some ridfld) entries = Ok (verb.Delete file (Some ridfld) (amount_at KeyLength entries) (has Generic entries))
 
--- the item that WRITEQ TS replaces: with REWRITE the one that ITEM numbers, else none, whatever ITEM says
+-- the item that WRITEQ TS replaces: that of ITEM if there is REWRITE, else none, whatever ITEM says
 abbrev pub replaced_in : List Entry → Result (Option ℕ) LineFault
 replaced_in entries = if has Rewrite entries then (as_needed_amount (content_at Item entries) >>= λ item. Ok (Some item)) else Ok None
 
--- what a command asks for
+-- the verb of a command's word and options
 abbrev pub verb_in : CommandWord → List Entry → Result Verb LineFault
 verb_in command.Read entries =
     keyed_in entries >>= λ keyed.
@@ -71,6 +72,6 @@ verb_in command.Syncpoint entries = Ok (if has Rollback entries then verb.Rollba
 verb_in command.Return entries = Ok verb.Return
 verb_in command.Abend entries = Ok (verb.Abend (name4_at AbCode entries))
 
--- RESP and NOHANDLE handle a command's conditions
+-- whether a command's conditions are handled: it has RESP or NOHANDLE
 abbrev pub is_handled : List Entry → Bool
 is_handled entries = has Resp entries || has NoHandle entries

@@ -1,4 +1,4 @@
--- The faults of a line, with their numbers and the names that a journal prints.
+-- The faults of a line, with the numbers and the names that a journal prints.
 use Rattle.std.specs.Prelude.{◌≡◌, ◌≢◌, ℕ, List, Result, Ok, Err}
 use Rattle.cics_script.specs.declared.faults.LineFault.{LineFault}
 use Rattle.cics_script.specs.declared.faults.LineFault.TheVariants.{TooLong, NotAscii, UnknownWord, BadLiteral, BadNumber, MissingOption, DoubledOption, OptionNotHere, DefineTooLate, NoMemory}
@@ -31,16 +31,16 @@ title_of DefineTooLate = codes "DefineTooLate"
 title_of NoMemory = codes "NoMemory"
 
 infixl 10 ◌>>=◌
--- a part of the line, and what is read of what follows it; the first fault stands
+-- reads a part of the line and then what follows it, or gives the first fault
 abbrev pub ◌>>=◌ : {A B : Type 0} → Result A LineFault → (A → Result B LineFault) → Result B LineFault
 (Ok part) >>= rest = rest part
 (Err fault) >>= rest = Err fault
 
--- reading comes to this fault, unless memory was refused
+-- the definition `read` gives this fault, unless memory was refused
 abbrev pub Refuses : {A : Type 0} → Result A LineFault → LineFault → Type 0
 Refuses read fault = fault ≢ NoMemory → read ≡ Err fault
 
--- reading gives this, unless memory was refused
+-- the definition `read` gives what a call returned, unless memory was refused
 abbrev pub Reads : {A : Type 0} → Result A LineFault → Result A LineFault → Type 0
 Reads read (Ok made) = read ≡ Ok made
 Reads read (Err fault) = Refuses read fault

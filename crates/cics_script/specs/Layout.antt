@@ -1,4 +1,4 @@
--- How the tokens of a line can be written: one behind another, with a blank behind each.
+-- How the tokens of a line can be written: one after another, with a space after each.
 use Rattle.std.specs.Prelude.{◌<◌, ◌+◌, ◌/◌, ◌%◌, ◌^◌, ◌==◌, ◌&&◌, ◌||◌, ℕ, Bool, true, false, IsTrue, nat_lt, if◌then◌else◌, List, [], ◌∷◌, ◌++◌, is_some}
 use Rattle.std.specs.List.{list_all}
 use Rattle.std.specs.Fmt.{decimal}
@@ -30,25 +30,27 @@ token_bytes opening = 40 ∷ []
 token_bytes closing = 41 ∷ []
 token_bytes (broken fault) = []
 
--- what a word in capitals has behind its first letter
+-- what a word in capitals may have after its first letter
 abbrev pub is_in_capitals : ℕ → Bool
 is_in_capitals c = is_capital c || is_digit c || (c == 45)
 
--- a byte that goes on no word or number and no literal that is closed: a blank or a parenthesis
+-- whether a byte ends a word, a number or a closed literal before it: a space or a parenthesis
 abbrev pub is_gap : ℕ → Bool
 is_gap c = (c == 32) || (c == 40) || (c == 41)
 
--- whether a word, a number or a closed literal written right before these bytes is whole: there are none, or a blank or a parenthesis is the first
+-- whether a word, a number or a closed literal right before these bytes ends there: there are none,
+-- or a space or a parenthesis is the first
 abbrev pub ends : List ℕ → Bool
 ends [] = true
 ends (c ∷ rest) = is_gap c
 
--- a word in capitals
+-- whether letters are a word in capitals
 abbrev pub is_word : List ℕ → Bool
 is_word [] = false
 is_word (c ∷ letters) = is_capital c && list_all is_in_capitals letters
 
--- a token that can be written: a word in capitals, a number of 64 bits, a literal of characters that EBCDIC has or of bytes, or a parenthesis
+-- a token can be written: a word in capitals, a number of 64 bits, a literal of bytes or of
+-- characters that have EBCDIC codes, or a parenthesis
 abbrev pub IsWritable : Token → Type 0
 IsWritable (word w) = IsTrue (is_word w)
 IsWritable (number n) = n < 2 ^ 64
@@ -58,12 +60,12 @@ IsWritable opening = Unit {0}
 IsWritable closing = Unit {0}
 IsWritable (broken fault) = ⊥
 
--- tokens that can be written
+-- all tokens can be written
 abbrev pub AreWritable : List Token → Type 0
 AreWritable [] = Unit {0}
 AreWritable (token ∷ tokens) = IsWritable token × AreWritable tokens
 
--- tokens as they are written, with a blank behind each
+-- tokens as they are written, with a space after each
 abbrev pub laid_out : List Token → List ℕ
 laid_out [] = []
 laid_out (token ∷ tokens) = token_bytes token ++ 32 ∷ laid_out tokens

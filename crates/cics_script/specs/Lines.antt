@@ -27,11 +27,11 @@ use Rattle.cics_script.specs.Commands.{verb_in, is_handled}
 use Rattle.cics_script.specs.Options.{Entry, options}
 use lib.Chars.{codes}
 
--- RECOVERABLE or UNRECOVERABLE
+-- whether a file is recoverable, if the line says it
 abbrev pub recovery_in : List Entry → Option Bool
 recovery_in entries = if has Recoverable entries then Some true else if has Unrecoverable entries then Some false else None
 
--- LOGICAL, PHYSICAL or NONE
+-- how far a transient data queue's changes are undone, if the line says it
 abbrev pub queue_recovery_in : List Entry → Option Recovery
 queue_recovery_in entries =
     if has Logical entries then Some queue_recovery.Logical
@@ -39,7 +39,8 @@ queue_recovery_in entries =
     else if has Unrecovered entries then Some queue_recovery.Unrecovered
     else None
 
--- what DEFINE defines: a file's keys begin at 0 and its records have up to 32,767 bytes, where the line doesn't say otherwise
+-- what DEFINE defines. If the line doesn't say otherwise, a file's keys begin at 0 and its records
+-- have up to 32,767 bytes
 abbrev pub definition_in : DefineObject → List Entry → Result Line LineFault
 definition_in defined.File entries =
     needed (name8_at File entries) λ name. needed (amount_at KeyLength entries) λ key_length. needed (recovery_in entries) λ recoverable.
@@ -62,27 +63,27 @@ load_in loaded.TdQueue entries =
     needed (name4_at TdQueue entries) λ name. needed (text_at From entries) λ record_bytes.
     Ok (line_of.LoadTd name record_bytes)
 
--- what ATTACH attaches; its commands wait without a limit, where the line does not say otherwise
+-- what ATTACH attaches; without DTIMOUT its commands may wait without limit
 abbrev pub attach_in : List ℕ → List Entry → Result Line LineFault
 attach_in label entries = needed (name4_at Transid entries) λ transaction. Ok (line_of.Attach label transaction (unwrap_or (amount_at Dtimout entries) 0))
 
--- the word in front, where a word has to stand
+-- the first token, which must be a word, and what follows it
 abbrev pub word_first : List Token → Result (List ℕ × List Token) LineFault
 word_first [] = Err UnknownWord
 word_first (word w ∷ rest) = Ok (w, rest)
 word_first (broken fault ∷ rest) = Err fault
 word_first (token ∷ rest) = Err UnknownWord
 
--- what a table has for a word that has to be in it
+-- what a table has for a word, which must be in it
 abbrev pub known : {X : Type 0} → Option X → Result X LineFault
 known None = Err UnknownWord
 known (Some x) = Ok x
 
--- what stands behind this word
+-- what follows this word, which must be the first token
 abbrev pub behind : List ℕ → List Token → Result (List Token) LineFault
 behind wanted rest = word_first rest >>= λ first. if bytes_eq first.0 wanted then Ok first.1 else Err UnknownWord
 
--- a label, padded
+-- a label, filled up with blanks; a text that is no name is no label
 abbrev pub as_label : Result (List ℕ) NameFault → Result (List ℕ) LineFault
 as_label (Ok label) = Ok label
 as_label (Err fault) = Err UnknownWord
@@ -94,45 +95,46 @@ label_in w =
     else if list_all (λ c. is_capital c || is_digit c) w then as_label (name_of 8 w)
     else Err UnknownWord
 
--- DEFINE, behind the word; what it defines is the first of its options
+-- DEFINE, from after the word; what it defines is the first of its options
 abbrev pub define : List Token → Result Line LineFault
 define rest =
     word_first rest >>= λ first. known (lookup first.0 define_objects) >>= λ object.
     options (form.Define object) rest >>= λ entries. definition_in object entries
 
--- LOAD, behind the word; what it loads is the first of its options
+-- LOAD, from after the word; what it loads is the first of its options
 abbrev pub load : List Token → Result Line LineFault
 load rest =
     word_first rest >>= λ first. known (lookup first.0 load_objects) >>= λ object.
     options (form.Load object) rest >>= λ entries. load_in object entries
 
--- ATTACH, behind the word
+-- ATTACH, from after the word
 abbrev pub attach : List Token → Result Line LineFault
 attach rest =
     word_first rest >>= λ first. label_in first.0 >>= λ label.
     options form.Attach first.1 >>= λ entries. attach_in label entries
 
--- the number in front, where a number has to stand
+-- the first token, which must be a number, and what follows it
 abbrev pub number_first : List Token → Result (ℕ × List Token) LineFault
 number_first [] = Err BadNumber
 number_first (number n ∷ rest) = Ok (n, rest)
 number_first (broken fault ∷ rest) = Err fault
 number_first (token ∷ rest) = Err BadNumber
 
--- CLOCK, behind the word; it has no options
+-- CLOCK, from after the word; it has no options
 abbrev pub clock : List Token → Result Line LineFault
 clock rest = number_first rest >>= λ first. options form.Clock first.1 >>= λ entries. Ok (line_of.Clock first.0)
 
--- SHUTDOWN, behind the word; it has no options
+-- SHUTDOWN, from after the word; it has no options
 abbrev pub shutdown : List Token → Result Line LineFault
 shutdown rest = behind (codes "IMMEDIATE") rest >>= λ rest. options form.Shutdown rest >>= λ entries. Ok line_of.Shutdown
 
--- the command that a verb and the word right behind it are, and what follows them; where they are none, that word follows the verb
+-- a command and what follows it: the one of the verb and the word `w`, or else that of the verb
+-- alone
 abbrev pub taken : Option CommandWord → CommandWord → List ℕ → List Token → CommandWord × List Token
 taken (Some command) verb w rest = (command, rest)
 taken None verb w rest = (verb, word w ∷ rest)
 
--- the command that a verb and what stands right behind it are, and what follows
+-- the command of a verb, with TS or TD if that follows it, and what follows them
 abbrev pub command_at : CommandWord → List Token → CommandWord × List Token
 command_at verb (word w ∷ rest) = taken (lookup w (queue_words verb)) verb w rest
 command_at verb rest = (verb, rest)
@@ -143,7 +145,7 @@ issued label command =
     options (form.Command command.0) command.1 >>= λ entries. verb_in command.0 entries >>= λ made.
     Ok (line_of.Issue label (record { verb = made; resp = is_handled entries }))
 
--- the verb in front, where one has to stand
+-- the first token, which must be a verb, and what follows it
 abbrev pub verb_first : List Token → Result (CommandWord × List Token) LineFault
 verb_first rest = word_first rest >>= λ first. known (lookup first.0 commands) >>= λ verb. Ok (verb, first.1)
 
@@ -155,7 +157,7 @@ command_line label rest = verb_first rest >>= λ found. issued label (command_at
 abbrev pub issue : List ℕ → List Token → Result Line LineFault
 issue label rest = behind (codes "EXEC") rest >>= λ rest. behind (codes "CICS") rest >>= λ rest. command_line label rest
 
--- the line that its first word begins
+-- the line that this first word begins
 abbrev pub begun : Option Start → List ℕ → List Token → Result Line LineFault
 begun (Some start.Define) first rest = define rest
 begun (Some start.Load) first rest = load rest
@@ -168,16 +170,16 @@ begun None first rest = label_in first >>= λ label. issue label rest
 abbrev pub statement : List Token → Result Line LineFault
 statement line = word_first line >>= λ first. begun (lookup first.0 starts) first.0 first.1
 
--- the bytes that a line may have: a tab, and the space and the printable characters of ASCII
+-- whether a line may have a byte: a tab or printable ASCII
 abbrev pub is_script_byte : ℕ → Bool
 is_script_byte c = (c == 9) || (nat_le 32 c && nat_le c 126)
 
--- no bytes, or a comment
+-- whether bytes are none, or begin a comment
 abbrev pub is_empty_or_comment : List ℕ → Bool
 is_empty_or_comment [] = true
 is_empty_or_comment (c ∷ bytes) = c == 42
 
--- what the bytes of a line say, without its line end
+-- what a line says, by its bytes without its end
 abbrev pub line : List ℕ → Result Line LineFault
 line bytes =
     if nat_lt 70000 (length bytes) then Err TooLong

@@ -1,4 +1,4 @@
--- What a literal says, and the record that it writes.
+-- What a literal says, and the record of it.
 use Rattle.std.specs.Prelude.{◌≡◌, ◌<◌, ◌&&◌, ℕ, Bool, not, List, [], map, length, Some, None, unwrap_or, is_some}
 use Rattle.cics_names.specs.Ebcdic.{code_of}
 use Rattle.cics_names.specs.Names.{blank}
@@ -10,7 +10,7 @@ use Rattle.cics_script.specs.declared.literals.Encoding.TheVariants.{AsWritten, 
 use Rattle.cics_script.specs.declared.literals.Piece.{Piece}
 use Rattle.cics_script.specs.declared.literals.Piece.TheVariants.{End, Byte, Bad}
 
--- what a literal says: nothing where there is none
+-- what a literal says; no bytes if there is none
 abbrev pub said : Text → List ℕ
 said None = []
 said (Some t) = t.0
@@ -29,21 +29,22 @@ abbrev pub encoded_text : Encoding → List ℕ → List ℕ
 encoded_text AsWritten text = text
 encoded_text Ebcdic text = map ebcdic text
 
--- the record that a literal writes: the codes of its characters, or its bytes
+-- the record that a literal says: the codes of its characters, or its bytes
 abbrev pub recorded : Notation → List ℕ → List ℕ
 recorded Quoted text = encoded_text Ebcdic text
 recorded Hexadecimal bytes = bytes
 
--- what stands first in the rest of a literal: its end, a byte and what follows it, or nothing of a literal
+-- what stands first in the rest of a literal: its last quote, a byte, or what no literal has. What
+-- follows the first two is shorter
 abbrev pub Begins : (List ℕ → Text) → List ℕ → Piece → Type 0
 Begins read bytes (End rest) = read bytes ≡ Some ([], rest.now)
 Begins read bytes (Byte byte rest) = (read bytes ≡ with_byte byte (read rest.now)) × (length rest.now < length bytes)
 Begins read bytes Bad = read bytes ≡ None
 
--- a character that stands for itself in a quoted literal: it has a code, and is no quote
+-- whether a character stands for itself in a quoted literal: it has a code, and is no quote
 abbrev pub is_plain : ℕ → Bool
 is_plain c = not (is_quote c) && is_some (code_of c)
 
--- a literal says these bytes
+-- what a literal says is this text
 abbrev pub IsWrittenAs : Notation → List ℕ → List ℕ → Type 0
 IsWrittenAs notation bytes text = said (text_in notation bytes) ≡ text

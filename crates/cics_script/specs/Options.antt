@@ -1,4 +1,5 @@
--- The options of a line, read from left to right: what stands next, and the first token that can't.
+-- The options of a line, read from left to right by a machine. Its state is a place and the options
+-- that were read. It moves by one token, or stops at a fault.
 use Rattle.std.specs.Prelude.{ℕ, if◌then◌else◌, List, [], ◌∷◌, ◌++◌, Option, None, Some, Result, Ok, Err}
 use Rattle.std.specs.List.{list_any}
 use Rattle.cics_names.specs.Names.{name_of}
@@ -15,7 +16,8 @@ use Rattle.cics_script.specs.Tokens.{Token, word, number, literal, opening, clos
 use Rattle.cics_script.specs.Literals.{recorded}
 use Rattle.cics_script.specs.Words.{lookup, option_words, same, kind_in, excludes}
 
--- what stood in an option's parentheses: a record, the padded bytes of a name, a number, or what has no effect
+-- what stood in an option's parentheses: a record, the padded bytes of a name, a number, or what
+-- has no effect
 pub data Content : Type 0 where
   text : List ℕ → Content
   name8 : List ℕ → Content
@@ -27,7 +29,8 @@ pub data Content : Type 0 where
 abbrev pub Entry : Type 0
 Entry = OptionWord × Content
 
--- what stands next: an option (behind one of this kind, or none), a part of an option's value, or nothing more
+-- what must stand next: an option (after one of this kind, or none), a part of an option's value,
+-- or nothing more
 pub data Place : Type 0 where
   at_option : Option Kind → Place
   at_opening : OptionWord → Kind → Place
@@ -40,18 +43,18 @@ abbrev pub fault_of : Kind → LineFault
 fault_of Number = BadNumber
 fault_of kind = BadLiteral
 
--- what a quoted literal says; no other token writes a name
+-- what a quoted literal says; any other token is no name
 abbrev pub quoted : Token → Result (List ℕ) LineFault
 quoted (broken fault) = Err fault
 quoted (literal Quoted t) = Ok t
 quoted token = Err BadLiteral
 
--- the name that a text is, or a bad literal
+-- a name, or BadLiteral if the text is none
 abbrev pub lawful : Result (List ℕ) NameFault → Result (List ℕ) LineFault
 lawful (Ok bytes) = Ok bytes
 lawful (Err fault) = Err BadLiteral
 
--- a token as a value of this kind; of an area only a number is kept
+-- a token as a value of this kind; an area keeps only a number
 abbrev pub content_in : Kind → Token → Result Content LineFault
 content_in kind (broken fault) = Err fault
 content_in Text (literal notation t) = Ok (text (recorded notation t))
@@ -63,12 +66,13 @@ content_in Area (number n) = Ok (amount n)
 content_in Area (word w) = Ok nothing
 content_in kind token = Err (fault_of kind)
 
--- a parenthesis where an option should stand: surplus behind a whole option, else no word
+-- the fault of a parenthesis where an option should stand: one too many after a whole option, or
+-- else no word
 abbrev pub surplus : Option Kind → LineFault
 surplus None = UnknownWord
 surplus (Some kind) = fault_of kind
 
--- an option may stand where the line has it, has it not yet, and has none that it excludes
+-- what an option takes, if the line has it, it wasn't read yet, and none was read that excludes it
 abbrev pub allowed : List Entry → OptionWord → Option Kind → Result Kind LineFault
 allowed found option None = Err OptionNotHere
 allowed found option (Some kind) =
@@ -76,13 +80,14 @@ allowed found option (Some kind) =
     else if list_any (λ entry. excludes entry.0 option) found then Err OptionNotHere
     else Ok kind
 
--- behind an option's word: a flag is whole, the last option ends the line, and any other option has its value to come
+-- after an option's word: a flag is whole, the last option ends the line, and a value must follow
+-- any other
 abbrev pub entered : OptionWord → List Entry → Kind → Place × List Entry
 entered option found Flag = (at_option (Some Flag), found ++ (option, nothing) ∷ [])
 entered option found Last = (at_end, found ++ (option, nothing) ∷ [])
 entered option found kind = (at_opening option kind, found)
 
--- an option's word: of no line, or what it takes in this line
+-- after a word where an option should stand
 abbrev pub named : Form → List Entry → Option OptionWord → Result (Place × List Entry) LineFault
 named form found None = Err UnknownWord
 named form found (Some option) = allowed found option (kind_in form option) >>= λ kind. Ok (entered option found kind)
@@ -101,7 +106,7 @@ moves form (at_closing option kind content) found closing = Ok (at_option (Some 
 moves form (at_closing option kind content) found token = Err (fault_of kind)
 moves form at_end found token = Err UnknownWord
 
--- the line's end: a token that is missing has the fault of a wrong one
+-- the line's end: a missing token has the fault of a wrong one
 abbrev pub ends : Place → List Entry → Result (List Entry) LineFault
 ends (at_option last) found = Ok found
 ends (at_opening option kind) found = Err (fault_of kind)
@@ -114,11 +119,11 @@ abbrev pub reads : Form → Place → List Entry → List Token → Result (List
 reads form place found [] = ends place found
 reads form place found (token ∷ tokens) = moves form place found token >>= λ next. reads form next.0 next.1 tokens
 
--- the place behind a whole option
+-- the place after a whole option
 abbrev pub behind_option : Kind → Place
 behind_option Last = at_end
 behind_option kind = at_option (Some kind)
 
--- the options of a line behind its fixed part
+-- the options of a line, from after its fixed part
 abbrev pub options : Form → List Token → Result (List Entry) LineFault
 options form tokens = reads form (at_option None) [] tokens

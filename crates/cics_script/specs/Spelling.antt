@@ -22,7 +22,7 @@ use Rattle.cics_script.specs.Commands.{is_handled}
 use Rattle.cics_script.specs.Layout.{IsWritable}
 use lib.Chars.{codes}
 
--- the word of a command, behind which TS or TD stands where it acts on a queue
+-- the word of a command; TS or TD follows it if the command acts on a queue
 abbrev pub command_word : CommandWord → List ℕ
 command_word command.Read = codes "READ"
 command_word command.Write = codes "WRITE"
@@ -46,7 +46,7 @@ command_word command.Syncpoint = codes "SYNCPOINT"
 command_word command.Return = codes "RETURN"
 command_word command.Abend = codes "ABEND"
 
--- an option as it is written: its word, and a token in parentheses where it has a value
+-- an option as it is written: its word, and a token in parentheses if it has a value
 pub record Written : Type 0 where
   pub option : OptionWord
   pub value : Option Token
@@ -66,7 +66,7 @@ is_bare Flag = true
 is_bare Last = true
 is_bare kind = false
 
--- an option that stands alone gives nothing, and any other has a token that is a value of its kind
+-- an option that stands alone gives nothing. Any other has a token that is a value of its kind
 abbrev pub IsValue : Kind → Option Token → Content → Type 0
 IsValue kind None content = (is_bare kind ≡ true) × (nothing ≡ content)
 IsValue kind (Some value) content = content_in kind value ≡ Ok content
@@ -76,12 +76,12 @@ abbrev pub MayPrecede : Kind → List Written → Type 0
 MayPrecede Last (other ∷ others) = ⊥
 MayPrecede kind others = Unit {0}
 
--- an option that the line has, with its value, before these others
+-- the line has the option, this is its value, and it may stand before these others
 abbrev pub IsWritten : Option Kind → Option Token → Content → List Written → Type 0
 IsWritten None value content others = ⊥
 IsWritten (Some kind) value content others = IsValue kind value content × MayPrecede kind others
 
--- options of the line as they are written, and what each gives
+-- these are options of the line as they are written, and what each gives
 abbrev pub AreOptions : Form → List Written → List Entry → Type 0
 AreOptions form [] [] = Unit {0}
 AreOptions form [] (entry ∷ entries) = ⊥
@@ -94,12 +94,12 @@ abbrev pub AreApart : List Entry → Type 0
 AreApart [] = Unit {0}
 AreApart (entry ∷ entries) = (list_any (λ later. same entry.0 later.0 || excludes entry.0 later.0) entries ≡ false) × AreApart entries
 
--- an option stands among others, in any place
+-- an option stands anywhere among others
 abbrev pub Stands : Entry → List Entry → Type 0
 Stands option [] = ⊥
 Stands option (entry ∷ entries) = (option ≡ entry) ⊎ Stands option entries
 
--- an option stands among others with what it is to give, or doesn't stand there
+-- an option stands among others and gives this, or it doesn't stand there
 abbrev pub Gives : OptionWord → Option Content → List Entry → Type 0
 Gives option None entries = has option entries ≡ false
 Gives option (Some content) entries = Stands (option, content) entries
@@ -109,12 +109,12 @@ abbrev pub flag : Bool → Option Content
 flag true = Some nothing
 flag false = None
 
--- REWRITE, and ITEM with the number of the item that is replaced, where one is
+-- REWRITE, and ITEM with the number of the item that is replaced, if there is one
 abbrev pub replacing : Option ℕ → List (OptionWord × Option Content)
 replacing None = (Rewrite, None) ∷ []
 replacing (Some item) = (Rewrite, Some nothing) ∷ (Item, Some (amount item)) ∷ []
 
--- the options that determine a command: required ones with their content, inapplicable ones absent
+-- the options that determine a command: what each must give, or None if it must be absent
 abbrev pub options_of : Verb → List (OptionWord × Option Content)
 options_of (verb.Read file ridfld key_length length generic gteq update) =
     (File, Some (name8 file)) ∷ (Ridfld, Some (text ridfld)) ∷ (KeyLength, option_map amount key_length) ∷ (Length, option_map amount length)
@@ -154,7 +154,8 @@ options_of verb.Rollback = (Rollback, Some nothing) ∷ []
 options_of verb.Return = []
 options_of (verb.Abend code) = (AbCode, option_map name4 code) ∷ []
 
--- the word of a command, where the grammar has one: DELETE takes KEYLENGTH and GENERIC with RIDFLD only
+-- the word of a command, or None if no line says the command: DELETE takes KEYLENGTH and GENERIC
+-- only with RIDFLD
 abbrev pub word_of : Verb → Option CommandWord
 word_of (verb.Read file ridfld key_length length generic gteq update) = Some command.Read
 word_of (verb.Write file ridfld key_length from length) = Some command.Write
@@ -182,16 +183,17 @@ word_of verb.Rollback = Some command.Syncpoint
 word_of verb.Return = Some command.Return
 word_of (verb.Abend code) = Some command.Abend
 
--- each of these options is there with what it is to give, or left out
+-- each of these options stands there and gives what it must, or is absent if it must be
 abbrev pub AllGiven : List (OptionWord × Option Content) → List Entry → Type 0
 AllGiven [] entries = Unit {0}
 AllGiven (option ∷ options) entries = Gives option.0 option.1 entries × AllGiven options entries
 
--- the options of a command say it: those that make it what it is are there, and RESP or NOHANDLE where its conditions are handled
+-- these options say a command: those that determine it are as they must be, and RESP or NOHANDLE is
+-- there exactly if its conditions are handled
 abbrev pub Says : Command → List Entry → Type 0
 Says command entries = AllGiven (options_of command.verb) entries × (is_handled entries ≡ command.resp)
 
--- what is written right behind the word of a command on a queue: TS or TD, of which TS may be left out
+-- what is written right after the word of a command on a queue: TD, or TS, which may be left out
 abbrev pub queue_tokens : CommandWord → Bool → List Token
 queue_tokens command.WriteqTs left_out = if left_out then [] else word (codes "TS") ∷ []
 queue_tokens command.ReadqTs left_out = if left_out then [] else word (codes "TS") ∷ []
@@ -201,7 +203,7 @@ queue_tokens command.ReadqTd left_out = word (codes "TD") ∷ []
 queue_tokens command.DeleteqTd left_out = word (codes "TD") ∷ []
 queue_tokens first left_out = []
 
--- the tokens of a command: its word, TS or TD where it acts on a queue, and its options
+-- the tokens of a command: its word, TS or TD if it acts on a queue, and its options
 abbrev pub verb_tokens : CommandWord → Bool → List Written → List Token
 verb_tokens first left_out options = word (command_word first) ∷ (queue_tokens first left_out ++ flat_map option_tokens options)
 
@@ -210,16 +212,16 @@ abbrev pub command_tokens : List ℕ → CommandWord → Bool → List Written �
 command_tokens label first left_out options =
     word label ∷ word (codes "EXEC") ∷ word (codes "CICS") ∷ verb_tokens first left_out options
 
--- options whose values can be written
+-- the values of all options can be written
 abbrev pub AreWritten : List Written → Type 0
 AreWritten [] = Unit {0}
 AreWritten (option ∷ options) = IfSome option.value IsWritable × AreWritten options
 
--- a name that a text writes
+-- a name that some text is
 abbrev pub IsName : ℕ → List ℕ → Type 0
 IsName width name = (said : List ℕ) × (name_of width said ≡ Ok name)
 
--- what an option can give: a record of bytes, a name, or a number of 64 bits
+-- an option can give this: a record of bytes, a name, or a number of 64 bits
 abbrev pub CanBeGiven : Content → Type 0
 CanBeGiven (text bytes) = IsTrue (list_all (λ byte. nat_lt byte 256) bytes)
 CanBeGiven (name8 name) = IsName 8 name
@@ -227,25 +229,26 @@ CanBeGiven (name4 name) = IsName 4 name
 CanBeGiven (amount n) = n < 2 ^ 64
 CanBeGiven nothing = Unit {0}
 
--- options of which each can give what it is to give
+-- all options can give what they must
 abbrev pub AllCanBeGiven : List (OptionWord × Option Content) → Type 0
 AllCanBeGiven [] = Unit {0}
 AllCanBeGiven (option ∷ options) = IfSome option.1 CanBeGiven × AllCanBeGiven options
 
--- options that go together: UPDATE with neither GENERIC nor GTEQ, and KEYLENGTH and GENERIC of DELETE with RIDFLD only
+-- whether a command's options go together: READ has UPDATE with neither GENERIC nor GTEQ, DELETE
+-- has KEYLENGTH and GENERIC only with RIDFLD
 abbrev pub go_together : Verb → Bool
 go_together (verb.Read file ridfld key_length length generic gteq update) = not (update && (generic || gteq))
 go_together (verb.Delete file None key_length generic) = not (is_some key_length || generic)
 go_together _ = true
 
--- options, as they are written and as they are read, that say a command behind its word
+-- options, as they are written and as they are read, say a command after its word
 pub record Spells (asked : Command) (first : CommandWord) (written : List Written) (entries : List Entry) : Type 0 where
   pub word : word_of asked.verb ≡ Some first
   pub are_options : AreOptions (form.Command first) written entries
   pub are_apart : AreApart entries
   pub says : Says asked entries
 
--- options that say a command, and that can be written
+-- options that say a command and can be written
 pub record Spelling (asked : Command) : Type 0 where
   pub first : CommandWord
   pub options : List Written

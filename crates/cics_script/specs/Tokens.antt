@@ -1,4 +1,5 @@
--- The tokens of a line, from left to right. A broken one is the last.
+-- The tokens of a line, from left to right. The last one may be broken: what can't be read as a
+-- token.
 use Rattle.std.specs.Prelude.{ℕ, zero, suc, Bool, true, false, ◌+◌, ◌*◌, ◌-◌, ◌^◌, ◌==◌, ◌&&◌, ◌||◌, nat_le, nat_lt, if◌then◌else◌, List, [], ◌∷◌, map, length, take, drop, Option, Some, None, is_some}
 use Rattle.std.specs.List.{fold, prefix_len}
 use Rattle.cics_names.specs.Ebcdic.{code_of}
@@ -7,7 +8,8 @@ use Rattle.cics_script.specs.declared.faults.LineFault.TheVariants.{UnknownWord,
 use Rattle.cics_script.specs.declared.literals.Notation.{Notation}
 use Rattle.cics_script.specs.declared.literals.Notation.TheVariants.{Quoted, Hexadecimal}
 
--- a word in capitals, a number, a literal (the characters of a quoted one, the bytes of a hexadecimal one), a parenthesis, or a fault
+-- a word in capitals, a number, a literal (its characters if it is quoted, its bytes if it is
+-- hexadecimal), a parenthesis, or a fault
 pub data Token : Type 0 where
   word : List ℕ → Token
   number : ℕ → Token
@@ -40,15 +42,15 @@ is_small c = nat_le 97 c && nat_le c 122
 abbrev pub is_letter : ℕ → Bool
 is_letter c = is_capital c || is_small c
 
--- what a word may have behind its first letter: letters, digits and hyphens
+-- what a word may have after its first letter: letters, digits and hyphens
 abbrev pub is_word_byte : ℕ → Bool
 is_word_byte c = is_letter c || is_digit c || (c == 45)
 
--- small letters count as capitals
+-- the capital of a small letter, and any other byte as it is
 abbrev pub capital : ℕ → ℕ
 capital c = if is_small c then c - 32 else c
 
--- the bytes behind the blanks in front
+-- the bytes after the blanks at the start
 abbrev pub after_blanks : List ℕ → List ℕ
 after_blanks bytes = drop (prefix_len is_blank bytes) bytes
 
@@ -56,16 +58,17 @@ after_blanks bytes = drop (prefix_len is_blank bytes) bytes
 abbrev pub value_of : List ℕ → ℕ
 value_of digits = fold (λ n d. n * 10 + (d - 48)) 0 digits
 
--- what a literal says, and the bytes behind its last quote; nothing where the bytes are no literal
+-- what a literal says, and the bytes after its last quote; None if the bytes are no literal
 abbrev pub Text : Type 0
 Text = Option (List ℕ × List ℕ)
 
--- a text with one byte in front
+-- a text with one byte more at its start
 abbrev pub with_byte : ℕ → Text → Text
 with_byte c None = None
 with_byte c (Some t) = Some (c ∷ t.0, t.1)
 
--- characters up to a quote, two quotes for one, each one of those that EBCDIC has; the test says that the byte before was a quote
+-- characters up to a quote, where two quotes stand for one. Each has an EBCDIC code. The test says
+-- whether the byte before was a quote
 abbrev pub characters_from : Bool → List ℕ → Text
 characters_from false [] = None
 characters_from true [] = Some ([], [])
@@ -83,7 +86,7 @@ hex_value c =
     else if nat_le 97 c && nat_le c 102 then Some (c - 87)
     else None
 
--- a text with the byte that two digits make in front
+-- a text with the byte that two digits make at its start
 abbrev pub with_pair : Option ℕ → Option ℕ → Text → Text
 with_pair None low t = None
 with_pair (Some high) None t = None
@@ -95,35 +98,35 @@ digit_pairs [] = None
 digit_pairs (c ∷ []) = if is_quote c then Some ([], []) else None
 digit_pairs (c ∷ d ∷ bytes) = if is_quote c then Some ([], d ∷ bytes) else with_pair (hex_value c) (hex_value d) (digit_pairs bytes)
 
--- a literal behind its first quote
+-- a literal, from after its first quote
 abbrev pub text_in : Notation → List ℕ → Text
 text_in Quoted bytes = characters_from false bytes
 text_in Hexadecimal bytes = digit_pairs bytes
 
--- a literal as a token, and the bytes behind it
+-- a literal as a token, and the bytes after it
 abbrev pub as_literal : Notation → Text → Token × List ℕ
 as_literal notation None = (broken BadLiteral, [])
 as_literal notation (Some t) = (literal notation t.0, t.1)
 
--- the bytes behind X and a quote
+-- the bytes after X and a quote, if they begin so
 abbrev pub behind_x : List ℕ → Option (List ℕ)
 behind_x [] = None
 behind_x (c ∷ []) = None
 behind_x (c ∷ d ∷ bytes) = if (capital c == 88) && is_quote d then Some bytes else None
 
--- a word, as long as it can be, and the bytes behind it
+-- a word, as long as it can be, and the bytes after it
 abbrev pub word_at : List ℕ → Token × List ℕ
 word_at bytes = (word (map capital (take (prefix_len is_word_byte bytes) bytes)), drop (prefix_len is_word_byte bytes) bytes)
 
--- a number as a token, where 64 bits hold it
+-- a number as a token, broken if 64 bits don't hold it
 abbrev pub as_number : ℕ → List ℕ → Token × List ℕ
 as_number n rest = if nat_lt n (2 ^ 64) then (number n, rest) else (broken BadNumber, [])
 
--- a number, as long as it can be, and the bytes behind it
+-- a number, as long as it can be, and the bytes after it
 abbrev pub number_at : List ℕ → Token × List ℕ
 number_at bytes = as_number (value_of (take (prefix_len is_digit bytes) bytes)) (drop (prefix_len is_digit bytes) bytes)
 
--- a token that is no hexadecimal literal, and the bytes behind it
+-- a token that is no hexadecimal literal, and the bytes after it
 abbrev pub plain_at : ℕ → List ℕ → Token × List ℕ
 plain_at c bytes =
     if is_letter c then word_at (c ∷ bytes)
@@ -138,12 +141,12 @@ abbrev pub hexadecimal_or : Option (List ℕ) → Token × List ℕ → Token ×
 hexadecimal_or None other = other
 hexadecimal_or (Some digits) other = as_literal Hexadecimal (text_in Hexadecimal digits)
 
--- the token in front, and the bytes behind it
+-- the first token, and the bytes after it
 abbrev pub token_at : List ℕ → Token × List ℕ
 token_at [] = (broken UnknownWord, [])
 token_at (c ∷ bytes) = hexadecimal_or (behind_x (c ∷ bytes)) (plain_at c bytes)
 
--- at most so many tokens, where the bytes have no blank in front
+-- at most so many tokens of bytes that begin with no blank
 abbrev pub tokens_in : ℕ → List ℕ → List Token
 tokens_in zero bytes = []
 tokens_in (suc n) [] = []

@@ -1,4 +1,5 @@
--- What a reading of the program says in the words of the grammar.
+-- What a call of the code returned, in the words of the grammar: the code reads bytes, the grammar
+-- reads their tokens. Ok is what the grammar reads. Err is its fault, unless memory was refused.
 use Rattle.std.specs.Prelude.{◌≡◌, ◌<◌, ◌≤◌, ℕ, List, [], ◌∷◌, ◌++◌, map, length, Option, None, Some, Result, Ok, Err}
 use Rattle.std.specs.Borrow.{Bor}
 use Rattle.std.specs.Cow.{cow_slice_items}
@@ -22,7 +23,7 @@ use Rattle.cics_script.specs.Tokens.{Token, word, number, literal, opening, clos
 use Rattle.cics_script.specs.Words.{lookup}
 use Rattle.cics_script.specs.Options.{Content, text, name8, name4, amount, nothing, Entry, Place, at_option, at_opening, at_value, at_closing, at_end, behind_option, reads}
 
--- a token that lies in its line
+-- a token of the code, which is borrowed from its line
 abbrev pub view : made.Token → Token
 view (token.Word w) = word (map capital w.now)
 view (token.Number n) = number n
@@ -30,46 +31,46 @@ view (token.Literal l) = literal l.notation (said (text_in l.notation l.behind_q
 view token.Opening = opening
 view token.Closing = closing
 
--- what reading the token in front gave, and the bytes behind it
+-- the first token was read, or is broken; and the bytes after it
 abbrev pub GivesToken : Result (made.Token × Bor (List ℕ)) LineFault → Token × List ℕ → Type 0
 GivesToken (Ok found) front = front ≡ (view found.0, found.1.now)
 GivesToken (Err fault) front = front ≡ (broken fault, [])
 
--- what reading the next token gave
+-- the next token was read and bytes were taken, or there is none, or it is broken
 abbrev pub Takes : List ℕ → Result (Option (made.Token × Bor (List ℕ))) LineFault → Type 0
 Takes bytes (Ok None) = tokens bytes ≡ []
 Takes bytes (Ok (Some found)) = (tokens bytes ≡ view found.0 ∷ tokens found.1.now) × (length found.1.now < length bytes)
 Takes bytes (Err fault) = tokens bytes ≡ broken fault ∷ []
 
--- bytes that begin with this word, and those behind it
+-- the bytes begin with this word, and these are the bytes after it
 abbrev pub StartsWith : List ℕ → List ℕ → List ℕ → Type 0
 StartsWith w bytes rest = (tokens bytes ≡ word w ∷ tokens rest) × (length rest < length bytes)
 
--- bytes that begin with a word for which a table has this, and those behind it
+-- the bytes begin with a word for which a table has this, and these are the bytes after it
 abbrev pub IsNamed : {X : Type 0} → List (List ℕ × X) → X → List ℕ → List ℕ → Type 0
 IsNamed rows x bytes rest = (w : List ℕ) × (lookup w rows ≡ Some x) × StartsWith w bytes rest
 
--- what reading a word and what follows it gave
+-- a word was read, with the bytes after it
 abbrev pub GivesWord : Result (List ℕ × List Token) LineFault → Result (Bor (List ℕ) × Bor (List ℕ)) LineFault → Type 0
 GivesWord read (Ok found) = read ≡ Ok (map capital found.0.now, tokens found.1.now)
 GivesWord read (Err fault) = read ≡ Err fault
 
--- what reading a verb and what follows it gave
+-- a verb was read, with the bytes after it
 abbrev pub GivesVerb : Result (CommandWord × List Token) LineFault → Result (CommandWord × Bor (List ℕ)) LineFault → Type 0
 GivesVerb read (Ok found) = read ≡ Ok (found.0, tokens found.1.now)
 GivesVerb read (Err fault) = read ≡ Err fault
 
--- what reading a number and what follows it gave
+-- a number was read, with the bytes after it
 abbrev pub GivesNumber : Result (ℕ × List Token) LineFault → Result (ℕ × Bor (List ℕ)) LineFault → Type 0
 GivesNumber read (Ok found) = read ≡ Ok (found.0, tokens found.1.now)
 GivesNumber read (Err fault) = read ≡ Err fault
 
--- what reading a word that has to stand there gave
+-- a word that must stand there was read: the bytes after it
 abbrev pub GivesRest : Result (List Token) LineFault → Result (Bor (List ℕ)) LineFault → Type 0
 GivesRest read (Ok rest) = read ≡ Ok (tokens rest.now)
 GivesRest read (Err fault) = read ≡ Err fault
 
--- an option's value
+-- the content of an option's value
 abbrev pub content : Value → Content
 content (value.Text l) = text (recorded l.notation (said (text_in l.notation l.behind_quote.now)))
 content (value.Name8 n) = name8 n
@@ -77,42 +78,43 @@ content (value.Name4 n) = name4 n
 content (value.Number n) = amount n
 content value.Nothing = nothing
 
--- the options that were read
+-- the options that were read, with their contents
 abbrev pub entries : List Found → List Entry
 entries found = map (λ one. (one.option, content one.value)) found
 
--- what reading a text gave
+-- a text was read
 abbrev pub GivesText : Result (List ℕ) LineFault → Result (CowSlice ℕ Global) LineFault → Type 0
 GivesText read (Ok made) = read ≡ Ok (cow_slice_items made)
 GivesText read (Err fault) = Refuses read fault
 
--- what reading a name gave
+-- a name was read
 abbrev pub GivesName : (List ℕ → Content) → Result Content LineFault → Result (List ℕ) LineFault → Type 0
 GivesName made read (Ok name) = read ≡ Ok (made name)
 GivesName made read (Err fault) = Refuses read fault
 
--- what reading a value gave
+-- a value was read
 abbrev pub GivesContent : Result Content LineFault → Result Value LineFault → Type 0
 GivesContent read (Ok value) = read ≡ Ok (content value)
 GivesContent read (Err fault) = Refuses read fault
 
--- what a step of the options gave: a place further on, with the same reading from there, or the reading's fault
+-- a step was made, to a place, options and bytes from which the grammar reads the same as before
+-- the step; or its fault was returned
 abbrev pub Steps : {X : Type 0} → Form → List Entry → Place → List ℕ → (X → Place × List Entry × List ℕ) → Result X LineFault → Type 0
 Steps form found place bytes after (Ok x) =
     (reads form place found (tokens bytes) ≡ reads form (after x).0 (after x).1 (tokens (after x).2)) × (length (after x).2 < length bytes)
 Steps form found place bytes after (Err fault) = Refuses (reads form place found (tokens bytes)) fault
 
--- what reading an opening parenthesis gave, whichever option it belongs to
+-- an opening parenthesis was read, whichever option it belongs to
 abbrev pub Opens : Kind → List ℕ → Result (Bor (List ℕ)) LineFault → Type 0
 Opens kind bytes result = (f : Form) (found : List Entry) (w : OptionWord)
     → Steps f found (at_opening w kind) bytes (λ rest. (at_value w kind, found, rest.now)) result
 
--- what reading the token that stands as a value gave, whichever option it belongs to
+-- the token that stands as a value was read, whichever option it belongs to
 abbrev pub GivesValue : Kind → List ℕ → Result (made.Token × Bor (List ℕ)) LineFault → Type 0
 GivesValue kind bytes (Ok found) = (tokens bytes ≡ view found.0 ∷ tokens found.1.now) × (length found.1.now < length bytes)
 GivesValue kind bytes (Err fault) = (f : Form) (found : List Entry) (w : OptionWord) → reads f (at_value w kind) found (tokens bytes) ≡ Err fault
 
--- what reading the content of parentheses gave, with the option put behind others
+-- the content of parentheses was read, and the option added after the others
 abbrev pub Fills : Kind → OptionWord → List Entry → List Entry → List ℕ → Result (Bor (List ℕ)) LineFault → Type 0
 Fills kind option before after bytes (Ok rest) =
     (c : Content) × (after ≡ before ++ (option, c) ∷ [])
@@ -120,34 +122,35 @@ Fills kind option before after bytes (Ok rest) =
     × (length rest.now < length bytes)
 Fills kind option before after bytes (Err fault) = (f : Form) → Refuses (reads f (at_value option kind) before (tokens bytes)) fault
 
--- what reading a closing parenthesis gave, behind whatever content
+-- a closing parenthesis was read, after whatever content
 abbrev pub Shuts : Kind → List ℕ → Result (Bor (List ℕ)) LineFault → Type 0
 Shuts kind bytes result = (f : Form) (found : List Entry) (w : OptionWord) (c : Content)
     → Steps f found (at_closing w kind c) bytes (λ rest. (at_option (Some kind), found ++ (w, c) ∷ [], rest.now)) result
 
--- what reading a value with its parentheses gave, with the option put behind others
+-- a value in parentheses was read, and the option added after the others
 abbrev pub HasValue : Kind → OptionWord → List Entry → List Entry → List ℕ → Result (Bor (List ℕ)) LineFault → Type 0
 HasValue kind option before after bytes result = (f : Form)
     → Steps f before (at_opening option kind) bytes (λ rest. (at_option (Some kind), after, rest.now)) result
 
--- what reading an option behind its word gave, with the option put behind others
+-- an option was read from after its word, and added after the others
 abbrev pub Enters : Form → Option Kind → List Entry → List Entry → List ℕ → List ℕ → Result Next LineFault → Type 0
 Enters form last before after w bytes (Ok next) =
     (reads form (at_option last) before (word w ∷ tokens bytes) ≡ reads form (behind_option next.kind) after (tokens next.rest.now))
     × (length next.rest.now ≤ length bytes)
 Enters form last before after w bytes (Err fault) = Refuses (reads form (at_option last) before (word w ∷ tokens bytes)) fault
 
--- what looking for the line's end gave
+-- the line ends here, or a fault was returned
 abbrev pub Ends : List ℕ → Result Unit LineFault → Type 0
 Ends bytes (Ok end) = (form : Form) (found : List Entry) → reads form at_end found (tokens bytes) ≡ Ok found
 Ends bytes (Err fault) = (form : Form) (found : List Entry) → Refuses (reads form at_end found (tokens bytes)) fault
 
--- what reading all options gave
+-- all options were read
 abbrev pub GivesEntries : Result (List Entry) LineFault → Result (ArrayVec Found) LineFault → Type 0
 GivesEntries read (Ok found) = read ≡ Ok (entries found.items)
 GivesEntries read (Err fault) = Refuses read fault
 
--- what cutting off the token in front of these bytes gave: its bytes, which are the same token if a blank stands right behind them, and the bytes behind it; nothing if it is broken
+-- the first token was cut off: its bytes, which are the same token if a space follows them, and the
+-- bytes after it; or it is broken
 abbrev pub CutsOff : List ℕ → Option (Bor (List ℕ) × Bor (List ℕ)) → Type 0
 CutsOff bytes None = (fault : LineFault) × (token_at bytes ≡ (broken fault, []))
 CutsOff bytes (Some found) =

@@ -1,4 +1,4 @@
--- The words of the grammar: which word begins which line, and what each line and command takes.
+-- The grammar as tables: which word begins which line, and which options each line takes.
 use Rattle.std.specs.Prelude.{ℕ, Bool, ◌==◌, ◌||◌, if◌then◌else◌, List, [], ◌∷◌, Option, Some, None}
 use Rattle.std.specs.List.{list_any}
 use Rattle.std.specs.Str.{bytes_eq}
@@ -39,7 +39,7 @@ define_objects =
 abbrev pub load_objects : List (List ℕ × LoadObject)
 load_objects = (codes "FILE", loaded.File) ∷ (codes "DATASET", loaded.File) ∷ (codes "TDQUEUE", loaded.TdQueue) ∷ []
 
--- the verbs; one that acts on a queue is of temporary storage where no other word says which
+-- the verbs; one that acts on a queue is of temporary storage if neither TS nor TD follows it
 abbrev pub commands : List (List ℕ × CommandWord)
 commands =
     (codes "READ", command.Read) ∷ (codes "WRITE", command.Write) ∷ (codes "REWRITE", command.Rewrite)
@@ -49,7 +49,7 @@ commands =
     ∷ (codes "READQ", command.ReadqTs) ∷ (codes "DELETEQ", command.DeleteqTs) ∷ (codes "ENQ", command.Enq)
     ∷ (codes "DEQ", command.Deq) ∷ (codes "SYNCPOINT", command.Syncpoint) ∷ (codes "ABEND", command.Abend) ∷ []
 
--- what a verb is with one of the words that may stand right behind it: TS or TD behind one that acts on a queue
+-- the command of a verb and the word right after it: TS or TD, if the verb acts on a queue
 abbrev pub queue_words : CommandWord → List (List ℕ × CommandWord)
 queue_words command.WriteqTs = (codes "TS", command.WriteqTs) ∷ (codes "TD", command.WriteqTd) ∷ []
 queue_words command.ReadqTs = (codes "TS", command.ReadqTs) ∷ (codes "TD", command.ReadqTd) ∷ []
@@ -72,7 +72,7 @@ option_words =
     ∷ (codes "CANCEL", Cancel) ∷ (codes "NODUMP", NoDump) ∷ (codes "RESP", Resp)
     ∷ (codes "RESP2", Resp2) ∷ (codes "NOHANDLE", NoHandle) ∷ (codes "END-EXEC", EndExec) ∷ []
 
--- the place of an option among the options
+-- the number of an option, by which options are compared
 abbrev pub place : OptionWord → ℕ
 place File = 0
 place TsPrefix = 1
@@ -117,16 +117,16 @@ place EndExec = 37
 abbrev pub same : OptionWord → OptionWord → Bool
 same first second = place first == place second
 
--- the word of an option, by these rows: the first
+-- the first word that these rows have for an option
 abbrev pub word_among : OptionWord → List (List ℕ × OptionWord) → List ℕ
 word_among option [] = []
 word_among option (row ∷ rows) = if same row.1 option then row.0 else word_among option rows
 
--- the word of an option: of FILE and DATASET the first
+-- the word of an option, FILE rather than DATASET
 abbrev pub option_word : OptionWord → List ℕ
 option_word option = word_among option option_words
 
--- what a command has besides the options of every command
+-- the options of a command, but for those of every command
 abbrev pub options_of_command : CommandWord → List OptionWord
 options_of_command command.Read = File ∷ Ridfld ∷ KeyLength ∷ Length ∷ Into ∷ Generic ∷ Equal ∷ Gteq ∷ Update ∷ []
 options_of_command command.Write = File ∷ Ridfld ∷ From ∷ Length ∷ KeyLength ∷ []
@@ -150,7 +150,7 @@ options_of_command command.Syncpoint = Rollback ∷ []
 options_of_command command.Return = []
 options_of_command command.Abend = AbCode ∷ Cancel ∷ NoDump ∷ []
 
--- the options of a line, without those of every command
+-- the options of a line, but for those of every command
 abbrev pub own_options : Form → List OptionWord
 own_options (form.Define defined.File) = File ∷ KeyLength ∷ KeyOffset ∷ RecordSize ∷ Recoverable ∷ Unrecoverable ∷ []
 own_options (form.Define defined.TsPrefix) = TsPrefix ∷ []
@@ -162,7 +162,7 @@ own_options form.Clock = []
 own_options form.Shutdown = []
 own_options (form.Command verb) = options_of_command verb
 
--- the options of every command
+-- the options of every command, or none for another line
 abbrev pub shared_options : Form → List OptionWord
 shared_options (form.Command verb) = Resp ∷ Resp2 ∷ NoHandle ∷ EndExec ∷ []
 shared_options line = []
@@ -195,8 +195,8 @@ usual_kind option = Flag
 abbrev pub kind_but : OptionWord → Kind → OptionWord → Kind
 kind_but other kind option = if same option other then kind else usual_kind option
 
--- what an option of a line takes. Exceptions: RIDFLD of READNEXT and READPREV, and ITEM of WRITEQ TS, are areas;
--- QUEUE of TD is a name of four bytes
+-- what an option of a line takes. Exceptions: RIDFLD of READNEXT and READPREV, and ITEM of WRITEQ
+-- TS, are areas. QUEUE of TD is a name of four bytes
 abbrev pub kind_at : Form → OptionWord → Kind
 kind_at (form.Command command.ReadNext) option = kind_but Ridfld Area option
 kind_at (form.Command command.ReadPrev) option = kind_but Ridfld Area option
@@ -206,13 +206,13 @@ kind_at (form.Command command.ReadqTd) option = kind_but Queue Name4 option
 kind_at (form.Command command.DeleteqTd) option = kind_but Queue Name4 option
 kind_at line option = usual_kind option
 
--- what an option of a line takes, or nothing if the line has no such option. Three tables join here: `own_options`,
--- `shared_options` and `kind_at`
+-- what an option of a line takes, or None if the line has no such option. Three tables join here:
+-- `own_options`, `shared_options` and `kind_at`
 abbrev pub kind_in : Form → OptionWord → Option Kind
 kind_in line option =
     if list_any (same option) (own_options line) || list_any (same option) (shared_options line) then Some (kind_at line option) else None
 
--- the options that one line can't have beside this one
+-- the options that a line can't have beside this one
 abbrev pub excluded_by : OptionWord → List OptionWord
 excluded_by Recoverable = Unrecoverable ∷ []
 excluded_by Unrecoverable = Recoverable ∷ []

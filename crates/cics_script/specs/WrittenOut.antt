@@ -1,4 +1,4 @@
--- A command written out as the bytes of a line.
+-- A command as the bytes of a line.
 use Rattle.std.specs.Prelude.{ℕ, Option, None, Some, option_map, List, [], ◌∷◌, ◌++◌}
 use Rattle.std.specs.List.{flat_map}
 use Rattle.std.specs.Fmt.{decimal}
@@ -17,7 +17,7 @@ use lib.Chars.{codes}
 abbrev pub in_parentheses : List ℕ → List ℕ
 in_parentheses value = codes "(" ++ (value ++ codes ")")
 
--- what an option gives: a record as it is printed, a name without the blanks that fill it up, a number; a flag gives nothing
+-- what an option gives, in parentheses; a flag has none
 abbrev pub value_text : Content → List ℕ
 value_text (text bytes) = in_parentheses (text_of bytes)
 value_text (name8 name) = in_parentheses (name_text name)
@@ -25,12 +25,12 @@ value_text (name4 name) = in_parentheses (name_text name)
 value_text (amount n) = in_parentheses (decimal n)
 value_text nothing = []
 
--- an option behind a blank, with what it gives; nothing where it is to be left out
+-- a space, an option and what it gives; no bytes if it is absent
 abbrev pub option_text : OptionWord × Option Content → List ℕ
 option_text (option, None) = []
 option_text (option, Some content) = codes " " ++ (option_word option ++ value_text content)
 
--- TS or TD behind the word of a command that acts on a queue
+-- a space and TS or TD, if a command acts on a queue
 abbrev pub queue_text : CommandWord → List ℕ
 queue_text command.WriteqTs = codes " TS"
 queue_text command.ReadqTs = codes " TS"
@@ -40,19 +40,19 @@ queue_text command.ReadqTd = codes " TD"
 queue_text command.DeleteqTd = codes " TD"
 queue_text first = []
 
--- the word of a command, with TS or TD where it acts on a queue
+-- the word of a command, with TS or TD if it acts on a queue
 abbrev pub command_text : CommandWord → List ℕ
 command_text first = command_word first ++ queue_text first
 
--- the options of a command, with NOHANDLE where its conditions are handled
+-- the options of a command, with NOHANDLE if its conditions are handled
 abbrev pub asked_of : Command → List (OptionWord × Option Content)
 asked_of asked = (NoHandle, flag asked.resp) ∷ options_of asked.verb
 
--- a line of these words with these options; nothing without a word
+-- a line of a label, words and options; no bytes if there are no words
 abbrev pub written_with : List ℕ → List ℕ → Option (List ℕ) → List ℕ
 written_with label options None = []
 written_with label options (Some words) = label ++ (codes " EXEC CICS " ++ (words ++ options))
 
--- the bytes of a command's line; nothing where no line says the command
+-- the bytes of a command's line; none if no line says the command
 abbrev pub written_out : List ℕ → Command → List ℕ
 written_out label asked = written_with label (flat_map option_text (asked_of asked)) (option_map command_text (word_of asked.verb))

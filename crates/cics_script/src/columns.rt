@@ -1,4 +1,8 @@
-//! Where a line can't be read on.
+//! Finds the column at which a line can't be read on.
+//!
+//! The reader returns no column. So the line is read again for each of its tokens, cut off after
+//! it, with a broken token at the end. If the fault is that of the broken token, the reader got
+//! that far.
 
 ghost use Rattle.std.specs.Prelude.{◌≡◌, ◌≤◌, ◌+◌, ◌++◌, ◌↔◌, true, length, Err, IfOk};
 ghost use Rattle.std.specs.List.{prefix_len};
@@ -17,12 +21,14 @@ use std::alloc::Global;
 #[derive(Clone, Copy, PartialEq, Eq)]
 pub struct Placed {
     pub fault: LineFault,
-    /// The first byte, counted from 1, of the token at which the line can't be read on. If the line
-    /// ends too early, one past its last token; of `NotAscii` the byte itself; of `TooLong` none.
+    /// The first byte, counted from 1, of the token at which the line can't be read on.
+    ///
+    /// If the line ends too early, one past its last token. For `NotAscii` the byte itself, for
+    /// `TooLong` none.
     pub column: Option<usize>,
 }
 
-// A fault of a token that is broken in itself, other than this one.
+// Returns the fault of some broken token, other than this fault.
 fn other_fault(fault: LineFault) -> LineFault
     ensures { result ≡ other_fault fault }
 {
@@ -32,7 +38,7 @@ fn other_fault(fault: LineFault) -> LineFault
     }
 }
 
-// The bytes of a token that is broken in itself and has that other fault.
+// Returns a broken token that has that other fault.
 fn broken_token(fault: LineFault) -> &'static [u8]
     ensures { result.now ≡ broken_bytes fault }
 {
@@ -42,7 +48,7 @@ fn broken_token(fault: LineFault) -> &'static [u8]
     }
 }
 
-// Returns whether tokens have this fault as a line.
+// Returns whether the tokens of a line have this fault.
 fn has_fault(alloc: Global, line: &[u8], fault: LineFault) -> Result<bool, NoMemory>
     ensures { IfOk result (λ has. (has ≡ true) ↔ (statement (tokens line.now) ≡ Err fault)) }
 {
@@ -53,8 +59,8 @@ fn has_fault(alloc: Global, line: &[u8], fault: LineFault) -> Result<bool, NoMem
     }
 }
 
-// Returns whether the reader of a line gets as far as the token behind `front`: if that one is
-// broken, its fault is the line's.
+// Returns whether the reader gets as far as a token after `front`: if a broken one follows, its
+// fault is the line's.
 fn is_read_on(alloc: Global, front: &[u8], fault: LineFault) -> Result<bool, NoMemory>
     ensures { IfOk result (λ on. (on ≡ true)
         ↔ (statement (tokens (front.now ++ broken_bytes fault)) ≡ Err (other_fault fault))) }
@@ -65,8 +71,8 @@ fn is_read_on(alloc: Global, front: &[u8], fault: LineFault) -> Result<bool, NoM
     has_fault(alloc, &line, other_fault(fault))
 }
 
-// The column of the first token at which a line with this fault can't be read on. `front` has the
-// tokens before it, a blank behind each.
+// Returns the column of the first token at which a line with this fault can't be read on. `front`
+// has the tokens that were tried, a space after each.
 fn token_column(alloc: Global, bytes: &[u8], fault: LineFault) -> Result<usize, NoMemory>
     requires { statement (tokens bytes.now) ≡ Err fault }
     ensures { IfOk result (λ column. IsTokenColumn fault bytes.now column) }
@@ -91,7 +97,7 @@ fn token_column(alloc: Global, bytes: &[u8], fault: LineFault) -> Result<usize, 
     }
 }
 
-// How many bytes that a line may have stand in front of the first other one.
+// Returns how many bytes stand before the first that no line may have.
 fn script_len(bytes: &[u8]) -> usize
     ensures value { result ≡ prefix_len is_script_byte bytes.now }
     ensures within { result ≤ length bytes.now }
@@ -99,7 +105,7 @@ fn script_len(bytes: &[u8]) -> usize
     bytes.iter().take_while(|byte| is_in_script(**byte)).count()
 }
 
-// The column of the fault of a line.
+// Returns the column of a line's fault, as `Placed` has it.
 fn column_of(alloc: Global, bytes: &[u8], fault: LineFault) -> Result<Option<usize>, NoMemory>
     requires { line bytes.now ≡ Err fault }
     ensures { IfOk result (λ column. IsColumn fault bytes.now column) }
@@ -111,7 +117,7 @@ fn column_of(alloc: Global, bytes: &[u8], fault: LineFault) -> Result<Option<usi
     }
 }
 
-// The fault of a line that can't be read.
+// Returns the fault of a line, or `None` if it can be read.
 fn fault_of(alloc: Global, bytes: &[u8]) -> Result<Option<LineFault>, NoMemory>
     ensures { IfOk result (IsRead bytes.now) }
 {
@@ -122,10 +128,11 @@ fn fault_of(alloc: Global, bytes: &[u8]) -> Result<Option<LineFault>, NoMemory>
     }
 }
 
-/// Finds the fault of a line that [`read_line`] can't read, and its column. Returns nothing if the
-/// line can be read.
+/// Returns the fault of a line and its column, or `None` if [`read_line`] can read it.
 ///
-/// Reads the line again for each of its tokens up to the fault: O(tokens * bytes).
+/// Errors: `NoMemory`.
+///
+/// Cost: O(tokens * bytes). It reads the line again for each token up to the fault.
 pub fn find_fault(alloc: Global, bytes: &[u8]) -> Result<Option<Placed>, NoMemory>
     ensures { IfOk result (λ found. IsFoundIn bytes.now found) }
 {

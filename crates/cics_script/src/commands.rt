@@ -1,4 +1,7 @@
-//! What a command asks for, by its verb and its options.
+//! Makes a command of its word and the options that were read.
+//!
+//! A `CommandWord` is the word alone. A `Verb` has what the options give, too. A `Command` is a
+//! verb, and whether its conditions are handled. `read_verb` makes the verb of READ, and so on.
 
 ghost use Rattle.std.specs.Prelude.{◌≡◌, ◌||◌, Ok};
 ghost use Rattle.cics_script.specs.Faults.{Reads};
@@ -16,21 +19,21 @@ use crate::words::{CommandWord, OptionWord};
 use cics_names::{Name8, Record, Verb};
 use std::alloc::Global;
 
-/// Whether a command's conditions are handled.
+/// Returns whether a command's conditions are handled: it has RESP or NOHANDLE.
 pub fn is_handled(found: &[Found<'_>]) -> bool
     ensures { result ≡ is_handled (entries found.now) }
 {
     has_option(found, OptionWord::Resp) || has_option(found, OptionWord::NoHandle)
 }
 
-// The file of a command.
+// Returns the file of a command.
 fn file_of(found: &[Found<'_>]) -> Result<Name8, LineFault>
     ensures { result ≡ needed (name8_at OptionWord.File (entries found.now)) Ok }
 {
     needed(name8_of(found, OptionWord::File))
 }
 
-// The file of a command, and the key that it names.
+// Returns the file of a command, and its key.
 fn keyed(alloc: Global, found: &[Found<'_>]) -> Result<(Name8, Record), LineFault>
     ensures { Reads (keyed_in (entries found.now)) result }
 {
@@ -39,7 +42,7 @@ fn keyed(alloc: Global, found: &[Found<'_>]) -> Result<(Name8, Record), LineFaul
     Ok((file, ridfld))
 }
 
-// The value that a command enqueues on or gives back, and how many of its bytes count.
+// Returns the value that ENQ acquires or DEQ releases, and how many of its bytes count.
 fn enqueued(alloc: Global, found: &[Found<'_>]) -> Result<(Record, u64), LineFault>
     ensures { Reads (enqueued_in (entries found.now)) result }
 {
@@ -86,7 +89,7 @@ fn rewrite_verb(alloc: Global, found: &[Found<'_>]) -> Result<Verb, LineFault>
     })
 }
 
-// Whether DELETE has an option that needs a key.
+// Returns whether DELETE has an option that needs a key.
 fn has_key_option(found: &[Found<'_>]) -> bool
     ensures { result ≡ needs_key (entries found.now) }
 {
@@ -155,7 +158,7 @@ fn readprev_verb(found: &[Found<'_>]) -> Result<Verb, LineFault>
     })
 }
 
-// The item that WRITEQ TS replaces.
+// Returns the item that WRITEQ TS replaces, or `None` if it has no REWRITE.
 fn replaced(found: &[Found<'_>]) -> Result<Option<u64>, LineFault>
     ensures { result ≡ replaced_in (entries found.now) }
 {
@@ -234,7 +237,10 @@ fn syncpoint_verb(found: &[Found<'_>]) -> Verb
     }
 }
 
-/// What a command asks for, by its verb and its options.
+/// Returns the verb of a command's word and options.
+///
+/// Errors: `MissingOption` if it lacks one, `BadNumber` if ITEM of a REWRITE is no number,
+/// `NoMemory`.
 pub fn verb_of(alloc: Global, command: CommandWord, found: &[Found<'_>]) -> Result<Verb, LineFault>
     ensures { Reads (verb_in command (entries found.now)) result }
 {

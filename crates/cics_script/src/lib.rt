@@ -1,10 +1,20 @@
-//! The lines of a script, read and written.
+//! Reads the lines of a script, and writes commands as lines.
 //!
-//! `read_line` returns the `Line` that the bytes say, or the fault of the first token at which they
-//! can't be read on. The grammar is a table of words (`words`): which word begins which line, and
-//! which options a line or a command takes. `write_out` writes a command as a line that is read
-//! back. How records, names and labels are printed (`texts`) is the same in such a line, in a
-//! journal and in a listing.
+//! The modules, in the order to read them:
+//!
+//! - `faults`: why a line can't be read.
+//! - `tokens`, `literals`: the words, numbers, literals and parentheses that a line is cut into.
+//! - `words`: the grammar as tables. They say which word begins which line, and which options each
+//!   line takes.
+//! - `options`: reads the options of a line into a list of at most 13.
+//! - `values`, `commands`: what the options in that list give, and the command that they ask for.
+//! - `lines`: `read_line` returns the `Line` that the bytes say, or their first fault.
+//! - `columns`: `find_fault` returns that fault with its column.
+//! - `texts`: how records, names and numbers are printed, in lines, journals and listings.
+//! - `writing`, `spelling`: `write_out` writes a command as a line. A law says how else it can be
+//!   written.
+//!
+//! Cost of a call: O(bytes that it reads or writes), but for `find_fault`.
 #![tactic(auto)]
 
 mod columns;

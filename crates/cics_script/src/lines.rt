@@ -1,4 +1,4 @@
-//! The lines of a script.
+//! Reads a line of a script.
 
 ghost use Rattle.std.specs.Prelude.{◌≡◌, ◌≤◌, ◌-◌, ◌||◌, Ok, Some, IfSome, true};
 ghost use Rattle.std.specs.Prelude.{length, map, take, drop};
@@ -29,44 +29,46 @@ use cics_names::{Command, Name4, Name8, Record};
 use cics_transdata::Recovery;
 use std::alloc::Global;
 
+// The most bytes of a line.
 const LIMIT: usize = 70_000;
 
+// The most bytes of a file's record, if the line has no RECORDSIZE.
 const RECORD_SIZE: u64 = 32_767;
 
-// How many characters a label may have.
+// The most characters of a label.
 const LABEL: usize = 8;
 
 /// What a line of a script says.
 #[derive(Drop)]
 pub enum Line {
-    /// Nothing: the line is blank, or a comment.
+    /// Nothing: the line is blank or a comment.
     Blank,
-    /// To define a file. Whether its numbers make a file is not looked at here.
+    /// Defines a file. Its numbers aren't checked here.
     DefineFile(Name8, FileDef),
-    /// To define a prefix: the temporary storage queues whose names begin with it are recoverable.
+    /// Defines a prefix: the temporary storage queues whose names begin with it are recoverable.
     DefineTsPrefix(Name8),
-    /// To define a transient data queue.
+    /// Defines a transient data queue.
     DefineTd(Name4, Recovery),
-    /// To load one record into a file, before there are tasks.
+    /// Loads one record into a file.
     LoadFile(Name8, Record),
-    /// To load one record into a transient data queue, before there are tasks.
+    /// Loads one record into a transient data queue.
     LoadTd(Name4, Record),
-    /// To attach a task with this label and transaction. `dtimout` is how many seconds of the clock
-    /// a command of it may wait; 0 is no limit.
+    /// Attaches a task with this label and transaction. A command of it may wait for `dtimout`
+    /// seconds of the clock; 0 is without limit.
     Attach {
         label: Name8,
         transaction: Name4,
         dtimout: u64,
     },
-    /// To set the clock, in seconds.
+    /// Sets the clock, in seconds.
     Clock(u64),
-    /// To issue a command of the task with this label.
+    /// Issues a command of the task with this label.
     Issue(Name8, Command),
-    /// To end the region at once, each open unit of work backed out.
+    /// Ends the region at once, and backs out each open unit of work.
     Shutdown,
 }
 
-// Whether a file is recoverable, where the line says it.
+// Returns whether a file is recoverable, if the line says it.
 fn recovery_of(found: &[Found<'_>]) -> Option<bool>
     ensures { result ≡ recovery_in (entries found.now) }
 {
@@ -79,7 +81,7 @@ fn recovery_of(found: &[Found<'_>]) -> Option<bool>
     }
 }
 
-// How far a transient data queue's changes are undone, where the line says it.
+// Returns how far a transient data queue's changes are undone, if the line says it.
 fn queue_recovery_of(found: &[Found<'_>]) -> Option<Recovery>
     ensures { result ≡ queue_recovery_in (entries found.now) }
 {
@@ -94,6 +96,7 @@ fn queue_recovery_of(found: &[Found<'_>]) -> Option<Recovery>
     }
 }
 
+// Returns a DEFINE FILE line, from its options.
 fn file_definition(found: &[Found<'_>]) -> Result<Line, LineFault>
     ensures { result ≡ definition_in DefineObject.File (entries found.now) }
 {
@@ -109,11 +112,11 @@ fn file_definition(found: &[Found<'_>]) -> Result<Line, LineFault>
     Ok(Line::DefineFile(name, definition))
 }
 
-// The word in front, and the line behind it.
+// Returns the first word, and the line after it.
 fn first_word(bytes: &[u8]) -> Result<(&[u8], &[u8]), LineFault>
     ensures { GivesWord (word_first (tokens bytes.now)) result }
 {
-    // Here stands a word, unless the line has a fault, and few words begin with X.
+    // A line without a fault has a word here, and few words begin with X.
     if let Some(found) = next_word(bytes) {
         return Ok(found);
     }
@@ -124,7 +127,7 @@ fn first_word(bytes: &[u8]) -> Result<(&[u8], &[u8]), LineFault>
     }
 }
 
-// The line behind a word that has to stand in front.
+// Returns the line after a word that must be the first.
 #[cold]
 #[inline(never)]
 fn skip_word<'a>(bytes: &'a [u8], wanted: &[u8]) -> Result<&'a [u8], LineFault>
@@ -138,7 +141,7 @@ fn skip_word<'a>(bytes: &'a [u8], wanted: &[u8]) -> Result<&'a [u8], LineFault>
     }
 }
 
-// Writes the capitals of a word over the front of a text, and returns whether they are letters and
+// Writes the capitals of a word over the start of a text. Returns whether all are letters or
 // digits.
 fn put_capitals(text: &mut [u8; LABEL], word: &[u8]) -> bool
     requires { length word.now ≤ 8 }
@@ -154,7 +157,7 @@ fn put_capitals(text: &mut [u8; LABEL], word: &[u8]) -> bool
     all
 }
 
-// The label that a word is.
+// Returns the label that a word is: at most eight letters and digits, and no word of `Start`.
 fn label_of(word: &[u8]) -> Result<Name8, LineFault>
     ensures { result ≡ label_in (map capital word.now) }
 {
@@ -171,10 +174,11 @@ fn label_of(word: &[u8]) -> Result<Name8, LineFault>
     }
 }
 
-// A DEFINE line behind its first word.
+// Reads a DEFINE line, from after its first word.
 fn read_define(alloc: Global, bytes: &[u8]) -> Result<Line, LineFault>
     ensures { Reads (define (tokens bytes.now)) result }
 {
+    // The word is read again, as the first option.
     let (word, _) = first_word(bytes)?;
     let Some(object) = define_object(word) else {
         return Err(LineFault::UnknownWord);
@@ -194,10 +198,11 @@ fn read_define(alloc: Global, bytes: &[u8]) -> Result<Line, LineFault>
     }
 }
 
-// A LOAD line behind its first word.
+// Reads a LOAD line, from after its first word.
 fn read_load(alloc: Global, bytes: &[u8]) -> Result<Line, LineFault>
     ensures { Reads (load (tokens bytes.now)) result }
 {
+    // The word is read again, as the first option.
     let (word, _) = first_word(bytes)?;
     let Some(object) = load_object(word) else {
         return Err(LineFault::UnknownWord);
@@ -216,7 +221,7 @@ fn read_load(alloc: Global, bytes: &[u8]) -> Result<Line, LineFault>
     }
 }
 
-// An ATTACH line behind its first word.
+// Reads an ATTACH line, from after its first word.
 fn read_attach(alloc: Global, bytes: &[u8]) -> Result<Line, LineFault>
     ensures { Reads (attach (tokens bytes.now)) result }
 {
@@ -231,7 +236,7 @@ fn read_attach(alloc: Global, bytes: &[u8]) -> Result<Line, LineFault>
     })
 }
 
-// The number in front, and the line behind it.
+// Returns the first number, and the line after it.
 fn first_number(bytes: &[u8]) -> Result<(u64, &[u8]), LineFault>
     ensures { GivesNumber (number_first (tokens bytes.now)) result }
 {
@@ -242,7 +247,7 @@ fn first_number(bytes: &[u8]) -> Result<(u64, &[u8]), LineFault>
     }
 }
 
-// A CLOCK line behind its first word.
+// Reads a CLOCK line, from after its first word.
 fn read_clock(alloc: Global, bytes: &[u8]) -> Result<Line, LineFault>
     ensures { Reads (clock (tokens bytes.now)) result }
 {
@@ -252,7 +257,7 @@ fn read_clock(alloc: Global, bytes: &[u8]) -> Result<Line, LineFault>
     Ok(Line::Clock(seconds))
 }
 
-// A SHUTDOWN line behind its first word.
+// Reads a SHUTDOWN line, from after its first word.
 #[cold]
 fn read_shutdown(alloc: Global, bytes: &[u8]) -> Result<Line, LineFault>
     ensures { Reads (shutdown (tokens bytes.now)) result }
@@ -263,14 +268,14 @@ fn read_shutdown(alloc: Global, bytes: &[u8]) -> Result<Line, LineFault>
     Ok(Line::Shutdown)
 }
 
-// The command that a verb and the word right behind it are, and the line behind them.
+// Returns the command of a verb, with TS or TD if that follows it, and the line after them.
 fn placed_command(verb: CommandWord, bytes: &[u8]) -> (CommandWord, &[u8])
     ensures { command_at verb (tokens bytes.now) ≡ (result.0, tokens result.1.now) }
 {
     let Some(of_td) = td_command(verb) else {
         return (verb, bytes);
     };
-    // Most lines have one blank and such a word behind the verb.
+    // Most lines have one space and such a word after the verb.
     let front = skip_one_blank(bytes);
     if let Some(rest) = behind_word(front, b"TS") {
         return (verb, rest);
@@ -287,7 +292,7 @@ fn placed_command(verb: CommandWord, bytes: &[u8]) -> (CommandWord, &[u8])
     }
 }
 
-// A command behind its verb, and behind TS or TD where it stands there.
+// Reads a command, from after its verb and its TS or TD.
 fn read_issued(
     alloc: Global,
     label: Name8,
@@ -303,7 +308,7 @@ fn read_issued(
     Ok(Line::Issue(label, Command { verb, resp }))
 }
 
-// Reads a common verb, in capitals. `None` says nothing.
+// Returns a common verb in capitals, and the line after it. `None` decides nothing.
 fn common_verb(bytes: &[u8]) -> Option<(CommandWord, &[u8])>
     ensures { IfSome result (λ found. IsNamed commands found.0 bytes.entry.now found.1.now) }
 {
@@ -326,7 +331,7 @@ fn common_verb(bytes: &[u8]) -> Option<(CommandWord, &[u8])>
     }
 }
 
-// The verb in front, and the line behind it.
+// Returns the first verb, and the line after it.
 fn first_verb(bytes: &[u8]) -> Result<(CommandWord, &[u8]), LineFault>
     ensures { GivesVerb (verb_first (tokens bytes.now)) result }
 {
@@ -340,7 +345,7 @@ fn first_verb(bytes: &[u8]) -> Result<(CommandWord, &[u8]), LineFault>
     }
 }
 
-// A command behind EXEC CICS.
+// Reads a command, from after EXEC CICS.
 fn read_command(alloc: Global, label: Name8, bytes: &[u8]) -> Result<Line, LineFault>
     ensures { Reads (command_line label (tokens bytes.now)) result }
 {
@@ -349,19 +354,19 @@ fn read_command(alloc: Global, label: Name8, bytes: &[u8]) -> Result<Line, LineF
     read_issued(alloc, label, command, behind)
 }
 
-// The line behind EXEC and CICS.
+// Returns the line after EXEC and CICS.
 fn skip_exec_cics(bytes: &[u8]) -> Result<&[u8], LineFault>
     ensures { GivesRest
         (behind (codes "EXEC") (tokens bytes.now) and_next behind (codes "CICS")) result }
 {
-    // Most lines go on with just these bytes, in which no words need be looked for.
+    // Most lines go on with just these bytes.
     if begins_with(bytes, b" EXEC CICS ") {
         return Ok(bytes.split_at(11).1);
     }
     skip_word(skip_word(bytes, b"EXEC")?, b"CICS")
 }
 
-// The command of a task behind its label.
+// Reads a command, from after the label of its task.
 fn read_issue(alloc: Global, label: Name8, bytes: &[u8]) -> Result<Line, LineFault>
     ensures { Reads (issue label (tokens bytes.now)) result }
 {
@@ -369,7 +374,8 @@ fn read_issue(alloc: Global, label: Name8, bytes: &[u8]) -> Result<Line, LineFau
     read_command(alloc, label, rest)
 }
 
-/// Reads a line that is neither blank nor a comment.
+/// Reads a line that is neither blank nor a comment. Errors: those of [`read_line`], but for
+/// `TooLong` and `NotAscii`.
 pub fn read_statement(alloc: Global, bytes: &[u8]) -> Result<Line, LineFault>
     ensures { Reads (statement (tokens bytes.now)) result }
 {
@@ -384,7 +390,7 @@ pub fn read_statement(alloc: Global, bytes: &[u8]) -> Result<Line, LineFault>
     }
 }
 
-/// Whether a line may have a byte: a tab, or printable ASCII.
+/// Returns whether a line may have a byte: a tab, or printable ASCII.
 pub fn is_in_script(byte: u8) -> bool
     ensures { result ≡ is_script_byte byte }
 {
@@ -394,11 +400,12 @@ pub fn is_in_script(byte: u8) -> bool
 // How many bytes are tested at once.
 const BLOCK: usize = 16;
 
-// The same as `are_in_script`; of a block, whose length is known, all bytes are tested at once.
+// Returns the same as `are_in_script`. The bytes of a block, whose length is a constant, are tested
+// at once.
 fn few_are_in_script(bytes: &[u8]) -> bool
     ensures { result ≡ list_all is_script_byte bytes.now }
 {
-    // Each byte is tested, also behind one that is none: an early end would test them one by one.
+    // No early end, so that the bytes aren't tested one by one.
     let mut all = true;
     for byte in bytes {
         all &= is_in_script(*byte);
@@ -406,7 +413,7 @@ fn few_are_in_script(bytes: &[u8]) -> bool
     all
 }
 
-// Returns whether a script may have all these bytes, if it may have the last block.
+// Returns whether a line may have all these bytes, if it may have the last block.
 fn blocks_are_in_script(bytes: &[u8]) -> bool
     requires last { list_all is_script_byte (drop (length bytes.now - 16) bytes.now) ≡ true }
     ensures { result ≡ list_all is_script_byte bytes.now }
@@ -425,16 +432,18 @@ fn blocks_are_in_script(bytes: &[u8]) -> bool
     }
 }
 
+// Returns whether a line may have all these bytes.
 fn are_in_script(bytes: &[u8]) -> bool
     ensures { result ≡ list_all is_script_byte bytes.now }
 {
-    // Tests the last 16 bytes first, so the rest are whole blocks. Some bytes are tested twice.
+    // The last 16 bytes are tested first, and then whole blocks alone. Some bytes are tested twice.
     match bytes.last_chunk::<BLOCK>() {
         Some(last) => few_are_in_script(last) && blocks_are_in_script(bytes),
         None => few_are_in_script(bytes),
     }
 }
 
+// Returns whether a line is blank or a comment.
 fn is_blank_line(bytes: &[u8]) -> bool
     ensures { result ≡ is_empty_or_comment (after_blanks bytes.now) }
 {
@@ -446,12 +455,12 @@ fn is_blank_line(bytes: &[u8]) -> bool
 
 /// Reads one line, without its LF and the CR before it. `alloc` gives the memory of its records.
 ///
-/// Errors: the first of these that applies, and `NoMemory` only if memory was refused.
+/// Errors: the first of these that applies, or `NoMemory`.
 ///
-/// - `TooLong`: over 70,000 bytes.
-/// - `NotAscii`: another byte than a tab or printable ASCII.
-/// - The fault of the first wrong token.
-/// - `MissingOption`: read to its end, the line lacks an option.
+/// - `TooLong`: it has more than 70,000 bytes.
+/// - `NotAscii`: it has a byte that is neither a tab nor printable ASCII.
+/// - The fault of the first token that can't stand where it does.
+/// - `MissingOption`: it is read to its end, and an option that it needs isn't there.
 #[inline(never)]
 pub fn read_line(alloc: Global, bytes: &[u8]) -> Result<Line, LineFault>
     ensures { Reads (line bytes.now) result }

@@ -1,4 +1,8 @@
-//! Literals of a line: `'characters'`, with `''` for a quote, and `X'hexadecimal digits'`.
+//! Reads literals: `'characters'`, with `''` for a quote, and `X'hexadecimal digits'`.
+//!
+//! A literal *says* its characters, each `''` as one quote, or the bytes that its digits make. A
+//! character is *plain* if it stands for itself in a quoted literal: it has an EBCDIC code, and is
+//! no quote.
 
 ghost use Rattle.std.specs.Prelude.{◌≡◌, ◌≤◌, true, IfOk, IfSome, length, option_map, take};
 ghost use Rattle.std.specs.List.{list_all, prefix_len};
@@ -18,45 +22,46 @@ pub enum Notation {
     Hexadecimal,
 }
 
-/// A literal where it stands in its line.
+/// A literal, borrowed from its line.
 #[derive(Clone, Copy)]
 pub struct Literal<'a> {
     pub notation: Notation,
-    // Whether each character between the quotes of a quoted literal stands for itself.
+    // If true, the literal says the first `plain_len` characters after its first quote. An `Option`
+    // of that length would make literals larger, and they are moved often.
     is_plain: bool,
-    // How many characters in front stand for themselves; 0 of a hexadecimal literal. No `Option`, as
-    // a literal is moved often and that takes more room.
+    // How many characters after the first quote are plain; 0 for a hexadecimal literal.
     plain_len: usize,
-    /// The line behind the literal's first quote, up to the line's end.
+    /// The line after the literal's first quote, up to the line's end.
     pub behind_quote: &'a [u8],
     ghost within: { plain_len ≤ length behind_quote.now },
     ghost as_written: { is_plain ≡ true →
         IsWrittenAs notation behind_quote.now (take plain_len behind_quote.now) },
 }
 
-/// In which code a literal's bytes are copied.
+/// How what a literal says is copied: as it is, or in EBCDIC.
 #[derive(Clone, Copy, PartialEq, Eq)]
 pub enum Encoding {
     AsWritten,
     Ebcdic,
 }
 
-// What stands first in the rest of a literal.
+// What stands first in the rest of a literal: its last quote or a byte, each with the line after
+// it, or what no literal has.
 enum Piece<'a> {
     End(&'a [u8]),
     Byte(u8, &'a [u8]),
     Bad,
 }
 
-/// Whether a byte is the quote around literals.
+/// Returns whether a byte is the quote around literals.
 pub fn is_quote_byte(byte: u8) -> bool
     ensures { result ≡ is_quote byte }
 {
     byte == QUOTE
 }
 
-// The value of each hexadecimal digit, capital or small, and 16 for a byte that is none. A table,
-// as the ranges of digits and letters would be a branch each that nobody foresees.
+// The value of each hexadecimal digit, capital or small, and 16 for any other byte. A table, since
+// no branch predictor foresees which range of digits or letters comes next.
 static DIGITS: [u8; 256] = [
     16, 16, 16, 16, 16, 16, 16, 16, 16, 16, 16, 16, 16, 16, 16, 16, 16, 16, 16, 16, 16, 16, 16, 16,
     16, 16, 16, 16, 16, 16, 16, 16, 16, 16, 16, 16, 16, 16, 16, 16, 16, 16, 16, 16, 16, 16, 16, 16,
@@ -78,6 +83,7 @@ fn hex_digit(byte: u8) -> Option<u8>
     if value < 16 { Some(value) } else { None }
 }
 
+// Returns the next piece of a quoted literal.
 fn next_character(bytes: &[u8]) -> Piece<'_>
     ensures { Begins (text_in Notation.Quoted) bytes.now result }
 {
@@ -96,6 +102,7 @@ fn next_character(bytes: &[u8]) -> Piece<'_>
     }
 }
 
+// Returns the next piece of a hexadecimal literal: a byte is two digits.
 fn next_pair(bytes: &[u8]) -> Piece<'_>
     ensures { Begins (text_in Notation.Hexadecimal) bytes.now result }
 {
@@ -114,7 +121,7 @@ fn next_pair(bytes: &[u8]) -> Piece<'_>
     }
 }
 
-// The next piece of a literal of either notation.
+// Returns the next piece of a literal.
 fn next_piece(notation: Notation, bytes: &[u8]) -> Piece<'_>
     ensures { Begins (text_in notation) bytes.now result }
 {
@@ -124,9 +131,8 @@ fn next_piece(notation: Notation, bytes: &[u8]) -> Piece<'_>
     }
 }
 
-/// Classes of bytes: 2 for one that may stand in a word (a letter, a digit or a hyphen), 1 for any
-/// other character that stands for itself in a literal (it has a code, and is no quote), else 0. A
-/// table, as each byte of a literal is looked at.
+/// The class of each byte: 2 if a word may have it (letters, digits and the hyphen), 1 for any
+/// other plain character, else 0. A table, since each byte of a literal is looked up.
 pub static CLASSES: [u8; 256] = [
     0, 0, 0, 0, 0, 0, 0, 0, 0, 0, 0, 0, 0, 0, 0, 0, 0, 0, 0, 0, 0, 0, 0, 0, 0, 0, 0, 0, 0, 0, 0, 0,
     1, 0, 1, 1, 1, 1, 1, 0, 1, 1, 1, 1, 1, 2, 1, 1, 2, 2, 2, 2, 2, 2, 2, 2, 2, 2, 1, 1, 1, 1, 1, 1,
@@ -144,8 +150,7 @@ fn is_plain_byte(byte: u8) -> bool
     CLASSES[usize::from(byte)] != 0
 }
 
-// Whether every character stands for itself. The loop doesn't stop at one that doesn't, so that
-// nothing is decided before all are looked up.
+// Returns whether every character is plain. No early end: there is one branch for all characters.
 fn are_plain(bytes: &[u8]) -> bool
     ensures { result ≡ list_all is_plain bytes.now }
 {
@@ -156,7 +161,7 @@ fn are_plain(bytes: &[u8]) -> bool
     all
 }
 
-// The same as `plain_len`, byte by byte.
+// Returns the same as `plain_len`, by one character at a time.
 fn short_plain_len(bytes: &[u8]) -> usize
     ensures value { result ≡ prefix_len is_plain bytes.now }
     ensures within { result ≤ length bytes.now }
@@ -170,7 +175,7 @@ fn short_plain_len(bytes: &[u8]) -> usize
 // How many characters are looked up at once.
 const GROUP: usize = 8;
 
-// How many characters in front stand for themselves.
+// Returns how many characters stand before the first that isn't plain.
 fn plain_len(bytes: &[u8]) -> usize
     ensures value { result ≡ prefix_len is_plain bytes.now }
     ensures within { result ≤ length bytes.now }
@@ -188,7 +193,7 @@ fn plain_len(bytes: &[u8]) -> usize
     }
 }
 
-// The code of each character, and a blank's for a byte that is none.
+// The EBCDIC code of each character, and a blank's for a byte that is none.
 static EBCDIC: [u8; 256] = [
     0x40, 0x40, 0x40, 0x40, 0x40, 0x40, 0x40, 0x40, 0x40, 0x40, 0x40, 0x40, 0x40, 0x40, 0x40, 0x40,
     0x40, 0x40, 0x40, 0x40, 0x40, 0x40, 0x40, 0x40, 0x40, 0x40, 0x40, 0x40, 0x40, 0x40, 0x40, 0x40,
@@ -208,7 +213,7 @@ static EBCDIC: [u8; 256] = [
     0x40, 0x40, 0x40, 0x40, 0x40, 0x40, 0x40, 0x40, 0x40, 0x40, 0x40, 0x40, 0x40, 0x40, 0x40, 0x40,
 ];
 
-// A character as its code, where the code is asked for.
+// Returns a character as it is, or its EBCDIC code.
 fn encoded_byte(encoding: Encoding, byte: u8) -> u8
     ensures { result ≡ encoded encoding byte }
 {
@@ -218,7 +223,7 @@ fn encoded_byte(encoding: Encoding, byte: u8) -> u8
     }
 }
 
-// Puts the code of each character over a text that is as long.
+// Replaces a text by the EBCDIC codes of as many characters.
 fn put_codes(text: &mut [u8], plain: &[u8])
     requires { length text.old ≡ length plain.now }
     ensures { text.new ≡ encoded_text Encoding.Ebcdic plain.now }
@@ -231,7 +236,7 @@ fn put_codes(text: &mut [u8], plain: &[u8])
 // The most characters of a text whose record is made without a `Vec`.
 const SHORT: usize = 30;
 
-// Returns the record of a short text of characters that stand for themselves, in EBCDIC.
+// Returns the record of a short text of plain characters, in EBCDIC.
 fn short_record(alloc: Global, plain: &[u8]) -> Result<Record, NoMemory>
     requires fits { length plain.now ≤ 30 }
     ensures { IfOk result (λ made. made ≡ encoded_text Encoding.Ebcdic plain.now) }
@@ -242,7 +247,7 @@ fn short_record(alloc: Global, plain: &[u8]) -> Result<Record, NoMemory>
     Record::from_slice(alloc, codes)
 }
 
-// A copy of characters that stand for themselves.
+// Returns a copy of plain characters.
 fn copy_plain(alloc: Global, encoding: Encoding, plain: &[u8]) -> Result<Vec<u8>, AllocError>
     ensures { IfOk result (λ text. text.items ≡ encoded_text encoding plain.now) }
 {
@@ -254,7 +259,8 @@ fn copy_plain(alloc: Global, encoding: Encoding, plain: &[u8]) -> Result<Vec<u8>
     Ok(text)
 }
 
-// What follows a literal, from behind its first quote.
+// Returns what follows a literal, or `None` if the bytes are no literal. They begin after its first
+// quote.
 #[inline(never)]
 fn behind_pieces(notation: Notation, bytes: &[u8]) -> Option<&[u8]>
     ensures { option_map (λ rest. rest.now) result
@@ -270,7 +276,8 @@ fn behind_pieces(notation: Notation, bytes: &[u8]) -> Option<&[u8]>
     }
 }
 
-// What a literal says, from behind its first quote.
+// Returns what a literal says, or nothing if the bytes are no literal. They begin after its first
+// quote.
 #[inline(never)]
 fn copy_pieces(
     alloc: Global,
@@ -295,7 +302,7 @@ fn copy_pieces(
     }
 }
 
-// The quoted literal behind a first quote, and the line behind it.
+// Returns the quoted literal after a first quote, and the line after it.
 fn quoted_at(behind_quote: &[u8]) -> Option<(Literal<'_>, &[u8])>
     ensures rest { option_map (λ found. found.1.now) result
         ≡ option_map (λ t. t.1) (text_in Notation.Quoted behind_quote.now) }
@@ -331,7 +338,7 @@ fn quoted_at(behind_quote: &[u8]) -> Option<(Literal<'_>, &[u8])>
     }
 }
 
-// The hexadecimal literal behind a first quote, and the line behind it.
+// Returns the hexadecimal literal after a first quote, and the line after it.
 fn hexadecimal_at(behind_quote: &[u8]) -> Option<(Literal<'_>, &[u8])>
     ensures rest { option_map (λ found. found.1.now) result
         ≡ option_map (λ t. t.1) (text_in Notation.Hexadecimal behind_quote.now) }
@@ -348,7 +355,7 @@ fn hexadecimal_at(behind_quote: &[u8]) -> Option<(Literal<'_>, &[u8])>
     Some((literal, rest))
 }
 
-/// The literal behind a first quote, and the line behind it, or nothing where the bytes are no
+/// Returns the literal after a first quote, and the line after it, or `None` if the bytes are no
 /// literal.
 pub fn literal_at(notation: Notation, behind_quote: &[u8]) -> Option<(Literal<'_>, &[u8])>
     ensures rest { option_map (λ found. found.1.now) result
@@ -363,8 +370,8 @@ pub fn literal_at(notation: Notation, behind_quote: &[u8]) -> Option<(Literal<'_
 }
 
 impl<'a> Literal<'a> {
-    /// What stands between the quotes, where the literal is quoted and has no doubled quote; else
-    /// `None`.
+    /// Returns what the literal says, as it stands in the line. Returns `None` if the literal is
+    /// hexadecimal or has a doubled quote.
     pub fn plain(self) -> Option<&'a [u8]>
         ensures { IfSome result (λ text.
             IsWrittenAs self.entry.notation self.entry.behind_quote.now text.now) }
@@ -376,7 +383,7 @@ impl<'a> Literal<'a> {
         }
     }
 
-    /// What the literal says: its characters with `''` once, or the bytes that its digits make.
+    /// Copies what the literal says. Errors: `AllocError`.
     pub fn copy(self, alloc: Global, encoding: Encoding) -> Result<Vec<u8>, AllocError>
         ensures { IfOk result (λ text. text.items
             ≡ encoded_text encoding
@@ -388,7 +395,8 @@ impl<'a> Literal<'a> {
         }
     }
 
-    /// The record that the literal writes: a quoted one in EBCDIC.
+    /// Returns the record that the literal says: characters in EBCDIC, or bytes. Errors:
+    /// `NoMemory`.
     pub fn record(self, alloc: Global) -> Result<Record, NoMemory>
         ensures { IfOk result (λ made. made
             ≡ recorded self.entry.notation

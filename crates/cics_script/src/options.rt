@@ -1,4 +1,4 @@
-//! Reads the options of a line.
+//! Reads the options of a line, from left to right, into a list.
 
 ghost use Rattle.std.specs.Prelude.{◌≡◌, ◌<◌, ◌≤◌, ℕ, true, List, [], ◌∷◌, ◌++◌};
 ghost use Rattle.std.specs.Prelude.{Option, Some, None, Ok, Err, IfSome, IfOk, IfErr, length};
@@ -20,11 +20,11 @@ use cics_names::{Name4, Name8};
 use std::alloc::Global;
 use std::borrow::CowSlice;
 
-// No line has more options, as each stands once: READ has nine of its own, more than any other line,
-// and every command four.
+// The most options of a line, since none stands twice: READ has nine of its own, more than any
+// other line, and every command has four.
 const MOST: usize = 13;
 
-/// The options of a line.
+/// The options of a line, in their order.
 pub type Options<'a> = ArrayVec<Found<'a>, MOST>;
 
 /// What stood in an option's parentheses.
@@ -45,7 +45,7 @@ pub struct Found<'a> {
     pub value: Value<'a>,
 }
 
-// Fills unused slots: all zeros, the first variants.
+// Fills the unused slots of `Options`. The first variants are all zeros.
 impl Default for Found<'_> {
     fn default() -> Self {
         Found {
@@ -55,14 +55,14 @@ impl Default for Found<'_> {
     }
 }
 
-/// What an option that was read takes, and the line behind it.
+/// What an option that was read takes, and the line after it.
 #[derive(Clone, Copy)]
 struct Next<'a> {
     kind: Kind,
     rest: &'a [u8],
 }
 
-// The fault of a wrong or missing value or parenthesis.
+// Returns the fault of a wrong or missing value or parenthesis, by what the option takes.
 fn wrong_value(kind: Kind) -> LineFault
     ensures { result ≡ fault_of kind }
 {
@@ -72,7 +72,8 @@ fn wrong_value(kind: Kind) -> LineFault
     }
 }
 
-// The fault of a parenthesis where an option should stand.
+// Returns the fault of a parenthesis where an option should stand. `last` is what the option before
+// it takes, `None` if there is none.
 fn surplus_fault(last: Option<Kind>) -> LineFault
     ensures { result ≡ surplus last }
 {
@@ -82,7 +83,8 @@ fn surplus_fault(last: Option<Kind>) -> LineFault
     }
 }
 
-// What a quoted literal says: a copy only where a quote is doubled in it.
+// Returns what a quoted literal says, in a copy only if it has a doubled quote. A hexadecimal one
+// is BadLiteral.
 fn quoted_text(alloc: Global, literal: Literal<'_>) -> Result<CowSlice<'_, u8, Global>, LineFault>
     ensures { GivesText (quoted (view (Token.Literal literal.entry))) result }
 {
@@ -98,6 +100,7 @@ fn quoted_text(alloc: Global, literal: Literal<'_>) -> Result<CowSlice<'_, u8, G
     }
 }
 
+// Returns the name of eight bytes that a quoted literal says.
 fn name8_of(alloc: Global, literal: Literal<'_>) -> Result<Name8, LineFault>
     ensures { GivesName Content.name8
         (content_in Kind.Name8 (view (Token.Literal literal.entry))) result }
@@ -109,6 +112,7 @@ fn name8_of(alloc: Global, literal: Literal<'_>) -> Result<Name8, LineFault>
     }
 }
 
+// Returns the name of four bytes that a quoted literal says.
 fn name4_of(alloc: Global, literal: Literal<'_>) -> Result<Name4, LineFault>
     ensures { GivesName Content.name4
         (content_in Kind.Name4 (view (Token.Literal literal.entry))) result }
@@ -120,7 +124,7 @@ fn name4_of(alloc: Global, literal: Literal<'_>) -> Result<Name4, LineFault>
     }
 }
 
-// A token as a value of this kind.
+// Returns a token as a value of this kind.
 fn value_of<'a>(alloc: Global, kind: Kind, token: Token<'a>) -> Result<Value<'a>, LineFault>
     ensures { GivesContent (content_in kind (view token.entry)) result }
 {
@@ -134,11 +138,11 @@ fn value_of<'a>(alloc: Global, kind: Kind, token: Token<'a>) -> Result<Value<'a>
     }
 }
 
-// The line behind an opening parenthesis.
+// Returns the line after an opening parenthesis.
 fn read_opening(kind: Kind, bytes: &[u8]) -> Result<&[u8], LineFault>
     ensures { Opens kind bytes.now result }
 {
-    // It stands right behind the option's word, with few exceptions.
+    // It stands right after the option's word, with few exceptions.
     if let Some((b'(', rest)) = bytes.split_first() {
         return Ok(rest);
     }
@@ -149,11 +153,11 @@ fn read_opening(kind: Kind, bytes: &[u8]) -> Result<&[u8], LineFault>
     }
 }
 
-// Reads the token that stands as a value, and returns it with the line behind it.
+// Returns the token that stands as a value, and the line after it.
 fn value_token(kind: Kind, bytes: &[u8]) -> Result<(Token<'_>, &[u8]), LineFault>
     ensures { GivesValue kind bytes.now result }
 {
-    // Most values are literals in quotes or numbers, right behind the parenthesis.
+    // Most values are quoted literals or numbers, right after the parenthesis.
     if let Some((literal, rest)) = next_quoted(bytes) {
         return Ok((Token::Literal(literal), rest));
     }
@@ -167,7 +171,7 @@ fn value_token(kind: Kind, bytes: &[u8]) -> Result<(Token<'_>, &[u8]), LineFault
     }
 }
 
-// Adds an option with what stands as its value, and returns the line behind the value.
+// Adds an option with what stands as its value, and returns the line after the value.
 fn read_content<'a>(
     alloc: Global,
     kind: Kind,
@@ -190,11 +194,11 @@ fn read_content<'a>(
     Ok(rest)
 }
 
-// The line behind a closing parenthesis.
+// Returns the line after a closing parenthesis.
 fn read_closing(kind: Kind, bytes: &[u8]) -> Result<&[u8], LineFault>
     ensures { Shuts kind bytes.now result }
 {
-    // It stands right behind the value, with few exceptions.
+    // It stands right after the value, with few exceptions.
     if let Some((b')', rest)) = bytes.split_first() {
         return Ok(rest);
     }
@@ -205,7 +209,7 @@ fn read_closing(kind: Kind, bytes: &[u8]) -> Result<&[u8], LineFault>
     }
 }
 
-// Puts an option with its value in parentheses behind those that were read. The line behind them.
+// Adds an option with its value in parentheses, and returns the line after them.
 fn read_value<'a>(
     alloc: Global,
     kind: Kind,
@@ -224,7 +228,7 @@ fn read_value<'a>(
     read_closing(kind, behind)
 }
 
-/// Whether an option is among those that were read.
+/// Returns whether an option was read.
 pub fn has_option(found: &[Found<'_>], option: OptionWord) -> bool
     ensures { result ≡ list_any (λ entry. same entry.0 option) (entries found.now) }
 {
@@ -236,6 +240,7 @@ pub fn has_option(found: &[Found<'_>], option: OptionWord) -> bool
     false
 }
 
+// Returns whether an option was read that excludes this one.
 fn has_excluded(found: &[Found<'_>], option: OptionWord) -> bool
     ensures { result ≡ list_any (λ entry. excludes entry.0 option) (entries found.now) }
 {
@@ -247,7 +252,7 @@ fn has_excluded(found: &[Found<'_>], option: OptionWord) -> bool
     false
 }
 
-// What an option takes that may stand here.
+// Returns what an option takes, if it may stand here.
 fn allowed_kind(form: Form, found: &[Found<'_>], option: OptionWord) -> Result<Kind, LineFault>
     ensures { result ≡ allowed (entries found.now) option (kind_in form option) }
 {
@@ -263,7 +268,7 @@ fn allowed_kind(form: Form, found: &[Found<'_>], option: OptionWord) -> Result<K
     Ok(kind)
 }
 
-// Adds an option with its value.
+// Adds an option with its value, if it may stand here. `bytes` begin after its word.
 fn read_option<'a>(
     alloc: Global,
     form: Form,
@@ -297,7 +302,7 @@ fn read_option<'a>(
     }
 }
 
-// The line's end, behind the option that is the last.
+// Checks that nothing follows END-EXEC.
 fn read_end(bytes: &[u8]) -> Result<(), LineFault>
     ensures { Ends bytes.now result }
 {
@@ -308,7 +313,7 @@ fn read_end(bytes: &[u8]) -> Result<(), LineFault>
     }
 }
 
-// Reads a common option's word, in capitals. `None` says nothing.
+// Returns the option of a common word in capitals, and the line after it. `None` decides nothing.
 fn common_option(bytes: &[u8]) -> Option<(OptionWord, &[u8])>
     ensures { IfSome result (λ found. IsNamed option_words found.0 bytes.entry.now found.1.now) }
 {
@@ -331,7 +336,7 @@ fn common_option(bytes: &[u8]) -> Option<(OptionWord, &[u8])>
     }
 }
 
-/// The line behind the blank with which it begins, or all of it where it begins with none.
+/// Returns a line without the space at its start, or all of it if it begins with none.
 pub fn skip_one_blank(bytes: &[u8]) -> &[u8]
     ensures tokens { tokens result.now ≡ tokens bytes.now }
     ensures within { length result.now ≤ length bytes.now }
@@ -342,7 +347,8 @@ pub fn skip_one_blank(bytes: &[u8]) -> &[u8]
     }
 }
 
-// The option of the word that stands next and the line behind it, or nothing at the line's end.
+// Returns the next option and the line after its word, or `None` at the line's end. `last` is what
+// the option before it takes, `None` if there is none.
 fn next_option(last: Option<Kind>, bytes: &[u8]) -> Result<Option<(OptionWord, &[u8])>, LineFault>
     ensures none { IfOk result (λ found.
         found ≡ None → tokens bytes.entry.now ≡ []) }
@@ -354,7 +360,7 @@ fn next_option(last: Option<Kind>, bytes: &[u8]) -> Result<Option<(OptionWord, &
     if bytes.is_empty() {
         return Ok(None);
     }
-    // Most lines have one blank before each option, and none at the end.
+    // Most lines have one space before each option, and none at the end.
     if let Some(found) = common_option(skip_one_blank(bytes)) {
         return Ok(Some(found));
     }
@@ -372,8 +378,11 @@ fn next_option(last: Option<Kind>, bytes: &[u8]) -> Result<Option<(OptionWord, &
     }
 }
 
-/// Reads the options of a line into `found`, which is empty. On error its content is unspecified.
-/// (A result would be moved whole.)
+/// Reads the options of a line into `found`, which is empty. It is a parameter, as a result would
+/// be moved whole.
+///
+/// Errors: the fault of the first token that can't stand where it does, `NoMemory`. Then the
+/// content of `found` is unspecified.
 pub fn read_options<'a>(
     alloc: Global,
     form: Form,

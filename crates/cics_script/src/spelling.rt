@@ -1,4 +1,4 @@
-//! How commands can be written.
+//! States how commands can be written.
 
 ghost use Rattle.std.specs.Prelude.{◌≡◌, ◌≤◌, ℕ, Bool, List, length, Ok, IsTrue};
 ghost use Rattle.cics_script.specs.Options.{Entry};
@@ -13,13 +13,18 @@ use crate::lines::Line;
 use crate::words::CommandWord;
 use cics_names::Command;
 
-/// A command is read from its options in any order. None stands twice, no two exclude each other,
-/// END-EXEC is last. TS may be left out, and so may options that are read without effect.
+/// States that a command is read from its options in any order. It is a law: the call does nothing.
+///
+/// No option may stand twice, no two may exclude each other, and END-EXEC must be last. TS may be
+/// left out, and so may options that are read without effect.
+///
+/// `first` is the command's word, and `left_out` says that TS is left out. `written` has the
+/// options as tokens, `entries` has what they give. `padded` is the label, filled up with blanks.
 ///
 /// - `read`: tokens that spell a command are read as that command.
-/// - `bytes`: so are the bytes of a line that has a blank behind each token.
+/// - `bytes`: so are the bytes of a line that has a space after each token, if it isn't too long.
 /// - `each`: a command has a spelling if its options go together and can be written.
-/// - `back`: a line that `write_out` writes is read back as its command, if it isn't too long.
+/// - `back`: the line that `write_out` writes of such a command is read back, if it isn't too long.
 pub fn commands_in_any_order()
     ensures read { (label : List ℕ) (command : Command)
         (first : CommandWord) (left_out : Bool) (written : List Written) (entries : List Entry)

@@ -1,4 +1,6 @@
-//! The texts of byte strings, names and numbers, each put at the end of what was printed before.
+//! Appends byte strings, names and numbers to what was printed before.
+//!
+//! Errors of each call: `NoMemory`. Then what it appended is unspecified.
 
 ghost use Rattle.std.specs.Prelude.{◌≡◌, ◌++◌, ◌+◌, ◌<◌, length, map, take, OnOk, IfOk};
 ghost use Rattle.std.specs.List.{flat_map, list_all};
@@ -9,9 +11,10 @@ ghost use lib.Chars.{codes};
 
 use cics_names::{NoMemory, from_ebcdic};
 
+// A blank in EBCDIC.
 const BLANK: u8 = 0x40;
 
-/// Puts the characters of a text at the end.
+/// Appends a text.
 pub fn push_str(out: &mut Vec<u8>, text: &str) -> Result<(), NoMemory>
     ensures { OnOk result (out.new.items ≡ out.old.items ++ text.now) }
 {
@@ -19,11 +22,11 @@ pub fn push_str(out: &mut Vec<u8>, text: &str) -> Result<(), NoMemory>
     Ok(())
 }
 
-/// Puts a number at the end, in decimal.
+/// Appends a number in decimal.
 pub fn push_number(out: &mut Vec<u8>, number: u64) -> Result<(), NoMemory>
     ensures { OnOk result (out.new.items ≡ out.old.items ++ decimal number) }
 {
-    // The digits in front of the last one; most numbers of a journal have none.
+    // The digits before the last one. Most numbers of a journal have none.
     if number >= 10 {
         push_number(out, number / 10)?;
     }
@@ -31,12 +34,11 @@ pub fn push_number(out: &mut Vec<u8>, number: u64) -> Result<(), NoMemory>
     Ok(())
 }
 
-/// Puts a byte string at the end, in quotes: in characters where each byte has one, else in
-/// hexadecimal.
+/// Appends a byte string as a literal: in characters if each byte has one, else in hexadecimal.
 pub fn push_text(out: &mut Vec<u8>, bytes: &[u8]) -> Result<(), NoMemory>
     ensures { OnOk result (out.new.items ≡ out.old.items ++ text_of bytes.now) }
 {
-    // Most texts are characters with no quote among them, which are put there at once.
+    // Most texts are characters with no quote among them, which are appended at once.
     let start = out.len();
     if push_plain(out, bytes)? {
         return Ok(());
@@ -45,14 +47,14 @@ pub fn push_text(out: &mut Vec<u8>, bytes: &[u8]) -> Result<(), NoMemory>
     push_any(out, bytes)
 }
 
-/// Puts a name at the end, in quotes and without the blanks that fill it up.
+/// Appends a name as a literal, without the blanks that fill it up.
 pub fn push_name(out: &mut Vec<u8>, name: &[u8]) -> Result<(), NoMemory>
     ensures { OnOk result (out.new.items ≡ out.old.items ++ name_text name.now) }
 {
     push_text(out, unfilled(name))
 }
 
-/// Puts a label or an abend code at the end: its characters alone.
+/// Appends a label or an abend code: its characters alone, without the blanks that fill it up.
 pub fn push_bare(out: &mut Vec<u8>, name: &[u8]) -> Result<(), NoMemory>
     ensures { OnOk result (out.new.items ≡ out.old.items ++ bare name.now) }
 {
@@ -63,7 +65,7 @@ pub fn push_bare(out: &mut Vec<u8>, name: &[u8]) -> Result<(), NoMemory>
     Ok(())
 }
 
-// The character of each byte that is the code of one other than the quote, and 0 for any other byte.
+// The character of each code, but 0 for the quote's code and for a byte that is no code.
 static CHARACTERS: [u8; 256] = [
     0, 0, 0, 0, 0, 0, 0, 0, 0, 0, 0, 0, 0, 0, 0, 0, 0, 0, 0, 0, 0, 0, 0, 0, 0, 0, 0, 0, 0, 0, 0, 0,
     0, 0, 0, 0, 0, 0, 0, 0, 0, 0, 0, 0, 0, 0, 0, 0, 0, 0, 0, 0, 0, 0, 0, 0, 0, 0, 0, 0, 0, 0, 0, 0,
@@ -77,21 +79,21 @@ static CHARACTERS: [u8; 256] = [
     0, 0, 0, 0, 0, 0,
 ];
 
-// The character of a byte that has one other than the quote, else 0.
+// Returns the character of a byte, but 0 for a quote or none.
 fn plain_character(code: u8) -> u8
     ensures { result ≡ plain code }
 {
     CHARACTERS[usize::from(code)]
 }
 
-// Puts the character of each code over the end of a text, from this place on. Returns whether each
-// has one.
+// Overwrites the end of a text, from `start` on, with the character of each code. Returns whether
+// each has one other than the quote.
 fn put_characters(text: &mut [u8], start: usize, codes: &[u8]) -> bool
     requires { start + length codes.now ≡ length text.old }
     ensures text { text.new ≡ take start text.old ++ map plain codes.now }
     ensures plain { result ≡ list_all is_plain codes.now }
 {
-    // Each is looked at, also behind one that has none: most texts have no other.
+    // No early end: most texts have such characters alone.
     let mut all = true;
     for (i, code) in codes.iter().enumerate() {
         let character = plain_character(*code);
@@ -101,8 +103,8 @@ fn put_characters(text: &mut [u8], start: usize, codes: &[u8]) -> bool
     all
 }
 
-// Puts the characters of a text in quotes, and returns whether that is the text: each byte is the
-// code of one other than the quote.
+// Appends the characters of bytes in quotes. Returns whether that is their text: each has a
+// character other than the quote.
 fn push_plain(out: &mut Vec<u8>, bytes: &[u8]) -> Result<bool, NoMemory>
     ensures text { OnOk result (out.new.items
         ≡ out.old.items ++ (codes "'" ++ (map plain bytes.now ++ codes "'"))) }
@@ -116,7 +118,7 @@ fn push_plain(out: &mut Vec<u8>, bytes: &[u8]) -> Result<bool, NoMemory>
     Ok(all)
 }
 
-// A text of any bytes.
+// Appends a byte string as a literal, whatever its bytes.
 #[inline(never)]
 fn push_any(out: &mut Vec<u8>, bytes: &[u8]) -> Result<(), NoMemory>
     ensures { OnOk result (out.new.items ≡ out.old.items ++ text_of bytes.now) }
@@ -131,21 +133,21 @@ fn push_any(out: &mut Vec<u8>, bytes: &[u8]) -> Result<(), NoMemory>
     push_str(out, "'")
 }
 
-// Whether a byte is the code of a character.
+// Returns whether a byte has a character.
 fn has_character(code: &u8) -> bool
     ensures { result ≡ has_character code.now }
 {
     from_ebcdic(*code).is_some()
 }
 
-// Whether every byte is the code of a character.
+// Returns whether every byte has a character.
 fn has_characters(bytes: &[u8]) -> bool
     ensures { result ≡ list_all has_character bytes.now }
 {
     bytes.iter().all(|code| has_character(code))
 }
 
-// The character of a byte, where it has one.
+// Appends the character of a byte, if it has one.
 fn push_shown(out: &mut Vec<u8>, code: u8) -> Result<(), NoMemory>
     ensures { OnOk result (out.new.items ≡ out.old.items ++ shown code) }
 {
@@ -155,7 +157,7 @@ fn push_shown(out: &mut Vec<u8>, code: u8) -> Result<(), NoMemory>
     Ok(())
 }
 
-// A byte's character as it stands between quotes.
+// Appends the character of a byte as it stands between quotes, if it has one.
 fn push_quoted_byte(out: &mut Vec<u8>, code: u8) -> Result<(), NoMemory>
     ensures { OnOk result (out.new.items ≡ out.old.items ++ quoted code) }
 {
@@ -177,7 +179,7 @@ fn push_quoted(out: &mut Vec<u8>, bytes: &[u8]) -> Result<(), NoMemory>
     Ok(())
 }
 
-// A hexadecimal digit of a number below 16.
+// Returns the hexadecimal digit of a number below 16.
 fn digit(number: u8) -> u8
     requires { number < 16 }
     ensures { result ≡ digit number }
@@ -199,7 +201,7 @@ fn push_hexadecimal(out: &mut Vec<u8>, bytes: &[u8]) -> Result<(), NoMemory>
     Ok(())
 }
 
-// The bytes of a name without the blanks that fill it up.
+// Returns a name without the blanks that fill it up.
 fn unfilled(name: &[u8]) -> &[u8]
     ensures { result.now ≡ unfilled name.now }
 {

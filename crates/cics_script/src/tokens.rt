@@ -1,4 +1,11 @@
-//! The tokens of a line: words, numbers, literals and parentheses.
+//! Cuts a line into tokens: words, numbers, literals and parentheses.
+//!
+//! `next_token` reads any token. `next_word`, `next_quoted`, `next_number`, `behind_word` and
+//! `named` are quicker, and read the tokens of most lines. Their `None` decides nothing: then
+//! `next_token` says what stands there.
+//!
+//! A token is *broken* if it can't be read: a byte that begins no token, a literal with a wrong
+//! character or without its last quote, or a number above 64 bits.
 
 ghost use Rattle.std.specs.Prelude.{◌≡◌, ◌==◌, ◌+◌, ◌-◌, ◌*◌, ◌<◌, ◌≤◌, ◌^◌, Option, Some, None};
 ghost use Rattle.std.specs.Prelude.{ℕ, List};
@@ -15,10 +22,10 @@ use crate::faults::LineFault;
 use crate::literals::{CLASSES, Literal, Notation, is_quote_byte, literal_at};
 use crate::words::capital_of;
 
-/// A token where it stands in its line.
+/// A token, borrowed from its line.
 #[derive(Clone, Copy)]
 pub enum Token<'a> {
-    /// A word as it is written. Small letters count as capitals.
+    /// A word as it stands in the line. Small letters count as capitals.
     Word(&'a [u8]),
     Number(u64),
     Literal(Literal<'a>),
@@ -38,6 +45,7 @@ fn is_letter_byte(byte: u8) -> bool
     byte.is_ascii_alphabetic()
 }
 
+// Returns whether a byte has class 2.
 fn is_in_word(byte: u8) -> bool
     ensures { result ≡ is_word_byte byte }
 {
@@ -71,14 +79,14 @@ fn digits_len(bytes: &[u8]) -> usize
         .count()
 }
 
-/// The line behind the blanks in front.
+/// Returns a line without the spaces and tabs at its start.
 pub fn skip_blanks(bytes: &[u8]) -> &[u8]
     ensures { result.now ≡ after_blanks bytes.now }
 {
     bytes.split_at(blanks_len(bytes)).1
 }
 
-// A number with one digit more, where it fits.
+// Returns a number with one digit more, or `None` if 64 bits don't hold it.
 fn with_digit(value: u64, digit: u8) -> Option<u64>
     ensures { result ≡ (if nat_lt (value * 10 + (digit - 48)) (2 ^ 64) then Some
         (value * 10 + (digit - 48)) else None) }
@@ -88,7 +96,7 @@ fn with_digit(value: u64, digit: u8) -> Option<u64>
         .checked_add(u64::from(digit.saturating_sub(b'0')))
 }
 
-// The value of digits, where it fits.
+// Returns the value of digits, or `None` if 64 bits don't hold it.
 fn number_of(digits: &[u8]) -> Option<u64>
     ensures { result ≡ (if nat_lt (value_of digits.now) (2 ^ 64) then Some
         (value_of digits.now) else None) }
@@ -120,7 +128,7 @@ fn read_word(bytes: &[u8]) -> (Token<'_>, &[u8])
     (Token::Word(word), rest)
 }
 
-// A literal behind its first quote.
+// Reads a literal, from after its first quote.
 fn read_literal(notation: Notation, behind_quote: &[u8]) -> Result<(Token<'_>, &[u8]), LineFault>
     ensures { GivesToken result (as_literal notation (text_in notation behind_quote.now)) }
 {
@@ -130,7 +138,7 @@ fn read_literal(notation: Notation, behind_quote: &[u8]) -> Result<(Token<'_>, &
     }
 }
 
-// The line behind X and a quote, where it begins so.
+// Returns what follows `X'` or `x'`, if the line begins so.
 fn hexadecimal_digits(bytes: &[u8]) -> Option<&[u8]>
     ensures { option_map (λ digits. digits.now) result ≡ behind_x bytes.now }
 {
@@ -143,7 +151,7 @@ fn hexadecimal_digits(bytes: &[u8]) -> Option<&[u8]>
     }
 }
 
-// The token in front of bytes that begin with no blank, and the bytes behind it.
+// Returns the first token and the bytes after it. The bytes begin with no blank.
 fn read_token(bytes: &[u8]) -> Result<(Token<'_>, &[u8]), LineFault>
     requires { 0 < length bytes.now }
     ensures { GivesToken result (token_at bytes.now) }
@@ -169,8 +177,8 @@ fn read_token(bytes: &[u8]) -> Result<(Token<'_>, &[u8]), LineFault>
     }
 }
 
-/// Cuts off the token in front of bytes that begin with no blank, and returns its bytes and those
-/// behind it; nothing if the token is broken in itself.
+/// Returns the bytes of the first token, and those after it. Returns `None` if the token is broken.
+/// A blank begins no token: call [`skip_blanks`] before.
 pub fn whole_token(bytes: &[u8]) -> Option<(&[u8], &[u8])>
     requires { 0 < length bytes.now }
     ensures { CutsOff bytes.now result }
@@ -181,8 +189,7 @@ pub fn whole_token(bytes: &[u8]) -> Option<(&[u8], &[u8])>
     }
 }
 
-/// Whether a line begins with a text. Where the text is known, its bytes stand in the instructions
-/// that compare them, and no loop goes over it.
+/// Returns whether a line begins with a text. A constant text is compared without a loop.
 pub fn begins_with(bytes: &[u8], text: &[u8]) -> bool
     ensures { result ≡ true →
         bytes.now ≡ text.now ++ drop (length text.now) bytes.now }
@@ -204,8 +211,8 @@ fn is_gap_byte(byte: u8) -> bool
     byte == b' ' || byte == b'(' || byte == b')'
 }
 
-// Whether a word right before the line is whole: the line ends here, or a blank or a parenthesis
-// follows.
+// Returns whether a word right before these bytes ends there: none are left, or a space or a
+// parenthesis is the first. A tab or a quote ends a word too, but is rare.
 fn is_ended(bytes: &[u8]) -> bool
     ensures { result ≡ ends bytes.now }
 {
@@ -215,8 +222,8 @@ fn is_ended(bytes: &[u8]) -> bool
     }
 }
 
-/// The line behind a word in capitals, where it begins with it and the word ends there. `None` says
-/// nothing of the line: the word may be written otherwise.
+/// Returns the line after a word in capitals, if it begins with that whole word. `None` decides
+/// nothing: the word may have small letters, or a tab after it.
 pub fn behind_word<'a>(bytes: &'a [u8], capitals: &[u8]) -> Option<&'a [u8]>
     requires { is_word capitals.now ≡ true }
     ensures { IfSome result (λ rest. StartsWith capitals.now bytes.entry.now rest.now) }
@@ -228,8 +235,8 @@ pub fn behind_word<'a>(bytes: &'a [u8], capitals: &[u8]) -> Option<&'a [u8]>
     if is_ended(rest) { Some(rest) } else { None }
 }
 
-/// What these capitals name, where the line begins with them as a whole word, and the line behind
-/// it. `None` says nothing of the line, as with `behind_word`.
+/// Returns `meaning` and the line after a word in capitals, if it begins with that whole word.
+/// `meaning` is what a table has for the word. `None` decides nothing, as in `behind_word`.
 pub fn named<'a, X: Copy>(bytes: &'a [u8], capitals: &[u8], meaning: X) -> Option<(X, &'a [u8])>
     requires capitals { is_word capitals.now ≡ true }
     ensures { (rows : List (List ℕ × X)) → lookup capitals.now rows ≡ Some meaning →
@@ -239,7 +246,8 @@ pub fn named<'a, X: Copy>(bytes: &'a [u8], capitals: &[u8], meaning: X) -> Optio
     Some((meaning, rest))
 }
 
-/// Reads the next token if it is a word that doesn't begin with X. On `None` ask `next_token`.
+/// Returns the next token and the line after it, if it is a word that doesn't begin with X (as
+/// hexadecimal literals do). `None` decides nothing.
 pub fn next_word(bytes: &[u8]) -> Option<(&[u8], &[u8])>
     ensures { IfSome result (λ found.
         Takes bytes.entry.now (Ok (Some (Token.Word found.0, found.1)))) }
@@ -252,8 +260,8 @@ pub fn next_word(bytes: &[u8]) -> Option<(&[u8], &[u8])>
     Some(front.split_at(word_len(front)))
 }
 
-/// The next token and the line behind it where it is a literal in quotes with no blank in front.
-/// `None` says nothing of the line: then `next_token` tells.
+/// Returns the next token and the line after it, if it is a quoted literal with no blank before it.
+/// `None` decides nothing.
 pub fn next_quoted(bytes: &[u8]) -> Option<(Literal<'_>, &[u8])>
     ensures { IfSome result (λ found.
         Takes bytes.now (Ok (Some (Token.Literal found.0, found.1)))) }
@@ -265,8 +273,8 @@ pub fn next_quoted(bytes: &[u8]) -> Option<(Literal<'_>, &[u8])>
     literal_at(Notation::Quoted, behind_quote)
 }
 
-/// The next token and the line behind it if it is a number with no blank in front. `None` says
-/// nothing of the line: then `next_token` tells.
+/// Returns the next token and the line after it, if it is a number with no blank before it. `None`
+/// decides nothing.
 pub fn next_number(bytes: &[u8]) -> Option<(u64, &[u8])>
     ensures { IfSome result (λ found.
         Takes bytes.now (Ok (Some (Token.Number found.0, found.1)))) }
@@ -280,8 +288,10 @@ pub fn next_number(bytes: &[u8]) -> Option<(u64, &[u8])>
     Some((number, rest))
 }
 
-/// The next token and the line behind it, or nothing at the line's end. Most tokens are read by
-/// quicker ways.
+/// Returns the next token and the line after it, or `None` at the line's end. Cold, since the calls
+/// above read most tokens.
+///
+/// Errors: the fault of a broken token.
 #[cold]
 #[inline(never)]
 pub fn next_token(bytes: &[u8]) -> Result<Option<(Token<'_>, &[u8])>, LineFault>

@@ -1,4 +1,4 @@
-//! What the options that were read give.
+//! Finds what the options that were read give.
 
 ghost use Rattle.std.specs.Prelude.{◌≡◌, Ok, option_map};
 ghost use Rattle.cics_script.specs.Faults.{Reads};
@@ -12,7 +12,7 @@ use crate::words::{OptionWord, is_same};
 use cics_names::{Name4, Name8, Record};
 use std::alloc::Global;
 
-// What stands in an option's parentheses.
+// Returns what stands in an option's parentheses, if the option was read.
 fn value_at<'a, 'l>(found: &'a [Found<'l>], option: OptionWord) -> Option<&'a Value<'l>>
     ensures { option_map (λ value. content value.now) result
         ≡ content_at option (entries found.now) }
@@ -25,7 +25,9 @@ fn value_at<'a, 'l>(found: &'a [Found<'l>], option: OptionWord) -> Option<&'a Va
     None
 }
 
-/// The record that an option gives; where there is none, `MissingOption`.
+/// Returns the record that an option gives, which the line needs.
+///
+/// Errors: `MissingOption` if it gives none, `NoMemory`.
 pub fn text_of(alloc: Global, found: &[Found<'_>], option: OptionWord) -> Result<Record, LineFault>
     ensures { Reads (needed (text_at option (entries found.now)) Ok) result }
 {
@@ -38,7 +40,7 @@ pub fn text_of(alloc: Global, found: &[Found<'_>], option: OptionWord) -> Result
     }
 }
 
-/// The record that an option gives, where it is there.
+/// Returns the record that an option gives, if it gives one. Errors: `NoMemory`.
 pub fn optional_text_of(
     alloc: Global,
     found: &[Found<'_>],
@@ -55,7 +57,7 @@ pub fn optional_text_of(
     }
 }
 
-/// The name of eight bytes that an option gives.
+/// Returns the name of eight bytes that an option gives, if it gives one.
 pub fn name8_of(found: &[Found<'_>], option: OptionWord) -> Option<Name8>
     ensures { result ≡ name8_at option (entries found.now) }
 {
@@ -65,7 +67,7 @@ pub fn name8_of(found: &[Found<'_>], option: OptionWord) -> Option<Name8>
     }
 }
 
-/// The name of four bytes that an option gives.
+/// Returns the name of four bytes that an option gives, if it gives one.
 pub fn name4_of(found: &[Found<'_>], option: OptionWord) -> Option<Name4>
     ensures { result ≡ name4_at option (entries found.now) }
 {
@@ -75,7 +77,7 @@ pub fn name4_of(found: &[Found<'_>], option: OptionWord) -> Option<Name4>
     }
 }
 
-/// The number that an option gives.
+/// Returns the number that an option gives, if it gives one.
 pub fn number_of(found: &[Found<'_>], option: OptionWord) -> Option<u64>
     ensures { result ≡ amount_at option (entries found.now) }
 {
@@ -85,15 +87,16 @@ pub fn number_of(found: &[Found<'_>], option: OptionWord) -> Option<u64>
     }
 }
 
-/// What a line can't do without; where there is none, `MissingOption`.
+/// Returns a value that the line needs. Errors: `MissingOption` if there is none.
 pub fn needed<T>(value: Option<T>) -> Result<T, LineFault>
     ensures { result ≡ needed value Ok }
 {
     value.ok_or(LineFault::MissingOption)
 }
 
-/// The number of an option that may give anything: where the option isn't there, `MissingOption`,
-/// and where it gives something else, `BadNumber`.
+/// Returns the number in an option's area, which the line needs.
+///
+/// Errors: `MissingOption` if the option wasn't read, `BadNumber` if its area is no number.
 pub fn needed_number_of(found: &[Found<'_>], option: OptionWord) -> Result<u64, LineFault>
     ensures { result ≡ as_needed_amount (content_at option (entries found.now)) }
 {

@@ -1,4 +1,4 @@
-//! The words of the grammar: which word begins which line, and what each line and command takes.
+//! The grammar as tables: which word begins which line, and which options each line takes.
 
 ghost use Rattle.std.specs.Prelude.{◌≡◌, ◌||◌, [], ◌∷◌, IfSome, None, map};
 ghost use Rattle.std.specs.List.{list_any};
@@ -18,7 +18,7 @@ use crate::words::OptionWord::{
     TdQueue, Transid, TsPrefix, Unrecoverable, Unrecovered, Update,
 };
 
-/// A word that begins a line and is no label.
+/// The first word of a line that begins with no label.
 #[derive(Clone, Copy, PartialEq, Eq)]
 pub enum Start {
     Define,
@@ -43,7 +43,7 @@ pub enum LoadObject {
     TdQueue,
 }
 
-/// The verb of a command, with TS or TD where it acts on a queue.
+/// The verb of a command, with TS or TD if it acts on a queue.
 #[derive(Clone, Copy, PartialEq, Eq)]
 pub enum CommandWord {
     Read,
@@ -69,7 +69,7 @@ pub enum CommandWord {
     Abend,
 }
 
-/// A line with options.
+/// What a line is, by which its options are looked up.
 #[derive(Clone, Copy, PartialEq, Eq)]
 pub enum Form {
     Define(DefineObject),
@@ -80,7 +80,7 @@ pub enum Form {
     Command(CommandWord),
 }
 
-/// An option of some line. FILE and DATASET are one.
+/// An option of a line. FILE and DATASET are the same option.
 #[derive(Clone, Copy, PartialEq, Eq)]
 pub enum OptionWord {
     File,
@@ -93,7 +93,7 @@ pub enum OptionWord {
     Unrecoverable,
     Logical,
     Physical,
-    /// NONE of DEFINE TDQUEUE.
+    /// The word NONE, of DEFINE TDQUEUE.
     Unrecovered,
     From,
     Transid,
@@ -124,7 +124,7 @@ pub enum OptionWord {
     EndExec,
 }
 
-/// What an option takes in its parentheses.
+/// What an option takes in parentheses.
 #[derive(Clone, Copy, PartialEq, Eq)]
 pub enum Kind {
     /// No parentheses.
@@ -186,7 +186,7 @@ static COMMANDS: [(&str, CommandWord); 18] = [
     ("ABEND", CommandWord::Abend),
 ];
 
-// Frequent words come first, and FILE before DATASET: `option_word` returns the first.
+// FILE stands before DATASET: `option_word` returns the first word of an option.
 static OPTIONS: [(&str, OptionWord); 39] = [
     ("FILE", File),
     ("DATASET", File),
@@ -229,14 +229,14 @@ static OPTIONS: [(&str, OptionWord); 39] = [
     ("END-EXEC", EndExec),
 ];
 
-/// A letter's capital, and any other byte as it is.
+/// Returns a letter's capital, and any other byte as it is.
 pub fn capital_of(byte: u8) -> u8
     ensures { result ≡ capital byte }
 {
     byte.to_ascii_uppercase()
 }
 
-/// Whether a word, in capitals or small letters, is this word in capitals.
+/// Returns whether a word, in capitals or small letters, is `name`, which is in capitals.
 pub fn is_spelled(word: &[u8], name: &[u8]) -> bool
     ensures { result ≡ bytes_eq (map capital word.now) name.now }
 {
@@ -251,7 +251,7 @@ pub fn is_spelled(word: &[u8], name: &[u8]) -> bool
     true
 }
 
-// What a table has for a word.
+// Returns what a table has for a word, in capitals or small letters.
 fn find_row<T: Copy>(rows: &[(&str, T)], word: &[u8]) -> Option<T>
     ensures { result ≡ lookup (map capital word.now) (map (λ row. (row.0.now, row.1)) rows.now) }
 {
@@ -263,36 +263,36 @@ fn find_row<T: Copy>(rows: &[(&str, T)], word: &[u8]) -> Option<T>
     None
 }
 
-/// What a word begins that is no label.
+/// Returns which line a word begins, or `None` if it may be a label.
 pub fn start_of(word: &[u8]) -> Option<Start>
     ensures { result ≡ lookup (map capital word.now) starts }
 {
     find_row(&STARTS, word)
 }
 
-/// What DEFINE defines by this word.
+/// Returns what DEFINE defines if this word follows it.
 pub fn define_object(word: &[u8]) -> Option<DefineObject>
     ensures { result ≡ lookup (map capital word.now) define_objects }
 {
     find_row(&DEFINE_OBJECTS, word)
 }
 
-/// What LOAD loads by this word.
+/// Returns what LOAD loads if this word follows it.
 pub fn load_object(word: &[u8]) -> Option<LoadObject>
     ensures { result ≡ lookup (map capital word.now) load_objects }
 {
     find_row(&LOAD_OBJECTS, word)
 }
 
-/// The command of this verb.
+/// Returns the command of a verb. For WRITEQ, READQ and DELETEQ it is that of TS.
 pub fn command_named(word: &[u8]) -> Option<CommandWord>
     ensures { result ≡ lookup (map capital word.now) commands }
 {
     find_row(&COMMANDS, word)
 }
 
-/// Returns the command of a verb and TS or TD, or `None` if the word is neither or the verb takes
-/// none.
+/// Returns the command of a verb and the word after it, or `None` if the word isn't TS or TD, or
+/// the verb takes neither.
 pub fn queue_command(verb: CommandWord, word: &[u8]) -> Option<CommandWord>
     ensures { result ≡ lookup (map capital word.now) (queue_words verb) }
 {
@@ -306,8 +306,8 @@ pub fn queue_command(verb: CommandWord, word: &[u8]) -> Option<CommandWord>
     }
 }
 
-/// Returns the command of a verb and TD, or `None` if the verb takes neither TS nor TD. The command
-/// of a verb and TS is the verb's.
+/// Returns the command of a verb and TD, or `None` if the verb takes neither TS nor TD. With TS the
+/// command is `verb` itself.
 pub fn td_command(verb: CommandWord) -> Option<CommandWord>
     ensures none { result ≡ None → queue_words verb ≡ [] }
     ensures some { IfSome result (λ of_td.
@@ -321,14 +321,14 @@ pub fn td_command(verb: CommandWord) -> Option<CommandWord>
     }
 }
 
-/// The option of this word, whatever the line.
+/// Returns the option of a word, whatever the line.
 pub fn option_named(word: &[u8]) -> Option<OptionWord>
     ensures { result ≡ lookup (map capital word.now) option_words }
 {
     find_row(&OPTIONS, word)
 }
 
-// The word that a table has for an option: the first.
+// Returns the first word that a table has for an option.
 fn find_word(rows: &[(&'static str, OptionWord)], option: OptionWord) -> &'static str
     ensures { result.now ≡ word_among option (map (λ row. (row.0.now, row.1)) rows.now) }
 {
@@ -340,21 +340,21 @@ fn find_word(rows: &[(&'static str, OptionWord)], option: OptionWord) -> &'stati
     ""
 }
 
-/// The word of an option: of FILE and DATASET the first.
+/// Returns the word of an option, FILE rather than DATASET.
 pub fn option_word(option: OptionWord) -> &'static str
     ensures { result.now ≡ option_word option }
 {
     find_word(&OPTIONS, option)
 }
 
-/// Whether two options are the same.
+/// Returns whether two options are the same.
 pub fn is_same(first: OptionWord, second: OptionWord) -> bool
     ensures { result ≡ same first second }
 {
     first == second
 }
 
-// The options of a line, without those of every command.
+// Returns the options of a line, but for those of every command.
 fn own_options(form: Form) -> &'static [OptionWord]
     ensures { result.now ≡ own_options form }
 {
@@ -377,7 +377,7 @@ fn own_options(form: Form) -> &'static [OptionWord]
     }
 }
 
-// The options that a command has besides those of every command.
+// Returns the options of a command, but for those of every command.
 fn options_of_command(command: CommandWord) -> &'static [OptionWord]
     ensures { result.now ≡ options_of_command command }
 {
@@ -408,7 +408,7 @@ fn options_of_command(command: CommandWord) -> &'static [OptionWord]
     }
 }
 
-// The options of every command.
+// Returns the options of every command, or none for another line.
 fn shared_options(form: Form) -> &'static [OptionWord]
     ensures { result.now ≡ shared_options form }
 {
@@ -418,7 +418,7 @@ fn shared_options(form: Form) -> &'static [OptionWord]
     }
 }
 
-// Whether an option is one of these.
+// Returns whether an option is one of these.
 fn is_among(options: &[OptionWord], option: OptionWord) -> bool
     ensures { result ≡ list_any (same option) options.now }
 {
@@ -430,7 +430,7 @@ fn is_among(options: &[OptionWord], option: OptionWord) -> bool
     false
 }
 
-// What an option takes in most lines that have it.
+// Returns what an option takes in most lines that have it.
 fn usual_kind(option: OptionWord) -> Kind
     ensures { result ≡ usual_kind option }
 {
@@ -445,7 +445,7 @@ fn usual_kind(option: OptionWord) -> Kind
     }
 }
 
-// What an option takes in a line that has it.
+// Returns what an option takes in a line that has it.
 fn kind_at(form: Form, option: OptionWord) -> Kind
     ensures { result ≡ kind_at form option }
 {
@@ -472,7 +472,7 @@ pub fn kind_of(form: Form, option: OptionWord) -> Option<Kind>
     }
 }
 
-// The options that one line can't have beside this one.
+// Returns the options that a line can't have beside this one.
 fn excluded_by(option: OptionWord) -> &'static [OptionWord]
     ensures { result.now ≡ excluded_by option }
 {
@@ -494,7 +494,7 @@ fn excluded_by(option: OptionWord) -> &'static [OptionWord]
     }
 }
 
-/// Whether one line can't have both options.
+/// Returns whether no line can have both options.
 pub fn is_excluded(first: OptionWord, second: OptionWord) -> bool
     ensures { result ≡ excludes first second }
 {

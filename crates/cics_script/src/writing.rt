@@ -1,4 +1,4 @@
-//! Commands written out as lines of a script.
+//! Writes commands as lines of a script.
 
 ghost use Rattle.std.specs.Prelude.{◌≡◌, ◌++◌, OnOk, Some, None, option_map, codes};
 ghost use Rattle.std.specs.Option.{option_copied};
@@ -13,12 +13,12 @@ use crate::texts::{push_name, push_number, push_str, push_text};
 use crate::words::{OptionWord, option_word};
 use cics_names::{Command, Name4, Name8, NoMemory, Record, Verb};
 
-/// Appends the command's line, without LF, which `read_line` reads back (`commands_in_any_order`).
-/// Appends nothing if no line says it: DELETE with KEYLENGTH or GENERIC but no RIDFLD. On
-/// `NoMemory` part of the line may be there.
+/// Appends the line of a command, without LF. `label` is written as it is. `read_line` reads the
+/// line back if the command's options go together (`back` of `commands_in_any_order`).
 ///
-/// `label` is written as it is, and a name without the blanks that fill it up. A record is written
-/// in characters if each of its bytes has one, else in hexadecimal.
+/// Appends nothing if no line says the command: DELETE with KEYLENGTH or GENERIC but no RIDFLD.
+///
+/// Errors: `NoMemory`. Then what it appended is unspecified.
 pub fn write_out(out: &mut Vec<u8>, label: &[u8], command: &Command) -> Result<(), NoMemory>
     ensures { OnOk result (out.new.items
         ≡ out.old.items ++ written_out label.now command.now) }
@@ -33,7 +33,8 @@ pub fn write_out(out: &mut Vec<u8>, label: &[u8], command: &Command) -> Result<(
     push_options(out, &command.verb)
 }
 
-// The word of a command, with TS or TD where it acts on a queue, if a line can say the command.
+// Returns the word of a command, with TS or TD if it acts on a queue. Returns `None` if no line
+// says the command.
 fn command_text(verb: &Verb) -> Option<&'static str>
     ensures { option_copied result ≡ option_map command_text (word_of verb.now) }
 {
@@ -72,7 +73,7 @@ fn command_text(verb: &Verb) -> Option<&'static str>
     }
 }
 
-// The options that make a command on a file what it is, and those of any other command.
+// Appends the options of a command.
 fn push_options(out: &mut Vec<u8>, verb: &Verb) -> Result<(), NoMemory>
     ensures { OnOk result (out.new.items
         ≡ out.old.items ++ flat_map option_text (options_of verb.now)) }
@@ -147,7 +148,7 @@ fn push_options(out: &mut Vec<u8>, verb: &Verb) -> Result<(), NoMemory>
     }
 }
 
-// The options that make a command what it is that acts on no file.
+// Appends the options of a command that acts on no file.
 fn push_other_options(out: &mut Vec<u8>, verb: &Verb) -> Result<(), NoMemory>
     requires { file_named verb.now ≡ None }
     ensures { OnOk result (out.new.items
@@ -211,7 +212,7 @@ fn push_other_options(out: &mut Vec<u8>, verb: &Verb) -> Result<(), NoMemory>
     }
 }
 
-// REWRITE, and ITEM with the number of the item that is replaced, where one is.
+// Appends REWRITE, and ITEM with the number of the item that is replaced, if there is one.
 fn push_replaced(out: &mut Vec<u8>, item: Option<u64>) -> Result<(), NoMemory>
     ensures { OnOk result (out.new.items
         ≡ out.old.items ++ flat_map option_text (replacing item)) }
@@ -223,7 +224,7 @@ fn push_replaced(out: &mut Vec<u8>, item: Option<u64>) -> Result<(), NoMemory>
     push_amount(out, OptionWord::Item, Some(item))
 }
 
-// FILE, RIDFLD and KEYLENGTH.
+// Appends FILE, RIDFLD, and KEYLENGTH if it is there.
 fn push_key(
     out: &mut Vec<u8>,
     file: &Name8,
@@ -240,7 +241,7 @@ fn push_key(
     push_amount(out, OptionWord::KeyLength, key_length)
 }
 
-// FROM and LENGTH.
+// Appends FROM, and LENGTH if it is there.
 fn push_from(out: &mut Vec<u8>, from: &Record, length: Option<u64>) -> Result<(), NoMemory>
     ensures { OnOk result (out.new.items ≡ out.old.items
         ++ (option_text (OptionWord.From, Some (text from.now))
@@ -250,7 +251,7 @@ fn push_from(out: &mut Vec<u8>, from: &Record, length: Option<u64>) -> Result<()
     push_amount(out, OptionWord::Length, length)
 }
 
-// An option that gives a record.
+// Appends an option that gives a record.
 fn push_record(out: &mut Vec<u8>, option: OptionWord, content: &Record) -> Result<(), NoMemory>
     ensures { OnOk result (out.new.items
         ≡ out.old.items ++ option_text (option, Some (text content.now))) }
@@ -261,7 +262,7 @@ fn push_record(out: &mut Vec<u8>, option: OptionWord, content: &Record) -> Resul
     push_str(out, ")")
 }
 
-// An option that gives a name of eight bytes.
+// Appends an option that gives a name of eight bytes.
 fn push_name8(out: &mut Vec<u8>, option: OptionWord, name: &Name8) -> Result<(), NoMemory>
     ensures { OnOk result (out.new.items
         ≡ out.old.items ++ option_text (option, Some (name8 name.now))) }
@@ -272,7 +273,7 @@ fn push_name8(out: &mut Vec<u8>, option: OptionWord, name: &Name8) -> Result<(),
     push_str(out, ")")
 }
 
-// An option that gives a name of four bytes.
+// Appends an option that gives a name of four bytes.
 fn push_name4(out: &mut Vec<u8>, option: OptionWord, name: &Name4) -> Result<(), NoMemory>
     ensures { OnOk result (out.new.items
         ≡ out.old.items ++ option_text (option, Some (name4 name.now))) }
@@ -283,7 +284,7 @@ fn push_name4(out: &mut Vec<u8>, option: OptionWord, name: &Name4) -> Result<(),
     push_str(out, ")")
 }
 
-// An option that gives a number, where there is one.
+// Appends an option that gives a number, if there is one.
 fn push_amount(out: &mut Vec<u8>, option: OptionWord, number: Option<u64>) -> Result<(), NoMemory>
     ensures { OnOk result (out.new.items
         ≡ out.old.items ++ option_text (option, option_map amount number)) }
@@ -297,7 +298,7 @@ fn push_amount(out: &mut Vec<u8>, option: OptionWord, number: Option<u64>) -> Re
     push_str(out, ")")
 }
 
-// An option that stands alone, where it is to be there.
+// Appends an option that stands alone, if `is_there`.
 fn push_flag(out: &mut Vec<u8>, option: OptionWord, is_there: bool) -> Result<(), NoMemory>
     ensures { OnOk result (out.new.items
         ≡ out.old.items ++ option_text (option, flag is_there)) }
@@ -308,7 +309,7 @@ fn push_flag(out: &mut Vec<u8>, option: OptionWord, is_there: bool) -> Result<()
     Ok(())
 }
 
-// The word of an option, behind a blank.
+// Appends a space and the word of an option.
 fn push_word(out: &mut Vec<u8>, option: OptionWord) -> Result<(), NoMemory>
     ensures { OnOk result (out.new.items ≡ out.old.items ++ (codes " " ++ option_word option)) }
 {
