@@ -122,8 +122,8 @@ taken_more t next (Ok says) = followed t next says
 taken_more t next (Err f) = faulty t (fault.Line f)
 
 -- a line led to this, and to its fault if it has one, unless memory was refused
-abbrev pub Leads : {E : Type 0} → Step → Taken → Result (Option ScriptFault) E → Type 0
-Leads s now result = IfOk result (λ fault. (now ≡ s.taken) × (fault ≡ s.fault))
+abbrev pub TakesLine : {E : Type 0} → Step → Taken → Result (Option ScriptFault) E → Type 0
+TakesLine s now result = IfOk result (λ fault. (now ≡ s.taken) × (fault ≡ s.fault))
 
 -- ---- Whole scripts
 

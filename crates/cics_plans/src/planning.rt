@@ -3,7 +3,7 @@
 ghost use Rattle.std.specs.Prelude.{◌≡◌, OnOk, IfOk};
 ghost use Rattle.cics_script.specs.Lines.{line};
 ghost use Rattle.cics_plans.specs.Firsts.{first_place};
-ghost use Rattle.cics_plans.specs.Taking.{Leads, nothing_taken, taken_more, followed};
+ghost use Rattle.cics_plans.specs.Taking.{TakesLine, nothing_taken, taken_more, followed};
 ghost use Rattle.cics_plans.specs.Taking.{is_task, line_added, attached, issued};
 ghost use Rattle.cics_plans.specs.Taking.{timed, defined, with_refused, taken_apart, planned};
 
@@ -93,7 +93,8 @@ impl Planner {
     ///
     /// Errors: `NoMemory`.
     pub fn take(&mut self, number: u64, bytes: &[u8]) -> Result<Option<ScriptFault>, NoMemory>
-        ensures { Leads (taken_more self.old (number, bytes.now) (line bytes.now)) self.new result }
+        ensures { TakesLine (taken_more self.old (number, bytes.now) (line bytes.now)) self.new
+            result }
     {
         match read(self.alloc, bytes)? {
             Ok(line) => self.follow((number, Record::from_slice(self.alloc, bytes)?), line),
@@ -117,7 +118,7 @@ impl Planner {
 
     // Takes a line that was read.
     fn follow(&mut self, next: (u64, Record), line: Line) -> Result<Option<ScriptFault>, NoMemory>
-        ensures { Leads (followed self.old next line) self.new result }
+        ensures { TakesLine (followed self.old next line) self.new result }
     {
         match line {
             Line::Blank => Ok(None),
@@ -149,7 +150,7 @@ impl Planner {
 
     // Takes a line that defines or loads.
     fn define(&mut self, next: (u64, Record), line: Line) -> Result<Option<ScriptFault>, NoMemory>
-        ensures { Leads (defined self.old next line) self.new result }
+        ensures { TakesLine (defined self.old next line) self.new result }
     {
         if !self.is_opening {
             return Ok(Some(ScriptFault::Line(LineFault::DefineTooLate)));

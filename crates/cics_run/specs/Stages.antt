@@ -158,8 +158,8 @@ abbrev pub replay_at : Stage → List ℕ
 replay_at stage = replay_text (replayed_listing (region_of stage))
 
 -- a line led to this, and to this stage, unless memory was refused
-abbrev pub Leads : {E : Type 0} → Step → Stage → List ℕ → List ℕ → Result (Option Fault) E → Type 0
-Leads s stage before now result = MatchResult result (λ fault. (stage ≡ s.stage) × (now ≡ before ++ s.text) × (fault ≡ s.fault)) (λ _. Unit {0})
+abbrev pub IsPlayed : {E : Type 0} → Step → Stage → List ℕ → List ℕ → Result (Option Fault) E → Type 0
+IsPlayed s stage before now result = MatchResult result (λ fault. (stage ≡ s.stage) × (now ≡ before ++ s.text) × (fault ≡ s.fault)) (λ _. Unit {0})
 
 -- an event led to this, and to this region, unless memory was refused
 abbrev pub Happens : {E : Type 0} → Step → RegionValue → List ℕ → List ℕ → Result (Unit {0}) E → Type 0

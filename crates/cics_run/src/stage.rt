@@ -10,7 +10,7 @@ ghost use Rattle.cics_run.specs.Journal.{shutdown_line, shutdown_refused_line};
 ghost use Rattle.cics_run.specs.Stages.{first_stage, region_of, event};
 ghost use Rattle.cics_run.specs.Stages.{task_attached, clock_moved, command_issued, region_shut};
 ghost use Rattle.cics_run.specs.Stages.{fault_line, followed, step};
-ghost use Rattle.cics_run.specs.Stages.{defined, told_line, IsAnswered, Leads, Happens};
+ghost use Rattle.cics_run.specs.Stages.{defined, told_line, IsAnswered, IsPlayed, Happens};
 ghost use Rattle.cics_run.specs.declared.stage.Stage.TheVariants.{Opening as OpeningStage, Running};
 
 use crate::journal::{
@@ -66,7 +66,7 @@ impl Stage {
         line: &[u8],
         out: &mut Vec<u8>,
     ) -> Result<Option<Fault>, NoMemory>
-        ensures { Leads (step number self.old line.now) self.new out.old.items out.new.items
+        ensures { IsPlayed (step number self.old line.now) self.new out.old.items out.new.items
             result }
     {
         match read_line(*out.allocator(), line) {
@@ -78,7 +78,7 @@ impl Stage {
 
     // Runs a line that was read.
     fn follow(&mut self, at: u64, line: Line, out: &mut Vec<u8>) -> Result<Option<Fault>, NoMemory>
-        ensures { Leads (followed at self.old (Ok line)) self.new out.old.items out.new.items
+        ensures { IsPlayed (followed at self.old (Ok line)) self.new out.old.items out.new.items
             result }
     {
         match line {
@@ -121,7 +121,7 @@ impl Stage {
         dtimout: u64,
         out: &mut Vec<u8>,
     ) -> Result<Option<Fault>, NoMemory>
-        ensures { Leads (task_attached (region_of self.old).machine label transaction dtimout)
+        ensures { IsPlayed (task_attached (region_of self.old).machine label transaction dtimout)
             self.new out.old.items out.new.items result }
     {
         self.open()?;
@@ -133,7 +133,7 @@ impl Stage {
     }
 
     fn set_clock(&mut self, seconds: u64, out: &mut Vec<u8>) -> Result<Option<Fault>, NoMemory>
-        ensures { Leads (clock_moved (region_of self.old).machine seconds) self.new out.old.items
+        ensures { IsPlayed (clock_moved (region_of self.old).machine seconds) self.new out.old.items
             out.new.items result }
     {
         self.open()?;
@@ -150,7 +150,7 @@ impl Stage {
         command: Command,
         out: &mut Vec<u8>,
     ) -> Result<Option<Fault>, NoMemory>
-        ensures { Leads (command_issued (region_of self.old).machine label command) self.new
+        ensures { IsPlayed (command_issued (region_of self.old).machine label command) self.new
             out.old.items out.new.items result }
     {
         self.open()?;
@@ -162,7 +162,7 @@ impl Stage {
     }
 
     fn shutdown(&mut self, out: &mut Vec<u8>) -> Result<Option<Fault>, NoMemory>
-        ensures { Leads (region_shut (region_of self.old).machine) self.new out.old.items
+        ensures { IsPlayed (region_shut (region_of self.old).machine) self.new out.old.items
             out.new.items result }
     {
         self.open()?;
@@ -230,7 +230,7 @@ fn tell_defined(
 ) -> Result<Option<Fault>, NoMemory>
     ensures { (o next now : OpeningState) (fault : Option DefineFault)
         → AnswersFault answer fault → OnOk answer (now ≡ next) → OnErr answer (now ≡ o)
-        → Leads (defined number o fault next) (OpeningStage now) out.old.items out.new.items
+        → IsPlayed (defined number o fault next) (OpeningStage now) out.old.items out.new.items
         result }
 {
     match answer {
