@@ -24,7 +24,8 @@ defined_fault (Some d) check = check d
 abbrev pub queue_fault : Machine → Bytes → Option Condition
 queue_fault m q = fault_unless (has_key q m.units.opening.queues) Qiderr
 
--- an item or a transient data record that LENGTH overruns, or of no byte or too many, is LENGERR
+-- an item or a transient data record is LENGERR if LENGTH is 0 or above the length of FROM, or if
+-- it has no byte or too many
 abbrev pub item_fault : Bytes → Option ℕ → Option Condition
 item_fault from n = fault_unless (is_within from n && is_item (used_of from n)) Lengerr
 
@@ -36,8 +37,8 @@ resource_fault value n = fault_unless (nat_le 1 n && nat_le n 255 && nat_le n (l
 abbrev pub open_key : Machine → Task → Bytes → Option Bytes
 open_key m t f = has_read m.units t.unit f
 
--- READ UPDATE goes with neither GTEQ nor GENERIC; its key's length; no second update read of the
--- file
+-- READ: UPDATE without GTEQ and GENERIC; the length of its key; with UPDATE no open update read of
+-- the file
 abbrev pub read_fault : FileDef → Option Bytes → Bytes → Option ℕ → Bool → Bool → Bool → Option Condition
 read_fault d open_read key given generic gteq update =
     first_fault (
@@ -115,7 +116,7 @@ other_fault m (ReadqTd q n nosuspend) = queue_fault m q
 other_fault m (DeleteqTd q) = queue_fault m q
 other_fault m verb = value_fault verb
 
--- the first fault of a command that names this file, or none
+-- the first fault of a command that names this file, or no file
 abbrev pub named_fault : Machine → Task → Verb → Option Bytes → Option Condition
 named_fault m t verb None = other_fault m verb
 named_fault m t verb (Some f) =

@@ -1,5 +1,4 @@
--- Waiting commands (chapter on task control): which one resumes, which task has waited too long,
--- and the clock.
+-- Waiting commands: which one resumes, which task has waited too long, and the clock.
 use Rattle.std.specs.Prelude.{◌≡◌, ℕ, ◌-◌, Bool, false, ◌&&◌, if◌then◌else◌, Option, Some, None, is_none, Result, nat_le, nat_lt, take, List, [], ◌∷◌}
 use Rattle.cics_history.specs.State.{UnitsState}
 use Rattle.cics_history.specs.Holding.{awaited, value_holder}
@@ -60,8 +59,8 @@ woken m = woken_first m (first_free m m.waiting)
 
 -- ---- Time-out
 
--- a task has waited too long once the clock is its DTIMOUT past the wait's begin; a DTIMOUT of 0 is
--- no limit
+-- a task has waited too long if DTIMOUT seconds or more have passed since its wait began; a DTIMOUT
+-- of 0 is no limit
 abbrev pub is_late : Machine → Suspended → Option Task → Bool
 is_late m w None = false
 is_late m w (Some t) = nat_lt 0 t.dtimout && nat_le t.dtimout (m.clock - w.since)

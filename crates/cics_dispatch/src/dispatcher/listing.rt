@@ -11,14 +11,14 @@ use cics_units::{Listing, TaskState, Units, plain_replay};
 
 impl Dispatcher {
     /// Returns the units of work of the region, with the files and queues that they share, their
-    /// history and its outcomes.
+    /// history and their outcomes.
     pub fn units(&self) -> &Units
         ensures { result.now ≡ record { state = self.now.machine.units; store = self.now.store } }
     {
         &self.units
     }
 
-    // Returns what a task of the region does that hasn't ended.
+    // Returns the state of a task that hasn't ended.
     fn task_state(&self, task: &Task) -> TaskState
         ensures { result ≡ task_state self.now.machine task.now }
     {
@@ -48,8 +48,9 @@ impl Dispatcher {
     /// Returns what stands in the files and queues, the changes of open units included. It also
     /// returns what each task that hasn't ended does, in the order of attach.
     ///
-    /// It copies each record and the tasks, and `NoMemory` is its only error. Each task costs one
-    /// look-up of its wait, however many commands wait.
+    /// Errors: `NoMemory`.
+    ///
+    /// Cost: O(bytes copied + tasks), however many commands wait.
     pub fn listing(&self) -> Result<Listing, NoMemory>
         ensures { IfOk result (λ listing. listing ≡ region_listing self.now) }
     {
@@ -61,7 +62,7 @@ impl Dispatcher {
     /// Returns the listing that a replay of the surviving entries gives: they are applied anew, one
     /// by one, to what was loaded. It has no tasks. Uses no before images.
     ///
-    /// It copies each record, and `NoMemory` is its only error.
+    /// Errors: `NoMemory`.
     ///
     /// Cost: O(log n) for each record loaded and each command executed, for n records in its file.
     pub fn replayed(&self) -> Result<Listing, NoMemory>
