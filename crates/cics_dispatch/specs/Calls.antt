@@ -27,7 +27,7 @@ use Rattle.cics_dispatch.specs.declared.outcomes.Attempt.TheVariants.{Told, Must
 abbrev pub OfTask : List Task → ℕ → (Task → Type 0) → Type 0
 OfTask ts at P = (t : Task) → slice_get ts at ≡ Some t → P t
 
--- the tasks are as they were, but that at the index is changed so
+-- the tasks are as they were, but the one at the index, which is changed
 abbrev pub HasChanged : List Task → ℕ → (Task → Task) → List Task → Type 0
 HasChanged ts at change new = OfTask ts at (λ t. new ≡ replaced ts (change t))
 

@@ -14,8 +14,8 @@ use Rattle.cics_history.specs.declared.ops.UnitState.{UnitState}
 use Rattle.cics_history.specs.declared.ops.UnitState.TheVariants.{BackedOut}
 use Rattle.cics_names.specs.declared.commands.Command.{Command}
 
--- a task: its label, the seconds that it may wait (0 for no limit), its open unit of work, its
--- browses by file, and whether it has ended
+-- a task: its label, the seconds that it may wait (0: no limit), its open unit, its browses by
+-- file, and whether it has ended
 pub record Task : Type 0 where
   pub label : Bytes
   pub dtimout : ℕ
@@ -31,8 +31,8 @@ pub record Suspended : Type 0 where
   pub op : Option Op
   pub since : ℕ
 
--- a region: its units, its tasks in the order of attach, its waits in the order in which they
--- began, the clock in seconds, and whether it is shut down
+-- a region: its units, its tasks in the order of attach, its waits from the earliest on, the clock
+-- in seconds, and whether it is shut down
 pub record Machine : Type 0 where
   pub units : UnitsState
   pub tasks : List Task

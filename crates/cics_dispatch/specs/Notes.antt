@@ -98,8 +98,8 @@ pub record IsFreeAt (m : Machine) (v : NotesValue) (at : ℕ) (label : Bytes) : 
   pub own : note.label ≡ label
   pub first : IsFirstFree m label
 
--- the waiting command of a note uses the resource of the wait group g and nothing else, if the note
--- has no group, or the command uses that of the note's group and nothing else
+-- the waiting command of a note uses the resource of the wait group g and nothing else; this may
+-- rest on the same of the note's own group, if it has one
 abbrev pub UseOf : Machine → List Resource → Note → ℕ → Type 0
 UseOf m rs n g = (w : Suspended) (i : ℕ) → slice_get m.waiting i ≡ Some w → w.label ≡ n.label →
     ((h : ℕ) → n.line ≡ Some h → IsUse m.units.opening rs w h) → IsUse m.units.opening rs w g

@@ -142,7 +142,7 @@ executed m t c o (Answered unit a) =
 -- ---- Enqueues
 
 -- ENQ waits, or acquires its value for the task's unit, which it may begin; it is INVREQ if the
--- unit holds the value the most times that a count allows
+-- unit owns the value the most times that a count allows
 abbrev pub enqueued : Machine → Task → Command → Bytes → Enqueued → Stepped Outcome
 enqueued m t c value (EnqMustWait holder) = made_to_wait m t c None holder (busy_of c.verb)
 enqueued m t c value CountFull = answered m t c.resp (plain Invreq)
@@ -155,7 +155,7 @@ abbrev pub units_dequeued : UnitsState → Option ℕ → Bytes → UnitsState
 units_dequeued s None value = s
 units_dequeued s (Some u) value = after_dequeue s u value
 
--- DEQ releases the value once; a task without a unit holds none
+-- DEQ releases the value once; a task without a unit owns none
 abbrev pub dequeued : Machine → Option ℕ → Bytes → Machine
 dequeued m unit value = with_units m (units_dequeued m.units unit value)
 
@@ -217,8 +217,8 @@ code_of (Some code) = record { 0 = code }
 abbrev pub abended_with : Machine → Task → AbendCode → Stepped Outcome
 abended_with m t code = record { outcome = Abended code None; machine = abended m t }
 
--- a command that asks for no updating command; the last case is REWRITE, or DELETE without RIDFLD,
--- without an update read, which its checks have answered before
+-- a command that asks for no updating command; the last case is a REWRITE or DELETE without an
+-- update read, which its checks have answered before
 abbrev pub other_command : Machine → Task → Command → Verb → Stepped Outcome
 other_command m t c (Read f key given n generic gteq update) = answered m t c.resp (cut n (read_reply (records_in m f) key generic gteq))
 other_command m t c (Unlock f) = answered (unlocked m t.unit f) t c.resp (plain Normal)

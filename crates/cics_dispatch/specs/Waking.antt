@@ -24,7 +24,7 @@ clock_set m now = refused_or m (clock_refusal m now) (record { outcome = tt; mac
 
 -- ---- Waking
 
--- the unit that blocks a command, if one does: its updating command, or the value of an ENQ
+-- the unit that blocks a command, if one does, by its updating command, or by the value of an ENQ
 abbrev pub awaited_by : UnitsState → Option ℕ → Verb → Option Op → Option ℕ
 awaited_by s asking verb (Some o) = awaited s asking o
 awaited_by s asking (Enq value n nosuspend) None = value_holder s asking (take n value)

@@ -1,4 +1,4 @@
-//! The first fault of a command, before it looks at what other units hold.
+//! The first fault of a command, before it looks at what other units own.
 
 ghost use Rattle.std.specs.Prelude.{◌≡◌};
 ghost use Rattle.std.specs.Option.{option_copied};

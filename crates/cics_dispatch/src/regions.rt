@@ -81,7 +81,7 @@ impl Model for Region {
 }
 
 // Returns the unit of a command's task if the command may have released something of it. A command
-// releases nothing if its verb `keeps` what the unit holds and its task hasn't ended.
+// releases nothing if its verb `keeps` what the unit owns and its task hasn't ended.
 fn giving_up(keeps: bool, outcome: &Outcome, unit: Option<UnitId>) -> Option<UnitId>
     ensures { result ≡ (if keeps && goes_on outcome.now then None else unit) }
 {
@@ -313,7 +313,7 @@ impl Region {
     /// whose unit blocks it. `None` if no command of such a task waits, or the one that waits may
     /// resume.
     ///
-    /// It looks at what units hold now, and not at what the region remembers.
+    /// It looks at what units own now, and not at what the region remembers.
     pub fn blocker(&self, label: &Name8) -> Option<Name8>
         ensures blocker { result ≡ blocker_of self.now.machine label.now }
         ensures headline { IsHeadlineRegion self.now }

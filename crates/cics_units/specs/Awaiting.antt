@@ -30,8 +30,8 @@ abbrev pub has_none_for : Bool → Option TransState → Bool
 has_none_for past_fresh None = false
 has_none_for past_fresh (Some t) = is_logical t.kind && is_none (first_of t past_fresh)
 
--- the owner of the writing end of a LOGICAL queue, other than the asking unit, if a reader finds no
--- record in the queue that it may read
+-- the owner, other than asking, of the writing end of a LOGICAL queue, if a reader finds no record
+-- there that it may read
 abbrev pub writer_of : Table → Option TransState → Bytes → Option ℕ → ℕ → Option ℕ
 writer_of t queue q asking acting = if has_none_for (is_writer t acting q) queue then holder_over (WritingEnd q) asking t else None
 

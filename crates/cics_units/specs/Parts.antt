@@ -41,7 +41,7 @@ abbrev pub is_recoverable_in : Option FileValue → Bool
 is_recoverable_in None = false
 is_recoverable_in (Some f) = f.definition.recoverable
 
--- a record fits the file that is there, and lies in it under this key
+-- the file is there, the record fits it, and has this key
 abbrev pub IsRecordOf : Option FileValue → Bytes → Bytes → Type 0
 IsRecordOf None k r = ⊥
 IsRecordOf (Some f) k r = IsTrue (fits_file f.definition r) × (key_in f r ≡ k)
