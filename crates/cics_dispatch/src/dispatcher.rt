@@ -59,7 +59,8 @@ use std::marker::Model;
 /// work that they share.
 ///
 /// Each call is a step of the region's machine: it returns the step's outcome, and leaves its
-/// state. `Region` has what past looks at waits found. On error nothing changes.
+/// state. On error nothing changes. `Region` has calls of the same names, refuses them after a
+/// shutdown, and remembers what looks at waits found.
 #[derive(Drop)]
 pub(crate) struct Dispatcher {
     units: Units,
@@ -113,10 +114,7 @@ fn end_unit(units: &mut Units, unit: Option<UnitId>, commits: bool)
 }
 
 impl Dispatcher {
-    /// Returns the region of an opening, without a task, its clock at 0. It copies the files and
-    /// queues.
-    ///
-    /// Errors: the opening, if memory is refused.
+    /// Returns the region of an opening, as `Region::new` does.
     pub fn new(opening: Opening) -> Result<Dispatcher, Opening>
         ensures machine { IfOk result (λ region. region.machine ≡ beginning_region opening) }
         ensures kept { IfOk result IsRegionKept }
@@ -211,8 +209,7 @@ impl Dispatcher {
         }
     }
 
-    /// Begins the task of a label: ATTACH. `dtimout` is the seconds that a command of it may wait,
-    /// 0 for no limit. The transaction makes no difference.
+    /// Begins the task of a label: ATTACH.
     ///
     /// Errors, in this order: `DuplicateLabel` if a task has or had the label, and `NoMemory`.
     pub fn attach(&mut self, label: Name8, _transaction: Name4, dtimout: u64) -> Result<(), Refused>

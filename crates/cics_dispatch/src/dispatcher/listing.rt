@@ -10,8 +10,7 @@ use cics_names::{Items, Name8, NoMemory};
 use cics_units::{Listing, TaskState, Units, plain_replay};
 
 impl Dispatcher {
-    /// Returns the units of work of the region, with the files and queues that they share, their
-    /// history and their outcomes.
+    /// Returns the units of work of the region.
     pub fn units(&self) -> &Units
         ensures { result.now ≡ record { state = self.now.machine.units; store = self.now.store } }
     {
@@ -45,12 +44,7 @@ impl Dispatcher {
         Ok(tasks)
     }
 
-    /// Returns what stands in the files and queues, the changes of open units included. It also
-    /// returns what each task that hasn't ended does, in the order of attach.
-    ///
-    /// Errors: `NoMemory`.
-    ///
-    /// Cost: O(bytes copied + tasks), however many commands wait.
+    /// Returns what stands in the files and queues, and what each task that hasn't ended does.
     pub fn listing(&self) -> Result<Listing, NoMemory>
         ensures { IfOk result (λ listing. listing ≡ region_listing self.now) }
     {
@@ -59,12 +53,7 @@ impl Dispatcher {
         Ok(listing)
     }
 
-    /// Returns the listing that a replay of the surviving entries gives: they are applied anew, one
-    /// by one, to what was loaded. It has no tasks. Uses no before images.
-    ///
-    /// Errors: `NoMemory`.
-    ///
-    /// Cost: O(log n) for each record loaded and each command executed, for n records in its file.
+    /// Returns the listing that a replay of the surviving entries gives, without tasks.
     pub fn replayed(&self) -> Result<Listing, NoMemory>
         ensures { IfOk result (λ listing. listing ≡ replayed_listing self.now) }
     {

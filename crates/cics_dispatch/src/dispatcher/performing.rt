@@ -187,18 +187,11 @@ impl Dispatcher {
         }
     }
 
-    /// Executes a command of the task of a label, which is at this index: it is answered, or it
+    /// Executes a command of the task of a label, which is at an index: it is answered, or it
     /// waits, or its task ends.
     ///
-    /// A condition that neither RESP nor NOHANDLE handles abends the task with the condition's
-    /// default code, if it has one.
-    ///
-    /// Errors, in this order:
-    ///
-    /// - `TaskEnded`: the task has ended.
-    /// - `TaskWaiting`: a command of it waits.
-    /// - `NoMemory`, once the command's checks have passed. UNLOCK, RESETBR, ENDBR, DEQ, SYNCPOINT,
-    ///   ROLLBACK, RETURN and ABEND take no memory.
+    /// Errors, in this order: `TaskEnded`, `TaskWaiting`, and once the command's checks have passed
+    /// `NoMemory`.
     pub fn issue(&mut self, at: usize, label: Name8, command: Command) -> Result<Outcome, Refused>
         requires task { slice_get self.old.machine.tasks at ≡ task_at self.old.machine.tasks label }
         requires within { at < length self.old.machine.tasks }
