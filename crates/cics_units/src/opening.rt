@@ -73,7 +73,7 @@ fn is_record_size(size: u64) -> bool
 fn is_key(definition: FileDef) -> bool
     ensures { result ≡ is_key definition }
 {
-    // The key's end is never summed up, since the two numbers may be any.
+    // The key's end is never summed up: offset and length may be any, and their sum might wrap.
     1 <= definition.key_length
         && definition.key_length <= 255
         && definition.key_length <= definition.record_size
