@@ -1,6 +1,7 @@
 -- The steps of a region: what ATTACH and each command are answered, and the state that they leave.
 -- After its checks a command waits, or is executed and answered. A content longer than LENGTH is
--- LENGERR. A condition that nothing handles abends the task.
+-- LENGERR. A condition that nothing handles abends the task (all chapters of the manual on
+-- commands, and that on the exceptional conditions; docs/RULES.md).
 use Rattle.std.specs.Prelude.{ℕ, Bool, true, false, if◌then◌else◌, Option, Some, None, is_some, option_map, Result, Ok, Err, take, [], ◌∷◌, ◌++◌}
 use Rattle.cics_names.specs.Commands.{file_named, length_of}
 use Rattle.cics_names.specs.Keyed.{Bytes, value_at, with_value, without}

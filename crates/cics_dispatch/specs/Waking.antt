@@ -1,4 +1,5 @@
--- Waiting commands: which one resumes, which task has waited too long, and the clock.
+-- Waiting commands: which one resumes, which task has waited too long, and the clock (the manual's
+-- chapter on task control; docs/RULES.md).
 use Rattle.std.specs.Prelude.{◌≡◌, ℕ, ◌-◌, Bool, false, ◌&&◌, if◌then◌else◌, Option, Some, None, is_none, Result, nat_le, nat_lt, take, List, [], ◌∷◌}
 use Rattle.cics_history.specs.State.{UnitsState}
 use Rattle.cics_history.specs.Holding.{awaited, value_holder}

@@ -166,7 +166,7 @@ impl Region {
     /// Executes a command of the task of a label: it is answered, or it waits, or its task ends.
     ///
     /// A condition that neither RESP nor NOHANDLE handles abends the task with the condition's
-    /// default code, if it has one.
+    /// default code, if it has one (the manual's chapter on the exceptional conditions).
     ///
     /// Errors, in this order, which change nothing:
     ///

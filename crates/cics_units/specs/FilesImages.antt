@@ -1,5 +1,5 @@
--- The files of a region as one value whose changes are undone: values by name, each of them a file.
--- A cell is a key of a file.
+-- The files of a region as one value whose changes are undone (the manual's chapter on recovery):
+-- values by name, each of them a file. A cell is a key of a file.
 use Rattle.std.specs.Prelude.{Bool, Option, None}
 use Rattle.cics_names.specs.Keyed.{Bytes, Map, is_key_in}
 use Rattle.cics_images.specs.Cells.{Cell, Content}
