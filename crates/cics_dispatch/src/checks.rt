@@ -64,7 +64,7 @@ fn used(from: &[u8], length: Option<u64>) -> Option<&[u8]>
 }
 
 /// Returns the first fault of a WRITE: INVREQ for the length of its key, then LENGERR for that of
-/// its record. Last is INVREQ if the key in the record is another.
+/// its record. Last is INVREQ if the record has another key.
 pub(crate) fn write_fault(
     definition: FileDef,
     key: &[u8],
@@ -90,9 +90,10 @@ pub(crate) fn write_fault(
     }
 }
 
-/// Returns the first fault of a READ, which is INVREQ: for UPDATE with GTEQ or GENERIC, and for the
-/// length of its key. Last for UPDATE if the task has an open update read of the file, whose key is
-/// `open_key`.
+/// Returns the first fault of a READ, which is INVREQ: for UPDATE with GTEQ or GENERIC, or for the
+/// length of its key. It is INVREQ too for UPDATE if the task has an open update read of the file.
+///
+/// Here and below `open_key` is the key of that update read, `None` if there is none.
 pub(crate) fn read_fault(
     definition: FileDef,
     open_key: Option<&[u8]>,
@@ -119,8 +120,7 @@ pub(crate) fn read_fault(
 }
 
 /// Returns the first fault of a REWRITE: LENGERR for the length of its record, then INVREQ if no
-/// update read of the file is open. It is INVREQ too if the key in the record isn't `open_key`, the
-/// key that was read.
+/// update read of the file is open. Last is INVREQ if the record has another key than `open_key`.
 pub(crate) fn rewrite_fault(
     definition: FileDef,
     open_key: Option<&[u8]>,
@@ -270,8 +270,7 @@ pub(crate) fn back_fault(browse: Option<&Browse>) -> Option<Condition>
     }
 }
 
-/// Returns the bytes of FROM that LENGTH uses. Without LENGTH they are FROM itself, which takes no
-/// memory.
+/// Returns the bytes of FROM that LENGTH uses: FROM itself without LENGTH, else a copy.
 pub(crate) fn used_record(from: Record, length: Option<u64>) -> Result<Record, NoMemory>
     requires { IsTrue (is_within from length) }
     ensures { IfOk result (λ content. content ≡ used_of from length) }

@@ -1,4 +1,4 @@
-//! The first fault of a command, before it looks at what other units hold.
+//! The first fault of a command, before it looks at what other units own.
 
 ghost use Rattle.std.specs.Prelude.{◌≡◌};
 ghost use Rattle.std.specs.Option.{option_copied};
@@ -12,15 +12,14 @@ use cics_browse::Browse;
 use cics_ksds::FileDef;
 use cics_names::{Condition, Verb};
 
-/// Returns the first fault of a command on a file that is defined, and `None` for every other
-/// command.
+/// Returns the first fault of a command on a defined file, if it has one.
 ///
 /// `open_key` is the key of the task's open update read of the file, and `browse` its browse of it,
 /// each `None` if there is none.
 ///
 /// The faults come in this order: INVREQ for the options and the length of the key, then LENGERR
 /// for the length of FROM. Then comes INVREQ for the open update read and the browse, and last
-/// INVREQ if the key in the record is another.
+/// INVREQ if the record has another key.
 pub(crate) fn file_fault(
     definition: FileDef,
     open_key: Option<&[u8]>,
@@ -62,7 +61,7 @@ pub(crate) fn file_fault(
     }
 }
 
-// Returns the first fault of a command of a browse, and None for every other command.
+// Returns the first fault of a command of a browse. None for every other command.
 fn browsing_fault(definition: FileDef, browse: Option<&Browse>, verb: &Verb) -> Option<Condition>
     ensures { result ≡ browsing_fault definition (option_copied browse.entry) verb.now }
 {

@@ -1,4 +1,6 @@
-//! Look-ups of what conflicts with a resource and belongs to another unit.
+//! Look-ups of what conflicts with a resource and is another unit's than the asker's.
+//!
+//! `bound` is a key that a look-up fills with the bytes that it looks for.
 
 ghost use Rattle.std.specs.Prelude.{◌≡◌, ◌≤◌, ◌∷◌, ◌++◌, [], length, drop, None, true};
 ghost use Rattle.std.specs.Prelude.{if◌then◌else◌, option_map};
@@ -45,7 +47,7 @@ pub(crate) fn other_unit(held: Option<&Holding>, asker: &Option<UnitId>) -> Opti
     }
 }
 
-// Returns the owner of some bytes, if it isn't the asker.
+// Returns the owner of the table key with these bytes, if it isn't the asker.
 pub(crate) fn other_holder(
     table: &BTreeMap<Key, Holding>,
     bound: &mut Key,
@@ -58,8 +60,8 @@ pub(crate) fn other_holder(
     other_unit(held_under(table, bound, bytes), asker)
 }
 
-// Sets the bound at which a look-up of what begins with some bytes begins: to these. Were there no
-// room for them, it would be no bytes, and the look-up would go through the whole table.
+// Sets the bound at which a look-up of the table keys that begin with `start` begins. It is
+// `start`, or no bytes if memory is refused: then the look-up goes through the whole table.
 fn set_bound(bound: &mut Key, start: &[u8])
     requires most { length start.now ≤ 265 }
     ensures { has_prefix bound.new.items start.now ≡ true }
@@ -67,8 +69,7 @@ fn set_bound(bound: &mut Key, start: &[u8])
     let _ = bound.set(&[], start);
 }
 
-// Returns the bytes and the unit of the first entry that begins with some bytes and isn't the
-// asker's.
+// Returns the bytes and the unit of the first entry that begins with `start` and isn't the asker's.
 pub(crate) fn first_under<'t>(
     table: &'t BTreeMap<Key, Holding>,
     bound: &mut Key,
@@ -97,7 +98,7 @@ pub(crate) fn first_under<'t>(
     None
 }
 
-// Returns whether a prefix of keys may be owned: the bytes of one come before those of all else.
+// Returns false only if no prefix of keys is owned. Its table key would come before all others.
 pub(crate) fn has_prefixes(table: &BTreeMap<Key, Holding>) -> bool
     ensures { OnFalse result ((b : Bytes) → lookup (finds (0 ∷ b)) table.now.entries ≡ None) }
 {
@@ -110,8 +111,8 @@ pub(crate) fn has_prefixes(table: &BTreeMap<Key, Holding>) -> bool
     }
 }
 
-// Returns the owner, if it isn't the asker, of the shortest prefix of keys with which bytes begin,
-// other than these themselves.
+// Returns the owner, other than the asker, of the shortest prefix of keys with which `bytes` begin
+// and which is shorter than they.
 pub(crate) fn shorter_holder(
     table: &BTreeMap<Key, Holding>,
     bound: &mut Key,
@@ -133,7 +134,7 @@ pub(crate) fn shorter_holder(
     None
 }
 
-// Bytes without the first.
+// Returns a table key without its kind.
 fn after_kind(bytes: &[u8]) -> &[u8]
     ensures { result.now ≡ drop 1 bytes.now }
 {
@@ -143,8 +144,8 @@ fn after_kind(bytes: &[u8]) -> &[u8]
     }
 }
 
-// Returns the owner of a key, or that of a prefix of keys if its bytes come first, without their
-// kinds.
+// Returns `other`, the owner of a prefix of keys, if the prefix comes before a key, both without
+// their kinds. Else returns `holder`, the owner of the key.
 fn lesser_holder(key: &[u8], holder: UnitId, prefix: &[u8], other: UnitId) -> UnitId
     ensures { result ≡ (if is_below (drop 1 prefix.now) (drop 1 key.now) then other else holder) }
 {
@@ -181,8 +182,8 @@ pub(crate) fn least_holder(
     Some(lesser_holder(key.0, key.1, prefix.0, prefix.1))
 }
 
-// Returns the owner, other than the asker, of the first resource that conflicts with a key. That is
-// a shorter prefix, the key, or the prefix with its bytes.
+// Returns the owner, other than the asker, of the first resource that conflicts with a key: a
+// shorter prefix, the key, or the prefix with its bytes, in this order.
 pub(crate) fn key_holder(
     table: &BTreeMap<Key, Holding>,
     bound: &mut Key,
