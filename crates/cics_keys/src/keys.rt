@@ -56,10 +56,19 @@ fn numbers_of(bytes: &[u8]) -> Numbers
 
 // A table key: the bytes of a resource, and their head. Heads tell nearly all keys apart. They are
 // in the node of the tree, while the bytes are elsewhere in memory.
-#[derive(Drop)]
 pub struct Key {
     numbers: Numbers,
     bytes: Vec<u8>,
+}
+
+// By hand: a derived drop is taken apart wherever a key is dropped.
+impl Drop for Key {
+    fn drop(self) {
+        let Key {
+            numbers: _numbers,
+            bytes: _bytes,
+        } = self;
+    }
 }
 
 impl Model for Key {
