@@ -11,7 +11,7 @@ use std::cmp::Ordering;
 use std::marker::Model;
 
 // The most bytes of a table key: two, a file's name of eight and a key of 255.
-pub(crate) const MOST: usize = 265;
+pub const MOST: usize = 265;
 
 // How many bytes a number has.
 const WORD: usize = 8;
@@ -130,7 +130,7 @@ impl Key {
 
     // Makes it the key of these few bytes, or of none if memory is refused. It doesn't read the
     // key's bytes back for the head, as `set` does.
-    pub(crate) fn set_short<const N: usize>(&mut self, bytes: &[u8; N]) -> Result<(), NoMemory>
+    pub fn set_short<const N: usize>(&mut self, bytes: &[u8; N]) -> Result<(), NoMemory>
         requires most { length bytes.now ≤ 265 }
         ensures set { OnOk result (self.new.items ≡ bytes.now) }
         ensures err { OnErr result (self.new.items ≡ []) }
@@ -145,7 +145,7 @@ impl Key {
     }
 
     // Makes it the key of two parts, `front` and `rest`, or of no bytes if memory is refused.
-    pub(crate) fn set(&mut self, front: &[u8], rest: &[u8]) -> Result<(), NoMemory>
+    pub fn set(&mut self, front: &[u8], rest: &[u8]) -> Result<(), NoMemory>
         requires most { length front.now + length rest.now ≤ 265 }
         ensures set { OnOk result (self.new.items ≡ front.now ++ rest.now) }
         ensures err { OnErr result (self.new.items ≡ []) }
