@@ -10,7 +10,7 @@ use std::alloc::Global;
 use std::cmp::Ordering;
 use std::marker::Model;
 
-// The most bytes of a table key: two, a file's name of eight and a key of 255.
+/// The most bytes of a table key: two, a file's name of eight and a key of 255.
 pub const MOST: usize = 265;
 
 // How many bytes a number has.
@@ -54,8 +54,8 @@ fn numbers_of(bytes: &[u8]) -> Numbers
     }
 }
 
-// A table key: the bytes of a resource, and their head. Heads tell nearly all keys apart. They are
-// in the node of the tree, while the bytes are elsewhere in memory.
+/// A table key: the bytes of a resource, and their head. Heads tell nearly all keys apart. They are
+/// in the node of the tree, while the bytes are elsewhere in memory.
 pub struct Key {
     numbers: Numbers,
     bytes: Vec<u8>,
@@ -97,7 +97,7 @@ fn refill(bytes: &mut Vec<u8>, front: &[u8], rest: &[u8]) -> Result<(), NoMemory
 }
 
 impl Key {
-    // Returns the key of no bytes.
+    /// Returns the key of no bytes.
     pub fn new(alloc: Global) -> Key
         ensures { result.items ≡ [] }
     {
@@ -111,14 +111,14 @@ impl Key {
         }
     }
 
-    // Returns its bytes.
+    /// Returns its bytes.
     pub fn as_slice(&self) -> &[u8]
         ensures { result.now ≡ self.now.items }
     {
         self.bytes.as_slice()
     }
 
-    // Returns a key of the same bytes.
+    /// Returns a key of the same bytes.
     pub fn copy(&self, alloc: Global) -> Result<Key, NoMemory>
         ensures { IfOk result (λ copy. copy.items ≡ self.now.items) }
     {
@@ -128,8 +128,8 @@ impl Key {
         })
     }
 
-    // Makes it the key of these few bytes, or of none if memory is refused. It doesn't read the
-    // key's bytes back for the head, as `set` does.
+    /// Makes it the key of these few bytes, or of none if memory is refused. It doesn't read the
+    /// key's bytes back for the head, as `set` does.
     pub fn set_short<const N: usize>(&mut self, bytes: &[u8; N]) -> Result<(), NoMemory>
         requires most { length bytes.now ≤ 265 }
         ensures set { OnOk result (self.new.items ≡ bytes.now) }
@@ -144,7 +144,7 @@ impl Key {
         Ok(())
     }
 
-    // Makes it the key of two parts, `front` and `rest`, or of no bytes if memory is refused.
+    /// Makes it the key of two parts, `front` and `rest`, or of no bytes if memory is refused.
     pub fn set(&mut self, front: &[u8], rest: &[u8]) -> Result<(), NoMemory>
         requires most { length front.now + length rest.now ≤ 265 }
         ensures set { OnOk result (self.new.items ≡ front.now ++ rest.now) }
