@@ -1,5 +1,5 @@
 -- Tokens that were written are read back, and a line of them has no other bytes than a script may have.
-use Rattle.std.proofs.Common.{◌≡◌, ℕ, suc, Bool, true, false, ◌==◌, ◌&&◌, ◌+◌, ◌*◌, ◌-◌, ◌/◌, ◌%◌, ◌≤◌, ◌<◌, ◌^◌, List, [], ◌∷◌, ◌++◌, length, take, drop, map, refl, arith, ap, sym, ◌∙◌, Some, None, inl, inr}
+use Rattle.std.proofs.Common.{◌≡◌, ℕ, suc, Bool, true, false, ◌==◌, ◌&&◌, ◌+◌, ◌*◌, ◌-◌, ◌/◌, ◌%◌, ◌≤◌, ◌<◌, ◌^◌, List, [], ◌∷◌, ◌++◌, length, take, drop, map, append_assoc, refl, arith, ap, sym, ◌∙◌, Some, None, inl, inr}
 use Rattle.std.proofs.lemmas.Bool.{cases_Bool}
 use Rattle.std.proofs.lemmas.Bool.Decides.{nat_tests}
 use Rattle.std.proofs.lemmas.Fmt.{decimal_by_steps}
@@ -7,15 +7,16 @@ use Rattle.std.proofs.lemmas.List.Folds.{list_all-append}
 use Rattle.std.proofs.lemmas.List.{length-append}
 use Rattle.std.proofs.lemmas.List.Sums.{fold-append}
 use Rattle.std.proofs.Math.Seq.{drop-append_seam, take-append_seam}
-use Rattle.std.specs.List.{list_all, prefix_len}
+use Rattle.std.specs.List.{flat_map, list_all, prefix_len}
 use Rattle.std.specs.Fmt.{decimal}
 use Rattle.std.specs.Prelude.{nat_lt, nat_le, if◌then◌else◌, is_some}
 use Rattle.cics_names.specs.Ebcdic.{Run, runs, is_within, code_in, code_of}
 use Rattle.cics_script.specs.declared.literals.Notation.TheVariants.{Quoted, Hexadecimal}
 use Rattle.cics_script.specs.Tokens.{Token, word, number, literal, opening, closing, broken, is_blank, is_capital, is_letter, is_digit, is_quote, is_word_byte, capital, after_blanks}
 use Rattle.cics_script.specs.Tokens.{value_of, with_byte, characters_from, digit_pairs, hex_value, as_literal, as_number, behind_x, hexadecimal_or, plain_at, word_at, number_at, token_at, tokens_in, tokens}
+use Rattle.cics_script.specs.Texts.{digit, doubled, hexadecimal}
 use Rattle.cics_script.specs.Lines.{is_script_byte, is_empty_or_comment}
-use Rattle.cics_script.specs.Layout.{is_gap, ends, quoted, hexadecimal_digit, hexadecimal, token_bytes, is_in_capitals, is_word, IsWritable, AreWritable, laid_out}
+use Rattle.cics_script.specs.Layout.{is_gap, ends, token_bytes, is_in_capitals, is_word, IsWritable, AreWritable, laid_out}
 use Rattle.cics_script.proofs.TokenSteps.{tokens-next, enough, blanks-within}
 
 -- ---- runs of bytes of one kind
@@ -161,7 +162,7 @@ quote-is : (c : ℕ) → is_quote c ≡ true → c ≡ 39
 quote-is c e = grind (arith, nat_tests)
 
 characters-quoted : (said rest : List ℕ) → list_all (λ c. is_some (code_of c)) said ≡ true → ends rest ≡ true
-    → characters_from false (quoted said ++ rest) ≡ Some (said, rest)
+    → characters_from false (flat_map doubled said ++ 39 ∷ rest) ≡ Some (said, rest)
 characters-quoted [] [] all gap = refl
 characters-quoted [] (c ∷ rest) all gap = rw (no_quote-gap c gap) refl
 characters-quoted (c ∷ said) rest all gap =
@@ -171,19 +172,19 @@ characters-quoted (c ∷ said) rest all gap =
       | inr other ↦ rw other (rw (other, parts.0) (ap (with_byte c) (characters-quoted said rest parts.1 gap)))
     ]
 
-no_quote-digit : (n : ℕ) → n < 16 → is_quote (hexadecimal_digit n) ≡ false
+no_quote-digit : (n : ℕ) → n < 16 → is_quote (digit n) ≡ false
 no_quote-digit n h = grind (arith, nat_tests)
 
-hex_value-digit : (n : ℕ) → n < 16 → hex_value (hexadecimal_digit n) ≡ Some n
+hex_value-digit : (n : ℕ) → n < 16 → hex_value (digit n) ≡ Some n
 hex_value-digit n h =
     elim (cases_Bool (nat_lt n 10)) [
-      | inl below ↦ rw below (if-true (is_digit (48 + n)) _ _ (grind (arith, nat_tests)) ∙ ap Some (omega arith))
+      | inl below ↦ rw below (if-true (is_digit (n + 48)) _ _ (grind (arith, nat_tests)) ∙ ap Some (omega arith))
       | inr above ↦ rw above (
-          if-false (is_digit (55 + n)) _ _ (grind (arith, nat_tests))
-          ∙ if-true (nat_le 65 (55 + n) && nat_le (55 + n) 70) _ _ (grind (arith, nat_tests)) ∙ ap Some (omega arith))
+          if-false (is_digit (n + 55)) _ _ (grind (arith, nat_tests))
+          ∙ if-true (nat_le 65 (n + 55) && nat_le (n + 55) 70) _ _ (grind (arith, nat_tests)) ∙ ap Some (omega arith))
     ]
 
-pairs-hexadecimal : (bytes rest : List ℕ) → list_all (λ byte. nat_lt byte 256) bytes ≡ true → digit_pairs (hexadecimal bytes ++ rest) ≡ Some (bytes, rest)
+pairs-hexadecimal : (bytes rest : List ℕ) → list_all (λ byte. nat_lt byte 256) bytes ≡ true → digit_pairs (flat_map hexadecimal bytes ++ 39 ∷ rest) ≡ Some (bytes, rest)
 pairs-hexadecimal [] [] all = refl
 pairs-hexadecimal [] (c ∷ rest) all = refl
 pairs-hexadecimal (byte ∷ bytes) rest all =
@@ -204,9 +205,13 @@ token_at-written (word (c ∷ letters)) rest can gap =
     token_at-word c letters rest parts.0 parts.1 gap
 token_at-written (number n) rest can gap = token_at-number n (decimal n) rest can (decimal-digits n can) gap
 token_at-written (literal Quoted said) rest can gap =
-    ap (λ x. hexadecimal_or x (plain_at 39 (quoted said ++ rest))) (behind_x-other 39 (quoted said ++ rest) refl)
+    let behind = (flat_map doubled said ++ 39 ∷ []) ++ rest in
+    ap (λ x. hexadecimal_or x (plain_at 39 behind)) (behind_x-other 39 behind refl)
+    ∙ ap (λ b. as_literal Quoted (characters_from false b)) (append_assoc (flat_map doubled said) (39 ∷ []) rest)
     ∙ ap (as_literal Quoted) (characters-quoted said rest can gap)
-token_at-written (literal Hexadecimal bytes) rest can gap = ap (as_literal Hexadecimal) (pairs-hexadecimal bytes rest can)
+token_at-written (literal Hexadecimal bytes) rest can gap =
+    ap (λ b. as_literal Hexadecimal (digit_pairs b)) (append_assoc (flat_map hexadecimal bytes) (39 ∷ []) rest)
+    ∙ ap (as_literal Hexadecimal) (pairs-hexadecimal bytes rest can)
 token_at-written opening rest can gap = ap (λ x. hexadecimal_or x (plain_at 40 rest)) (behind_x-other 40 rest refl)
 token_at-written closing rest can gap = ap (λ x. hexadecimal_or x (plain_at 41 rest)) (behind_x-other 41 rest refl)
 token_at-written (broken fault) rest can gap = absurd can
@@ -281,7 +286,7 @@ script-in_capitals c e = grind (arith, nat_tests)
 script-digit : (c : ℕ) → is_digit c ≡ true → is_script_byte c ≡ true
 script-digit c e = grind (arith, nat_tests)
 
-script-hexadecimal : (n : ℕ) → n < 16 → is_script_byte (hexadecimal_digit n) ≡ true
+script-hexadecimal : (n : ℕ) → n < 16 → is_script_byte (digit n) ≡ true
 script-hexadecimal n h = grind (arith, nat_tests)
 
 -- a run of characters from the space to the tilde
@@ -304,7 +309,7 @@ script-coded : (c : ℕ) → is_some (code_of c) ≡ true → is_script_byte c �
 unfolding code_of
 script-coded c some = script-run runs c refl some
 
-script-quoted : (said : List ℕ) → list_all (λ c. is_some (code_of c)) said ≡ true → list_all is_script_byte (quoted said) ≡ true
+script-quoted : (said : List ℕ) → list_all (λ c. is_some (code_of c)) said ≡ true → list_all is_script_byte (flat_map doubled said ++ 39 ∷ []) ≡ true
 script-quoted [] all = refl
 script-quoted (c ∷ said) all =
     let parts = both_true (is_some (code_of c)) (list_all (λ c. is_some (code_of c)) said) all in
@@ -313,7 +318,7 @@ script-quoted (c ∷ said) all =
       | inr other ↦ rw other (rw (script-coded c parts.0) (script-quoted said parts.1))
     ]
 
-script-hexadecimal_all : (bytes : List ℕ) → list_all (λ byte. nat_lt byte 256) bytes ≡ true → list_all is_script_byte (hexadecimal bytes) ≡ true
+script-hexadecimal_all : (bytes : List ℕ) → list_all (λ byte. nat_lt byte 256) bytes ≡ true → list_all is_script_byte (flat_map hexadecimal bytes ++ 39 ∷ []) ≡ true
 script-hexadecimal_all [] all = refl
 script-hexadecimal_all (byte ∷ bytes) all =
     let parts = both_true (nat_lt byte 256) (list_all (λ byte. nat_lt byte 256) bytes) all in

@@ -1,7 +1,8 @@
 -- Steps of reading options, one after another.
-use Rattle.std.proofs.Common.{◌≡◌, ◌≢◌, ℕ, List, [], ◌∷◌, ◌++◌, refl, ap, sym, ◌∙◌, Option, Some}
+use Rattle.std.proofs.Common.{◌≡◌, ◌≢◌, ℕ, Bool, ◌||◌, List, [], ◌∷◌, ◌++◌, refl, ap, sym, ◌∙◌, Option, Some}
 use Rattle.std.specs.Prelude.{Result, Ok, Err}
 use Rattle.std.specs.Result.{result_map_both}
+use Rattle.std.specs.List.{list_any}
 use Rattle.arrayvec.specs.ArrayVec.{ArrayVec}
 use Rattle.std.proofs.lemmas.List.{map-append}
 use Rattle.cics_script.specs.declared.faults.LineFault.{LineFault}
@@ -52,6 +53,11 @@ reads-opening form last found w option kind rest is may valued more =
     ap (λ o. named form found o >>= λ s. reads form s.0 s.1 rest) (sym is)
     ∙ ap (λ r. (r >>= λ k. Ok (entered option found k)) >>= λ s. reads form s.0 s.1 rest) (sym may)
     ∙ ap (λ s. reads form s.0 s.1 rest) (entered-value option found kind valued more)
+
+-- whether an option was read that passes a test
+pub any-entries : (test : OptionWord → Bool) (found : List Found) → list_any (λ one. test one.option) found ≡ list_any (λ entry. test entry.0) (entries found)
+any-entries test [] = refl
+any-entries test (one ∷ found) = ap (λ some. test one.option || some) (any-entries test found)
 
 -- one option more
 pub entries-more : (found : List Found) (one : Found) → entries (found ++ one ∷ []) ≡ entries found ++ (one.option, content one.value) ∷ []

@@ -1,8 +1,8 @@
 -- A command that is written out is read back.
-use Rattle.std.proofs.Common.{◌≡◌, ◌≤◌, true, false, ℕ, List, [], ◌∷◌, ◌++◌, length, map, refl, ap, sym, ◌∙◌, subst, arith, append_assoc, ◌/◌, ◌%◌, Option, Some, None, inl, inr}
+use Rattle.std.proofs.Common.{◌≡◌, ◌≤◌, true, false, ℕ, List, [], ◌∷◌, ◌++◌, length, map, refl, ap, sym, ◌∙◌, subst, append_assoc, append-nil, Option, Some, None, inl, inr}
 use Rattle.std.proofs.lemmas.Bool.{cases_Bool}
 use Rattle.std.proofs.lemmas.List.Folds.{list_all-append}
-use Rattle.std.specs.Prelude.{Ok, IsTrue, nat_lt, if◌then◌else◌, is_some, unwrap_or, option_map}
+use Rattle.std.specs.Prelude.{Ok, IsTrue, is_some, unwrap_or, option_map}
 use Rattle.std.specs.List.{flat_map, list_all}
 use Rattle.std.specs.Option.{option_to_list}
 use Rattle.std.specs.Fmt.{decimal}
@@ -12,12 +12,11 @@ use Rattle.cics_script.specs.declared.words.CommandWord.{CommandWord}
 use Rattle.cics_script.specs.declared.words.CommandWord.TheVariants as command
 use Rattle.cics_script.specs.declared.words.OptionWord.{OptionWord}
 use Rattle.cics_script.specs.declared.lines.Line.TheVariants.{Issue}
-use Rattle.cics_script.specs.Tokens.{Token, word, number, opening, closing, is_quote, tokens}
+use Rattle.cics_script.specs.Tokens.{Token, word, number, opening, closing, tokens}
 use Rattle.cics_script.specs.Options.{Content, text, name8, name4, amount, nothing}
-use Rattle.cics_script.specs.Texts as printed
-use Rattle.cics_script.specs.Texts.{doubled, shown, text_of, name_text, unfilled}
+use Rattle.cics_script.specs.Texts.{doubled, quoted, text_of, name_text, unfilled}
 use Rattle.cics_script.specs.Lines.{is_script_byte, label_in, statement, line}
-use Rattle.cics_script.specs.Layout.{quoted, hexadecimal, hexadecimal_digit, token_bytes, is_word, IsWritable}
+use Rattle.cics_script.specs.Layout.{token_bytes, is_word, IsWritable}
 use Rattle.cics_script.specs.WrittenOut.{in_parentheses, value_text, option_text, queue_text, command_text, asked_of, written_with, written_out}
 use Rattle.cics_script.specs.Words.{option_word}
 use Rattle.cics_script.specs.Spelling.{command_word, value_tokens, option_tokens, queue_tokens, command_tokens, options_of, CanBeGiven, AllCanBeGiven, go_together}
@@ -30,35 +29,26 @@ use lib.Chars.{codes}
 
 -- ---- what is printed of a record, a name and a number is a token
 
-quoted-one : (found : Option ℕ) (rest : List ℕ) → is_some found ≡ true
-    → flat_map doubled (option_to_list found) ++ rest ≡ (if is_quote (unwrap_or found 32) then 39 ∷ 39 ∷ rest else unwrap_or found 32 ∷ rest)
-quoted-one None rest some = let wrong : false ≡ true = some in cc
-quoted-one (Some c) rest some = elim (cases_Bool (is_quote c)) [ inl quote ↦ rw quote refl | inr other ↦ rw other refl ]
+quoted-one : (found : Option ℕ) → is_some found ≡ true → flat_map doubled (option_to_list found) ≡ doubled (unwrap_or found 32)
+quoted-one None some = let wrong : false ≡ true = some in cc
+quoted-one (Some c) some = append-nil (doubled c)
 
-quoted-all : (bytes : List ℕ) → list_all is_coded bytes ≡ true → flat_map printed.quoted bytes ++ codes "'" ≡ quoted (map character bytes)
+quoted-all : (bytes : List ℕ) → list_all is_coded bytes ≡ true → flat_map quoted bytes ≡ flat_map doubled (map character bytes)
 quoted-all [] all = refl
 quoted-all (b ∷ bytes) all =
     let parts = both_true (is_coded b) (list_all is_coded bytes) all in
-    append_assoc (printed.quoted b) (flat_map printed.quoted bytes) (codes "'")
-    ∙ ap (λ rest. printed.quoted b ++ rest) (quoted-all bytes parts.1)
-    ∙ quoted-one (character_of b) (quoted (map character bytes)) parts.0
-
-digit-same : (n : ℕ) → printed.digit n ≡ hexadecimal_digit n
-digit-same n = elim (cases_Bool (nat_lt n 10)) [ inl below ↦ rw below (omega arith) | inr above ↦ rw above (omega arith) ]
-
-hexadecimal-all : (bytes : List ℕ) → flat_map printed.hexadecimal bytes ++ codes "'" ≡ hexadecimal bytes
-hexadecimal-all [] = refl
-hexadecimal-all (b ∷ bytes) = rw (digit-same (b / 16), digit-same (b % 16)) (ap (λ rest. hexadecimal_digit (b / 16) ∷ hexadecimal_digit (b % 16) ∷ rest) (hexadecimal-all bytes))
+    ap (λ front. front ++ flat_map quoted bytes) (quoted-one (character_of b) parts.0)
+    ∙ ap (λ rest. doubled (character b) ++ rest) (quoted-all bytes parts.1)
 
 text-token : (bytes : List ℕ) → text_of bytes ≡ token_bytes (literal_of bytes)
 text-token bytes =
     elim (cases_Bool (list_all is_coded bytes)) [
-      | inl all ↦ rw all (ap (λ rest. 39 ∷ rest) (quoted-all bytes all))
-      | inr some ↦ rw some (ap (λ rest. 88 ∷ 39 ∷ rest) (hexadecimal-all bytes))
+      | inl all ↦ rw all (ap (λ said. 39 ∷ (said ++ 39 ∷ [])) (quoted-all bytes all))
+      | inr some ↦ rw some refl
     ]
 
 name-token : (name : List ℕ) → list_all is_coded (unfilled name) ≡ true → name_text name ≡ token_bytes (name_literal name)
-name-token name all = rw all (ap (λ rest. 39 ∷ rest) (quoted-all (unfilled name) all))
+name-token name all = rw all (ap (λ said. 39 ∷ (said ++ 39 ∷ [])) (quoted-all (unfilled name) all))
 
 -- ---- the tokens of what is written
 

@@ -3,15 +3,19 @@ use Rattle.std.proofs.Common.{◌≡◌, ℕ, zero, suc, Bool, true, false, ◌=
 use Rattle.std.proofs.lemmas.Bool.{cases_Bool}
 use Rattle.std.proofs.lemmas.Bool.Decides.{nat_tests}
 use Rattle.std.specs.List.{prefix_len}
-use Rattle.std.specs.Prelude.{nat_lt, if◌then◌else◌, IfSome, is_some, option_map, unwrap_or}
+use Rattle.std.specs.Prelude.{nat_lt, if◌then◌else◌, IfSome, is_some, option_map, unwrap_or, Result, Ok, Err, IsErrAnd}
+use Rattle.std.specs.Result.{result_ok}
+use Rattle.std.specs.Borrow.{Bor}
 use Rattle.cics_names.specs.Ebcdic.{code_of}
 use Rattle.cics_script.specs.declared.faults.LineFault.{LineFault}
-use Rattle.cics_script.specs.declared.faults.LineFault.TheVariants.{UnknownWord, BadLiteral, BadNumber}
+use Rattle.cics_script.specs.declared.faults.LineFault.TheVariants.{UnknownWord, BadLiteral}
 use Rattle.cics_script.specs.declared.literals.Notation.{Notation}
 use Rattle.cics_script.specs.declared.literals.Notation.TheVariants.{Quoted, Hexadecimal}
+use Rattle.cics_script.specs.declared.tokens.Token as made
 use Rattle.cics_script.specs.Literals.{said}
+use Rattle.cics_script.specs.Views.{view, GivesToken, Takes}
 use Rattle.cics_script.specs.Tokens.{Text, Token, word, word_at, broken, literal, opening, closing, with_byte, with_pair, characters_from, digit_pairs, text_in, hex_value, as_literal}
-use Rattle.cics_script.specs.Tokens.{as_number, number_at, value_of, behind_x, hexadecimal_or, plain_at, token_at, tokens_in, tokens, after_blanks, is_blank, is_quote, is_letter, is_digit, is_word_byte, capital, number}
+use Rattle.cics_script.specs.Tokens.{as_number, number_at, behind_x, hexadecimal_or, plain_at, token_at, tokens_in, tokens, after_blanks, is_blank, is_quote, is_letter, is_digit, is_word_byte, capital}
 
 some-same : {A : Type 0} (x y : A) → Some y ≡ Some x → x ≡ y
 some-same x y e = ap (λ o. unwrap_or o y) (sym e)
@@ -19,6 +23,11 @@ some-same x y e = ap (λ o. unwrap_or o y) (sym e)
 pub token_at-hexadecimal : (bytes digits : List ℕ) → Some digits ≡ behind_x bytes → token_at bytes ≡ as_literal Hexadecimal (text_in Hexadecimal digits)
 token_at-hexadecimal [] digits e = cc
 token_at-hexadecimal (c ∷ bytes) digits e = ap (λ x. hexadecimal_or x (plain_at c bytes)) (sym e)
+
+-- a fault that was handed on
+pub fault-same : {A : Type 0} (result : Result A LineFault) (fault : LineFault) → IsErrAnd result (λ e. e ≡ fault) → result ≡ Err fault
+fault-same (Ok x) fault same = absurd same
+fault-same (Err e) fault same = ap Err same
 
 -- a literal as a token, by what follows it
 pub as_literal-ends : (notation : Notation) (t : Text) (rest : List ℕ) → Some rest ≡ option_map (λ t. t.1) t → as_literal notation t ≡ (literal notation (said t), rest)
@@ -177,13 +186,13 @@ quote-front : (behind : List ℕ) → token_at (39 ∷ behind) ≡ as_literal Qu
 quote-front [] = refl
 quote-front (d ∷ behind) = refl
 
-pub taken_quoted : (bytes behind rest : List ℕ) (c : ℕ) → bytes ≡ c ∷ behind → is_quote c ≡ true → Some rest ≡ option_map (λ t. t.1) (text_in Quoted behind)
-    → (tokens bytes ≡ literal Quoted (said (text_in Quoted behind)) ∷ tokens rest) × (length rest < length bytes)
-taken_quoted bytes behind rest c is quote ends =
+taken_quoted : (bytes behind : List ℕ) (c : ℕ) (token : Token) (rest : List ℕ) → bytes ≡ c ∷ behind → is_quote c ≡ true → as_literal Quoted (text_in Quoted behind) ≡ (token, rest)
+    → (tokens bytes ≡ token ∷ tokens rest) × (length rest < length bytes)
+taken_quoted bytes behind c token rest is quote read =
     let same : c ≡ 39 = grind (arith, nat_tests, quote) in
     let here : bytes ≡ 39 ∷ behind = is ∙ ap (λ q. q ∷ behind) same in
-    subst (λ b. (tokens b ≡ literal Quoted (said (text_in Quoted behind)) ∷ tokens rest) × (length rest < length b)) (sym here)
-    (taken (39 ∷ behind) _ rest (omega arith) (quote-front behind ∙ as_literal-ends Quoted (text_in Quoted behind) rest ends))
+    subst (λ b. (tokens b ≡ token ∷ tokens rest) × (length rest < length b)) (sym here)
+    (taken (39 ∷ behind) token rest (omega arith) (quote-front behind ∙ read))
 
 -- a number, with no blank in front
 digit-front : (c : ℕ) (others : List ℕ) → is_digit c ≡ true → token_at (c ∷ others) ≡ number_at (c ∷ others)
@@ -195,25 +204,21 @@ digit-front c (d ∷ others) digit =
     let no_x : (capital c == 88) ≡ false = grind (arith, nat_tests, digit) in
     rw (no_x, letter, digit) refl
 
-fitting : (n value : ℕ) (rest : List ℕ) → Some value ≡ (if nat_lt n (2 ^ 64) then Some n else None) → as_number n rest ≡ (number value, rest)
-fitting n value rest e =
-    elim (cases_Bool (nat_lt n (2 ^ 64))) [
-      | inl fits ↦
-          let same : Some value ≡ Some n = e ∙ ap (λ b. if b then Some n else None) fits in
-          ap (λ b. if b then (number n, rest) else (broken BadNumber, [])) fits ∙ ap (λ v. (number v, rest)) (some-same n value same)
-      | inr over ↦
-          let none : Some value ≡ None = e ∙ ap (λ b. if b then Some n else None) over in
-          cc
-    ]
-
-pub taken_number : (bytes digits rest : List ℕ) (c : ℕ) (others : List ℕ) (n value : ℕ) → bytes ≡ c ∷ others → is_digit c ≡ true
-    → n ≡ prefix_len is_digit bytes → digits ≡ take n bytes → rest ≡ drop n bytes
-    → Some value ≡ (if nat_lt (value_of digits) (2 ^ 64) then Some (value_of digits) else None)
-    → (tokens bytes ≡ number value ∷ tokens rest) × (length rest < length bytes)
-taken_number bytes digits rest c others n value is digit count whole behind fits =
+taken_number : (bytes others : List ℕ) (c : ℕ) (token : Token) (rest : List ℕ) → bytes ≡ c ∷ others → is_digit c ≡ true → number_at bytes ≡ (token, rest)
+    → (tokens bytes ≡ token ∷ tokens rest) × (length rest < length bytes)
+taken_number bytes others c token rest is digit read =
     let blank : is_blank c ≡ false = grind (arith, nat_tests, digit) in
     let front : after_blanks bytes ≡ bytes = rw is (rw blank refl) in
     let some : 0 < length (after_blanks bytes) = rw front (rw is (omega arith)) in
-    let read : number_at bytes ≡ as_number (value_of digits) rest = rw (whole, behind, count) refl in
-    taken bytes (number value) rest some
-    (ap token_at front ∙ ap token_at is ∙ digit-front c others digit ∙ ap number_at (sym is) ∙ read ∙ fitting (value_of digits) value rest fits)
+    taken bytes token rest some (ap token_at front ∙ ap token_at is ∙ digit-front c others digit ∙ ap number_at (sym is) ∙ read)
+
+-- a token that was read in this way, if it isn't broken
+pub found-quoted : (bytes behind : List ℕ) (c : ℕ) (result : Result (made.Token × Bor (List ℕ)) LineFault) → bytes ≡ c ∷ behind → is_quote c ≡ true
+    → GivesToken result (as_literal Quoted (text_in Quoted behind)) → IfSome (result_ok result) (λ found. Takes bytes (Ok (Some found)))
+found-quoted bytes behind c (Ok found) is quote gives = taken_quoted bytes behind c (view found.0) found.1.now is quote gives
+found-quoted bytes behind c (Err fault) is quote gives = tt
+
+pub found-number : (bytes others : List ℕ) (c : ℕ) (result : Result (made.Token × Bor (List ℕ)) LineFault) → bytes ≡ c ∷ others → is_digit c ≡ true
+    → GivesToken result (number_at bytes) → IfSome (result_ok result) (λ found. Takes bytes (Ok (Some found)))
+found-number bytes others c (Ok found) is digit gives = taken_number bytes others c (view found.0) found.1.now is digit gives
+found-number bytes others c (Err fault) is digit gives = tt

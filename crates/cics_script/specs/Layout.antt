@@ -1,31 +1,19 @@
 -- How the tokens of a line can be written: one after another, with a space after each.
-use Rattle.std.specs.Prelude.{◌<◌, ◌+◌, ◌/◌, ◌%◌, ◌^◌, ◌==◌, ◌&&◌, ◌||◌, ℕ, Bool, true, false, IsTrue, nat_lt, if◌then◌else◌, List, [], ◌∷◌, ◌++◌, is_some}
-use Rattle.std.specs.List.{list_all}
+use Rattle.std.specs.Prelude.{◌<◌, ◌^◌, ◌==◌, ◌&&◌, ◌||◌, ℕ, Bool, true, false, IsTrue, nat_lt, List, [], ◌∷◌, ◌++◌, is_some}
+use Rattle.std.specs.List.{flat_map, list_all}
 use Rattle.std.specs.Fmt.{decimal}
 use Rattle.cics_names.specs.Ebcdic.{code_of}
 use Rattle.cics_script.specs.declared.literals.Notation.TheVariants.{Quoted, Hexadecimal}
-use Rattle.cics_script.specs.Tokens.{Token, word, number, literal, opening, closing, broken, is_capital, is_digit, is_quote}
+use Rattle.cics_script.specs.Tokens.{Token, word, number, literal, opening, closing, broken, is_capital, is_digit}
+use Rattle.cics_script.specs.Texts.{doubled, hexadecimal}
+use lib.Chars.{codes}
 
--- characters up to the quote that ends them, each quote among them twice
-abbrev pub quoted : List ℕ → List ℕ
-quoted [] = 39 ∷ []
-quoted (c ∷ text) = if is_quote c then 39 ∷ 39 ∷ quoted text else c ∷ quoted text
-
--- a hexadecimal digit
-abbrev pub hexadecimal_digit : ℕ → ℕ
-hexadecimal_digit n = if nat_lt n 10 then 48 + n else 55 + n
-
--- bytes as pairs of hexadecimal digits, up to the quote that ends them
-abbrev pub hexadecimal : List ℕ → List ℕ
-hexadecimal [] = 39 ∷ []
-hexadecimal (byte ∷ bytes) = hexadecimal_digit (byte / 16) ∷ hexadecimal_digit (byte % 16) ∷ hexadecimal bytes
-
--- a token as it is written; a broken one isn't
+-- a token as it is written, with each quote in a literal twice; a broken one isn't
 abbrev pub token_bytes : Token → List ℕ
 token_bytes (word w) = w
 token_bytes (number n) = decimal n
-token_bytes (literal Quoted text) = 39 ∷ quoted text
-token_bytes (literal Hexadecimal bytes) = 88 ∷ 39 ∷ hexadecimal bytes
+token_bytes (literal Quoted text) = codes "'" ++ (flat_map doubled text ++ codes "'")
+token_bytes (literal Hexadecimal bytes) = codes "X'" ++ (flat_map hexadecimal bytes ++ codes "'")
 token_bytes opening = 40 ∷ []
 token_bytes closing = 41 ∷ []
 token_bytes (broken fault) = []

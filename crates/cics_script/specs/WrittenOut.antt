@@ -1,15 +1,15 @@
 -- A command as the bytes of a line.
-use Rattle.std.specs.Prelude.{ℕ, Option, None, Some, option_map, List, [], ◌∷◌, ◌++◌}
+use Rattle.std.specs.Prelude.{ℕ, false, Option, None, Some, option_map, List, [], ◌∷◌, ◌++◌}
 use Rattle.std.specs.List.{flat_map}
 use Rattle.std.specs.Fmt.{decimal}
 use Rattle.cics_names.specs.declared.commands.Command.{Command}
 use Rattle.cics_script.specs.declared.words.CommandWord.{CommandWord}
-use Rattle.cics_script.specs.declared.words.CommandWord.TheVariants as command
 use Rattle.cics_script.specs.declared.words.OptionWord.{OptionWord}
 use Rattle.cics_script.specs.declared.words.OptionWord.TheVariants.{NoHandle}
 use Rattle.cics_script.specs.Options.{Content, text, name8, name4, amount, nothing}
 use Rattle.cics_script.specs.Words.{option_word}
-use Rattle.cics_script.specs.Spelling.{command_word, flag, options_of, word_of}
+use Rattle.cics_script.specs.Layout.{token_bytes}
+use Rattle.cics_script.specs.Spelling.{command_word, flag, options_of, queue_tokens, word_of}
 use Rattle.cics_script.specs.Texts.{text_of, name_text}
 use lib.Chars.{codes}
 
@@ -32,13 +32,7 @@ option_text (option, Some content) = codes " " ++ (option_word option ++ value_t
 
 -- a space and TS or TD, if a command acts on a queue
 abbrev pub queue_text : CommandWord → List ℕ
-queue_text command.WriteqTs = codes " TS"
-queue_text command.ReadqTs = codes " TS"
-queue_text command.DeleteqTs = codes " TS"
-queue_text command.WriteqTd = codes " TD"
-queue_text command.ReadqTd = codes " TD"
-queue_text command.DeleteqTd = codes " TD"
-queue_text first = []
+queue_text first = flat_map (λ token. codes " " ++ token_bytes token) (queue_tokens first false)
 
 -- the word of a command, with TS or TD if it acts on a queue
 abbrev pub command_text : CommandWord → List ℕ

@@ -8,7 +8,7 @@ ghost use Rattle.std.specs.Prelude.{◌≡◌, ◌≤◌, ◌+◌, ◌++◌, ◌
 ghost use Rattle.std.specs.List.{prefix_len};
 ghost use Rattle.cics_script.specs.Tokens.{tokens};
 ghost use Rattle.cics_script.specs.Lines.{statement, is_script_byte, line};
-ghost use Rattle.cics_script.specs.Columns.{IsTokenColumn, IsColumn, IsRead, IsFoundIn};
+ghost use Rattle.cics_script.specs.Columns.{IsTokenColumn, IsColumn, IsFoundIn};
 ghost use Rattle.cics_script.specs.Columns.{other_fault, broken_bytes};
 
 use crate::faults::LineFault;
@@ -48,17 +48,6 @@ fn broken_token(fault: LineFault) -> &'static [u8]
     }
 }
 
-// Returns whether the tokens of a line have this fault.
-fn has_fault(alloc: Global, line: &[u8], fault: LineFault) -> Result<bool, NoMemory>
-    ensures { IfOk result (λ has. (has ≡ true) ↔ (statement (tokens line.now) ≡ Err fault)) }
-{
-    match read_statement(alloc, line) {
-        Ok(_) => Ok(false),
-        Err(LineFault::NoMemory) => Err(NoMemory),
-        Err(found) => Ok(found == fault),
-    }
-}
-
 // Returns whether the reader gets as far as a token after `front`: if a broken one follows, its
 // fault is the line's.
 fn is_read_on(alloc: Global, front: &[u8], fault: LineFault) -> Result<bool, NoMemory>
@@ -68,7 +57,11 @@ fn is_read_on(alloc: Global, front: &[u8], fault: LineFault) -> Result<bool, NoM
     let mut line = Vec::new(alloc);
     line.extend_from_slice(front)?;
     line.extend_from_slice(broken_token(fault))?;
-    has_fault(alloc, &line, other_fault(fault))
+    match read_statement(alloc, &line) {
+        Ok(_) => Ok(false),
+        Err(LineFault::NoMemory) => Err(NoMemory),
+        Err(found) => Ok(found == other_fault(fault)),
+    }
 }
 
 // Returns the column of the first token at which a line with this fault can't be read on. `front`
@@ -117,17 +110,6 @@ fn column_of(alloc: Global, bytes: &[u8], fault: LineFault) -> Result<Option<usi
     }
 }
 
-// Returns the fault of a line, or `None` if it can be read.
-fn fault_of(alloc: Global, bytes: &[u8]) -> Result<Option<LineFault>, NoMemory>
-    ensures { IfOk result (IsRead bytes.now) }
-{
-    match read_line(alloc, bytes) {
-        Ok(_) => Ok(None),
-        Err(LineFault::NoMemory) => Err(NoMemory),
-        Err(fault) => Ok(Some(fault)),
-    }
-}
-
 /// Returns the fault of a line and its column, or `None` if [`read_line`] can read it.
 ///
 /// Errors: `NoMemory`.
@@ -136,9 +118,12 @@ fn fault_of(alloc: Global, bytes: &[u8]) -> Result<Option<LineFault>, NoMemory>
 pub fn find_fault(alloc: Global, bytes: &[u8]) -> Result<Option<Placed>, NoMemory>
     ensures { IfOk result (λ found. IsFoundIn bytes.now found) }
 {
-    let Some(fault) = fault_of(alloc, bytes)? else {
-        return Ok(None);
-    };
-    let column = column_of(alloc, bytes, fault)?;
-    Ok(Some(Placed { fault, column }))
+    match read_line(alloc, bytes) {
+        Ok(_) => Ok(None),
+        Err(LineFault::NoMemory) => Err(NoMemory),
+        Err(fault) => {
+            let column = column_of(alloc, bytes, fault)?;
+            Ok(Some(Placed { fault, column }))
+        }
+    }
 }

@@ -7,7 +7,7 @@ ghost use Rattle.std.specs.Prelude.{◌≡◌, ◌||◌, Ok};
 ghost use Rattle.cics_script.specs.Faults.{Reads};
 ghost use Rattle.cics_script.specs.Views.{entries};
 ghost use Rattle.cics_script.specs.Values.{name8_at, needed};
-ghost use Rattle.cics_script.specs.Commands.{keyed_in, enqueued_in, needs_key, delete_of};
+ghost use Rattle.cics_script.specs.Commands.{keyed_in, enqueued_in, needs_key};
 ghost use Rattle.cics_script.specs.Commands.{replaced_in, verb_in, is_handled};
 
 use crate::faults::LineFault;
@@ -140,24 +140,6 @@ fn resetbr_verb(alloc: Global, found: &[Found<'_>]) -> Result<Verb, LineFault>
     })
 }
 
-fn readnext_verb(found: &[Found<'_>]) -> Result<Verb, LineFault>
-    ensures { result ≡ verb_in CommandWord.ReadNext (entries found.now) }
-{
-    Ok(Verb::ReadNext {
-        file: file_of(found)?,
-        length: number_of(found, OptionWord::Length),
-    })
-}
-
-fn readprev_verb(found: &[Found<'_>]) -> Result<Verb, LineFault>
-    ensures { result ≡ verb_in CommandWord.ReadPrev (entries found.now) }
-{
-    Ok(Verb::ReadPrev {
-        file: file_of(found)?,
-        length: number_of(found, OptionWord::Length),
-    })
-}
-
 // Returns the item that WRITEQ TS replaces, or `None` if it has no REWRITE.
 fn replaced(found: &[Found<'_>]) -> Result<Option<u64>, LineFault>
     ensures { result ≡ replaced_in (entries found.now) }
@@ -254,8 +236,14 @@ pub fn verb_of(alloc: Global, command: CommandWord, found: &[Found<'_>]) -> Resu
         }),
         CommandWord::StartBr => startbr_verb(alloc, found),
         CommandWord::ResetBr => resetbr_verb(alloc, found),
-        CommandWord::ReadNext => readnext_verb(found),
-        CommandWord::ReadPrev => readprev_verb(found),
+        CommandWord::ReadNext => Ok(Verb::ReadNext {
+            file: file_of(found)?,
+            length: number_of(found, OptionWord::Length),
+        }),
+        CommandWord::ReadPrev => Ok(Verb::ReadPrev {
+            file: file_of(found)?,
+            length: number_of(found, OptionWord::Length),
+        }),
         CommandWord::EndBr => Ok(Verb::EndBr {
             file: file_of(found)?,
         }),

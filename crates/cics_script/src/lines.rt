@@ -11,14 +11,14 @@ ghost use Rattle.cics_script.specs.Views.{entries, GivesWord, GivesVerb, GivesNu
 ghost use Rattle.cics_script.specs.Views.{IsNamed};
 ghost use Rattle.cics_script.specs.Lines.{recovery_in, queue_recovery_in, definition_in};
 ghost use Rattle.cics_script.specs.Lines.{word_first, behind, label_in, define, load, attach};
-ghost use Rattle.cics_script.specs.Lines.{verb_first, number_first, clock, shutdown, command_at, issued};
-ghost use Rattle.cics_script.specs.Lines.{command_line, issue, statement};
+ghost use Rattle.cics_script.specs.Lines.{verb_first, number_first, clock, shutdown, command_at};
+ghost use Rattle.cics_script.specs.Lines.{issue, statement};
 ghost use Rattle.cics_script.specs.Lines.{is_script_byte, is_empty_or_comment, line};
 
 use crate::commands::{is_handled, verb_of};
 use crate::faults::LineFault;
 use crate::options::{Found, Options, has_option, read_options, skip_one_blank};
-use crate::tokens::{Token, begins_with, behind_word, named, next_token, next_word, skip_blanks};
+use crate::tokens::{Token, begins_with, named, next_token, next_word, skip_blanks};
 use crate::values::{name4_of, name8_of, needed, number_of, text_of};
 use crate::words::{
     CommandWord, DefineObject, Form, LoadObject, OptionWord, Start, capital_of, command_named,
@@ -120,10 +120,9 @@ fn first_word(bytes: &[u8]) -> Result<(&[u8], &[u8]), LineFault>
     if let Some(found) = next_word(bytes) {
         return Ok(found);
     }
-    match next_token(bytes) {
-        Ok(Some((Token::Word(word), rest))) => Ok((word, rest)),
-        Ok(_) => Err(LineFault::UnknownWord),
-        Err(fault) => Err(fault),
+    match next_token(bytes)? {
+        Some((Token::Word(word), rest)) => Ok((word, rest)),
+        _ => Err(LineFault::UnknownWord),
     }
 }
 
@@ -168,10 +167,7 @@ fn label_of(word: &[u8]) -> Result<Name8, LineFault>
     if !put_capitals(&mut capitals, word) {
         return Err(LineFault::UnknownWord);
     }
-    match Name8::new(&capitals[..word.len()]) {
-        Ok(label) => Ok(label),
-        Err(_) => Err(LineFault::UnknownWord),
-    }
+    Name8::new(&capitals[..word.len()]).or(Err(LineFault::UnknownWord))
 }
 
 // Reads a DEFINE line, from after its first word.
@@ -180,9 +176,7 @@ fn read_define(alloc: Global, bytes: &[u8]) -> Result<Line, LineFault>
 {
     // The word is read again, as the first option.
     let (word, _) = first_word(bytes)?;
-    let Some(object) = define_object(word) else {
-        return Err(LineFault::UnknownWord);
-    };
+    let object = define_object(word).ok_or(LineFault::UnknownWord)?;
     let mut found = Options::new();
     read_options(alloc, Form::Define(object), bytes, &mut found)?;
     match object {
@@ -204,9 +198,7 @@ fn read_load(alloc: Global, bytes: &[u8]) -> Result<Line, LineFault>
 {
     // The word is read again, as the first option.
     let (word, _) = first_word(bytes)?;
-    let Some(object) = load_object(word) else {
-        return Err(LineFault::UnknownWord);
-    };
+    let object = load_object(word).ok_or(LineFault::UnknownWord)?;
     let mut found = Options::new();
     read_options(alloc, Form::Load(object), bytes, &mut found)?;
     match object {
@@ -240,10 +232,9 @@ fn read_attach(alloc: Global, bytes: &[u8]) -> Result<Line, LineFault>
 fn first_number(bytes: &[u8]) -> Result<(u64, &[u8]), LineFault>
     ensures { GivesNumber (number_first (tokens bytes.now)) result }
 {
-    match next_token(bytes) {
-        Ok(Some((Token::Number(number), rest))) => Ok((number, rest)),
-        Ok(_) => Err(LineFault::BadNumber),
-        Err(fault) => Err(fault),
+    match next_token(bytes)? {
+        Some((Token::Number(number), rest)) => Ok((number, rest)),
+        _ => Err(LineFault::BadNumber),
     }
 }
 
@@ -277,11 +268,11 @@ fn placed_command(verb: CommandWord, bytes: &[u8]) -> (CommandWord, &[u8])
     };
     // Most lines have one space and such a word after the verb.
     let front = skip_one_blank(bytes);
-    if let Some(rest) = behind_word(front, b"TS") {
-        return (verb, rest);
+    if let Some(found) = named(front, b"TS", verb) {
+        return found;
     }
-    if let Some(rest) = behind_word(front, b"TD") {
-        return (of_td, rest);
+    if let Some(found) = named(front, b"TD", of_td) {
+        return found;
     }
     match next_token(bytes) {
         Ok(Some((Token::Word(word), rest))) => match queue_command(verb, word) {
@@ -290,22 +281,6 @@ fn placed_command(verb: CommandWord, bytes: &[u8]) -> (CommandWord, &[u8])
         },
         _ => (verb, bytes),
     }
-}
-
-// Reads a command, from after its verb and its TS or TD.
-fn read_issued(
-    alloc: Global,
-    label: Name8,
-    command: CommandWord,
-    bytes: &[u8],
-) -> Result<Line, LineFault>
-    ensures { Reads (issued label (command, tokens bytes.now)) result }
-{
-    let mut found = Options::new();
-    read_options(alloc, Form::Command(command), bytes, &mut found)?;
-    let verb = verb_of(alloc, command, &found)?;
-    let resp = is_handled(&found);
-    Ok(Line::Issue(label, Command { verb, resp }))
 }
 
 // Returns a common verb in capitals, and the line after it. `None` decides nothing.
@@ -339,19 +314,8 @@ fn first_verb(bytes: &[u8]) -> Result<(CommandWord, &[u8]), LineFault>
         return Ok(found);
     }
     let (word, rest) = first_word(bytes)?;
-    match command_named(word) {
-        Some(verb) => Ok((verb, rest)),
-        None => Err(LineFault::UnknownWord),
-    }
-}
-
-// Reads a command, from after EXEC CICS.
-fn read_command(alloc: Global, label: Name8, bytes: &[u8]) -> Result<Line, LineFault>
-    ensures { Reads (command_line label (tokens bytes.now)) result }
-{
-    let (verb, rest) = first_verb(bytes)?;
-    let (command, behind) = placed_command(verb, rest);
-    read_issued(alloc, label, command, behind)
+    let verb = command_named(word).ok_or(LineFault::UnknownWord)?;
+    Ok((verb, rest))
 }
 
 // Returns the line after EXEC and CICS.
@@ -370,8 +334,14 @@ fn skip_exec_cics(bytes: &[u8]) -> Result<&[u8], LineFault>
 fn read_issue(alloc: Global, label: Name8, bytes: &[u8]) -> Result<Line, LineFault>
     ensures { Reads (issue label (tokens bytes.now)) result }
 {
-    let rest = skip_exec_cics(bytes)?;
-    read_command(alloc, label, rest)
+    let behind_cics = skip_exec_cics(bytes)?;
+    let (verb, rest) = first_verb(behind_cics)?;
+    let (command, behind) = placed_command(verb, rest);
+    let mut found = Options::new();
+    read_options(alloc, Form::Command(command), behind, &mut found)?;
+    let verb = verb_of(alloc, command, &found)?;
+    let resp = is_handled(&found);
+    Ok(Line::Issue(label, Command { verb, resp }))
 }
 
 /// Reads a line that is neither blank nor a comment. Errors: those of [`read_line`], but for
@@ -447,10 +417,7 @@ fn are_in_script(bytes: &[u8]) -> bool
 fn is_blank_line(bytes: &[u8]) -> bool
     ensures { result ≡ is_empty_or_comment (after_blanks bytes.now) }
 {
-    match skip_blanks(bytes).first() {
-        None => true,
-        Some(first) => *first == b'*',
-    }
+    matches!(skip_blanks(bytes).first(), None | Some(b'*'))
 }
 
 /// Reads one line, without its LF and the CR before it. `alloc` gives the memory of its records.

@@ -166,10 +166,7 @@ fn short_plain_len(bytes: &[u8]) -> usize
     ensures value { result ≡ prefix_len is_plain bytes.now }
     ensures within { result ≤ length bytes.now }
 {
-    bytes
-        .iter()
-        .take_while(|byte| is_plain_byte(**byte))
-        .count()
+    bytes.iter().take_while(|one| is_plain_byte(**one)).count()
 }
 
 // How many characters are looked up at once.
@@ -302,59 +299,6 @@ fn copy_pieces(
     }
 }
 
-// Returns the quoted literal after a first quote, and the line after it.
-fn quoted_at(behind_quote: &[u8]) -> Option<(Literal<'_>, &[u8])>
-    ensures rest { option_map (λ found. found.1.now) result
-        ≡ option_map (λ t. t.1) (text_in Notation.Quoted behind_quote.now) }
-    ensures literal { IfSome result (λ found. (found.0.notation ≡ Notation.Quoted)
-        × (found.0.behind_quote.now ≡ behind_quote.now)) }
-{
-    let notation = Notation::Quoted;
-    let plain_len = plain_len(behind_quote);
-    let (_, behind) = behind_quote.split_at(plain_len);
-    match next_character(behind) {
-        Piece::End(rest) => Some((
-            Literal {
-                notation,
-                is_plain: true,
-                plain_len,
-                behind_quote,
-            },
-            rest,
-        )),
-        Piece::Byte(_, after) => match behind_pieces(notation, after) {
-            Some(rest) => Some((
-                Literal {
-                    notation,
-                    is_plain: false,
-                    plain_len,
-                    behind_quote,
-                },
-                rest,
-            )),
-            None => None,
-        },
-        Piece::Bad => None,
-    }
-}
-
-// Returns the hexadecimal literal after a first quote, and the line after it.
-fn hexadecimal_at(behind_quote: &[u8]) -> Option<(Literal<'_>, &[u8])>
-    ensures rest { option_map (λ found. found.1.now) result
-        ≡ option_map (λ t. t.1) (text_in Notation.Hexadecimal behind_quote.now) }
-    ensures literal { IfSome result (λ found. (found.0.notation ≡ Notation.Hexadecimal)
-        × (found.0.behind_quote.now ≡ behind_quote.now)) }
-{
-    let rest = behind_pieces(Notation::Hexadecimal, behind_quote)?;
-    let literal = Literal {
-        notation: Notation::Hexadecimal,
-        is_plain: false,
-        plain_len: 0,
-        behind_quote,
-    };
-    Some((literal, rest))
-}
-
 /// Returns the literal after a first quote, and the line after it, or `None` if the bytes are no
 /// literal.
 pub fn literal_at(notation: Notation, behind_quote: &[u8]) -> Option<(Literal<'_>, &[u8])>
@@ -363,10 +307,24 @@ pub fn literal_at(notation: Notation, behind_quote: &[u8]) -> Option<(Literal<'_
     ensures literal { IfSome result (λ found. (found.0.notation ≡ notation)
         × (found.0.behind_quote.now ≡ behind_quote.now)) }
 {
-    match notation {
-        Notation::Quoted => quoted_at(behind_quote),
-        Notation::Hexadecimal => hexadecimal_at(behind_quote),
-    }
+    let (plain_len, is_plain, rest) = match notation {
+        Notation::Quoted => {
+            let plain_len = plain_len(behind_quote);
+            match next_character(behind_quote.split_at(plain_len).1) {
+                Piece::End(rest) => (plain_len, true, rest),
+                Piece::Byte(_, after) => (plain_len, false, behind_pieces(notation, after)?),
+                Piece::Bad => return None,
+            }
+        }
+        Notation::Hexadecimal => (0, false, behind_pieces(notation, behind_quote)?),
+    };
+    let literal = Literal {
+        notation,
+        is_plain,
+        plain_len,
+        behind_quote,
+    };
+    Some((literal, rest))
 }
 
 impl<'a> Literal<'a> {

@@ -6,14 +6,14 @@ ghost use Rattle.std.specs.Result.{result_map_both};
 ghost use Rattle.std.specs.List.{list_any};
 ghost use Rattle.cics_script.specs.Words.{lookup, option_words, same, excludes, kind_in};
 ghost use Rattle.cics_script.specs.Tokens.{tokens};
-ghost use Rattle.cics_script.specs.Options.{fault_of, quoted, content_in, surplus, allowed};
+ghost use Rattle.cics_script.specs.Options.{fault_of, quoted, content_in, allowed};
 ghost use Rattle.cics_script.specs.Options.{Content, Entry, reads, at_option, options};
 ghost use Rattle.cics_script.specs.Views.{view, entries, GivesText, GivesName, GivesContent, GivesValue, GivesEntries};
 ghost use Rattle.cics_script.specs.Views.{Opens, Fills, Shuts, HasValue, Enters, Ends, IsNamed};
 
 use crate::faults::LineFault;
 use crate::literals::{Encoding, Literal, Notation};
-use crate::tokens::{Token, named, next_number, next_quoted, next_token};
+use crate::tokens::{Token, named, next_token, next_value};
 use crate::words::{Form, Kind, OptionWord, is_excluded, is_same, kind_of, option_named};
 use arrayvec::ArrayVec;
 use cics_names::{Name4, Name8};
@@ -72,17 +72,6 @@ fn wrong_value(kind: Kind) -> LineFault
     }
 }
 
-// Returns the fault of a parenthesis where an option should stand. `last` is what the option before
-// it takes, `None` if there is none.
-fn surplus_fault(last: Option<Kind>) -> LineFault
-    ensures { result ≡ surplus last }
-{
-    match last {
-        None => LineFault::UnknownWord,
-        Some(kind) => wrong_value(kind),
-    }
-}
-
 // Returns what a quoted literal says, in a copy only if it has a doubled quote. A hexadecimal one
 // is BadLiteral.
 fn quoted_text(alloc: Global, literal: Literal<'_>) -> Result<CowSlice<'_, u8, Global>, LineFault>
@@ -106,10 +95,7 @@ fn name8_of(alloc: Global, literal: Literal<'_>) -> Result<Name8, LineFault>
         (content_in Kind.Name8 (view (Token.Literal literal.entry))) result }
 {
     let text = quoted_text(alloc, literal)?;
-    match Name8::new(&text) {
-        Ok(name) => Ok(name),
-        Err(_) => Err(LineFault::BadLiteral),
-    }
+    Name8::new(&text).or(Err(LineFault::BadLiteral))
 }
 
 // Returns the name of four bytes that a quoted literal says.
@@ -118,10 +104,7 @@ fn name4_of(alloc: Global, literal: Literal<'_>) -> Result<Name4, LineFault>
         (content_in Kind.Name4 (view (Token.Literal literal.entry))) result }
 {
     let text = quoted_text(alloc, literal)?;
-    match Name4::new(&text) {
-        Ok(name) => Ok(name),
-        Err(_) => Err(LineFault::BadLiteral),
-    }
+    Name4::new(&text).or(Err(LineFault::BadLiteral))
 }
 
 // Returns a token as a value of this kind.
@@ -146,10 +129,9 @@ fn read_opening(kind: Kind, bytes: &[u8]) -> Result<&[u8], LineFault>
     if let Some((b'(', rest)) = bytes.split_first() {
         return Ok(rest);
     }
-    match next_token(bytes) {
-        Ok(Some((Token::Opening, rest))) => Ok(rest),
-        Ok(_) => Err(wrong_value(kind)),
-        Err(fault) => Err(fault),
+    match next_token(bytes)? {
+        Some((Token::Opening, rest)) => Ok(rest),
+        _ => Err(wrong_value(kind)),
     }
 }
 
@@ -158,17 +140,10 @@ fn value_token(kind: Kind, bytes: &[u8]) -> Result<(Token<'_>, &[u8]), LineFault
     ensures { GivesValue kind bytes.now result }
 {
     // Most values are quoted literals or numbers, right after the parenthesis.
-    if let Some((literal, rest)) = next_quoted(bytes) {
-        return Ok((Token::Literal(literal), rest));
+    if let Some(found) = next_value(bytes) {
+        return Ok(found);
     }
-    if let Some((number, rest)) = next_number(bytes) {
-        return Ok((Token::Number(number), rest));
-    }
-    match next_token(bytes) {
-        Ok(Some(found)) => Ok(found),
-        Ok(None) => Err(wrong_value(kind)),
-        Err(fault) => Err(fault),
-    }
+    next_token(bytes)?.ok_or(wrong_value(kind))
 }
 
 // Adds an option with what stands as its value, and returns the line after the value.
@@ -202,10 +177,9 @@ fn read_closing(kind: Kind, bytes: &[u8]) -> Result<&[u8], LineFault>
     if let Some((b')', rest)) = bytes.split_first() {
         return Ok(rest);
     }
-    match next_token(bytes) {
-        Ok(Some((Token::Closing, rest))) => Ok(rest),
-        Ok(_) => Err(wrong_value(kind)),
-        Err(fault) => Err(fault),
+    match next_token(bytes)? {
+        Some((Token::Closing, rest)) => Ok(rest),
+        _ => Err(wrong_value(kind)),
     }
 }
 
@@ -232,24 +206,14 @@ fn read_value<'a>(
 pub fn has_option(found: &[Found<'_>], option: OptionWord) -> bool
     ensures { result ≡ list_any (λ entry. same entry.0 option) (entries found.now) }
 {
-    for one in found {
-        if is_same(one.option, option) {
-            return true;
-        }
-    }
-    false
+    found.iter().any(|one| is_same(one.option, option))
 }
 
 // Returns whether an option was read that excludes this one.
 fn has_excluded(found: &[Found<'_>], option: OptionWord) -> bool
     ensures { result ≡ list_any (λ entry. excludes entry.0 option) (entries found.now) }
 {
-    for one in found {
-        if is_excluded(one.option, option) {
-            return true;
-        }
-    }
-    false
+    found.iter().any(|one| is_excluded(one.option, option))
 }
 
 // Returns what an option takes, if it may stand here.
@@ -306,10 +270,9 @@ fn read_option<'a>(
 fn read_end(bytes: &[u8]) -> Result<(), LineFault>
     ensures { Ends bytes.now result }
 {
-    match next_token(bytes) {
-        Ok(None) => Ok(()),
-        Ok(Some(_)) => Err(LineFault::UnknownWord),
-        Err(fault) => Err(fault),
+    match next_token(bytes)? {
+        None => Ok(()),
+        Some(_) => Err(LineFault::UnknownWord),
     }
 }
 
@@ -364,17 +327,17 @@ fn next_option(last: Option<Kind>, bytes: &[u8]) -> Result<Option<(OptionWord, &
     if let Some(found) = common_option(skip_one_blank(bytes)) {
         return Ok(Some(found));
     }
-    match next_token(bytes) {
-        Ok(None) => Ok(None),
-        Ok(Some((token, rest))) => match token {
-            Token::Word(word) => match option_named(word) {
-                Some(option) => Ok(Some((option, rest))),
-                None => Err(LineFault::UnknownWord),
-            },
-            Token::Opening | Token::Closing => Err(surplus_fault(last)),
-            Token::Number(_) | Token::Literal(_) => Err(LineFault::UnknownWord),
+    let Some((token, rest)) = next_token(bytes)? else {
+        return Ok(None);
+    };
+    match (token, last) {
+        (Token::Word(word), _) => match option_named(word) {
+            Some(option) => Ok(Some((option, rest))),
+            None => Err(LineFault::UnknownWord),
         },
-        Err(fault) => Err(fault),
+        // A parenthesis too many has the fault of the option before it.
+        (Token::Opening | Token::Closing, Some(kind)) => Err(wrong_value(kind)),
+        _ => Err(LineFault::UnknownWord),
     }
 }
 

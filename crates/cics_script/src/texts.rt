@@ -6,7 +6,7 @@ ghost use Rattle.std.specs.Prelude.{◌≡◌, ◌++◌, ◌+◌, ◌<◌, lengt
 ghost use Rattle.std.specs.List.{flat_map, list_all};
 ghost use Rattle.std.specs.Fmt.{decimal};
 ghost use Rattle.cics_script.specs.Texts.{has_character, quoted, digit, hexadecimal, text_of};
-ghost use Rattle.cics_script.specs.Texts.{unfilled, name_text, bare, shown, plain, is_plain};
+ghost use Rattle.cics_script.specs.Texts.{unfilled, name_text, bare, plain, is_plain};
 ghost use lib.Chars.{codes};
 
 use cics_names::{NoMemory, from_ebcdic};
@@ -60,7 +60,9 @@ pub fn push_bare(out: &mut Vec<u8>, name: &[u8]) -> Result<(), NoMemory>
 {
     let bytes = unfilled(name);
     for code in bytes {
-        push_shown(out, *code)?;
+        if let Some(character) = from_ebcdic(*code) {
+            out.push(character as u8)?;
+        }
     }
     Ok(())
 }
@@ -133,48 +135,24 @@ fn push_any(out: &mut Vec<u8>, bytes: &[u8]) -> Result<(), NoMemory>
     push_str(out, "'")
 }
 
-// Returns whether a byte has a character.
-fn has_character(code: &u8) -> bool
-    ensures { result ≡ has_character code.now }
-{
-    from_ebcdic(*code).is_some()
-}
-
 // Returns whether every byte has a character.
 fn has_characters(bytes: &[u8]) -> bool
     ensures { result ≡ list_all has_character bytes.now }
 {
-    bytes.iter().all(|code| has_character(code))
+    bytes.iter().all(|code| from_ebcdic(*code).is_some())
 }
 
-// Appends the character of a byte, if it has one.
-fn push_shown(out: &mut Vec<u8>, code: u8) -> Result<(), NoMemory>
-    ensures { OnOk result (out.new.items ≡ out.old.items ++ shown code) }
-{
-    if let Some(character) = from_ebcdic(code) {
-        out.push(character as u8)?;
-    }
-    Ok(())
-}
-
-// Appends the character of a byte as it stands between quotes, if it has one.
-fn push_quoted_byte(out: &mut Vec<u8>, code: u8) -> Result<(), NoMemory>
-    ensures { OnOk result (out.new.items ≡ out.old.items ++ quoted code) }
-{
-    if let Some(character) = from_ebcdic(code) {
-        if character == '\'' {
-            out.push(b'\'')?;
-        }
-        out.push(character as u8)?;
-    }
-    Ok(())
-}
-
+// Appends the characters of bytes as they stand between quotes.
 fn push_quoted(out: &mut Vec<u8>, bytes: &[u8]) -> Result<(), NoMemory>
     ensures { OnOk result (out.new.items ≡ out.old.items ++ flat_map quoted bytes.now) }
 {
     for code in bytes {
-        push_quoted_byte(out, *code)?;
+        if let Some(character) = from_ebcdic(*code) {
+            if character == '\'' {
+                out.push(b'\'')?;
+            }
+            out.push(character as u8)?;
+        }
     }
     Ok(())
 }

@@ -1,8 +1,7 @@
 //! Cuts a line into tokens: words, numbers, literals and parentheses.
 //!
-//! `next_token` reads any token. `next_word`, `next_quoted`, `next_number`, `behind_word` and
-//! `named` are quicker, and read the tokens of most lines. Their `None` decides nothing: then
-//! `next_token` says what stands there.
+//! `next_token` reads any token. `next_word`, `next_value` and `named` are quicker, and read the
+//! tokens of most lines. Their `None` decides nothing: then `next_token` says what stands there.
 //!
 //! A token is *broken* if it can't be read: a byte that begins no token, a literal with a wrong
 //! character or without its last quote, or a number above 64 bits.
@@ -13,9 +12,9 @@ ghost use Rattle.std.specs.Prelude.{Ok, IfSome, true, ◌++◌, drop, length, na
 ghost use Rattle.std.specs.List.{prefix_len};
 ghost use Rattle.cics_script.specs.Tokens.{is_blank, is_digit, is_letter, is_word_byte};
 ghost use Rattle.cics_script.specs.Tokens.{after_blanks, value_of, text_in, token_at, number_at};
-ghost use Rattle.cics_script.specs.Tokens.{word_at, as_literal, behind_x};
-ghost use Rattle.cics_script.specs.Layout.{is_gap, ends, is_word};
-ghost use Rattle.cics_script.specs.Views.{GivesToken, StartsWith, Takes, IsNamed, CutsOff};
+ghost use Rattle.cics_script.specs.Tokens.{as_literal, behind_x};
+ghost use Rattle.cics_script.specs.Layout.{ends, is_word};
+ghost use Rattle.cics_script.specs.Views.{GivesToken, Takes, IsNamed, CutsOff};
 ghost use Rattle.cics_script.specs.Words.{lookup};
 
 use crate::faults::LineFault;
@@ -56,10 +55,7 @@ fn blanks_len(bytes: &[u8]) -> usize
     ensures value { result ≡ prefix_len is_blank bytes.now }
     ensures within { result ≤ length bytes.now }
 {
-    bytes
-        .iter()
-        .take_while(|byte| is_blank_byte(**byte))
-        .count()
+    bytes.iter().take_while(|one| is_blank_byte(**one)).count()
 }
 
 fn word_len(bytes: &[u8]) -> usize
@@ -73,10 +69,7 @@ fn digits_len(bytes: &[u8]) -> usize
     ensures value { result ≡ prefix_len is_digit bytes.now }
     ensures within { result ≤ length bytes.now }
 {
-    bytes
-        .iter()
-        .take_while(|byte| byte.is_ascii_digit())
-        .count()
+    bytes.iter().take_while(|one| one.is_ascii_digit()).count()
 }
 
 /// Returns a line without the spaces and tabs at its start.
@@ -103,10 +96,7 @@ fn number_of(digits: &[u8]) -> Option<u64>
 {
     let mut value = 0;
     for digit in digits {
-        match with_digit(value, *digit) {
-            Some(next) => value = next,
-            None => return None,
-        }
+        value = with_digit(value, *digit)?;
     }
     Some(value)
 }
@@ -119,13 +109,6 @@ fn read_number(bytes: &[u8]) -> Result<(Token<'_>, &[u8]), LineFault>
         Some(number) => Ok((Token::Number(number), rest)),
         None => Err(LineFault::BadNumber),
     }
-}
-
-fn read_word(bytes: &[u8]) -> (Token<'_>, &[u8])
-    ensures { GivesToken (Ok result) (word_at bytes.now) }
-{
-    let (word, rest) = bytes.split_at(word_len(bytes));
-    (Token::Word(word), rest)
 }
 
 // Reads a literal, from after its first quote.
@@ -161,7 +144,8 @@ fn read_token(bytes: &[u8]) -> Result<(Token<'_>, &[u8]), LineFault>
     }
     let first = bytes[0];
     if is_letter_byte(first) {
-        return Ok(read_word(bytes));
+        let (word, rest) = bytes.split_at(word_len(bytes));
+        return Ok((Token::Word(word), rest));
     }
     if first.is_ascii_digit() {
         return read_number(bytes);
@@ -205,45 +189,27 @@ pub fn begins_with(bytes: &[u8], text: &[u8]) -> bool
     true
 }
 
-fn is_gap_byte(byte: u8) -> bool
-    ensures { result ≡ is_gap byte }
-{
-    byte == b' ' || byte == b'(' || byte == b')'
-}
-
 // Returns whether a word right before these bytes ends there: none are left, or a space or a
 // parenthesis is the first. A tab or a quote ends a word too, but is rare.
 fn is_ended(bytes: &[u8]) -> bool
     ensures { result ≡ ends bytes.now }
 {
-    match bytes.split_first() {
-        None => true,
-        Some((first, _)) => is_gap_byte(*first),
-    }
-}
-
-/// Returns the line after a word in capitals, if it begins with that whole word. `None` decides
-/// nothing: the word may have small letters, or a tab after it.
-pub fn behind_word<'a>(bytes: &'a [u8], capitals: &[u8]) -> Option<&'a [u8]>
-    requires { is_word capitals.now ≡ true }
-    ensures { IfSome result (λ rest. StartsWith capitals.now bytes.entry.now rest.now) }
-{
-    if !begins_with(bytes, capitals) {
-        return None;
-    }
-    let rest = bytes.split_at(capitals.len()).1;
-    if is_ended(rest) { Some(rest) } else { None }
+    matches!(bytes.first(), None | Some(b' ' | b'(' | b')'))
 }
 
 /// Returns `meaning` and the line after a word in capitals, if it begins with that whole word.
-/// `meaning` is what a table has for the word. `None` decides nothing, as in `behind_word`.
+/// `meaning` is what a table has for the word. `None` decides nothing: the word may have small
+/// letters, or a tab after it.
 pub fn named<'a, X: Copy>(bytes: &'a [u8], capitals: &[u8], meaning: X) -> Option<(X, &'a [u8])>
     requires capitals { is_word capitals.now ≡ true }
     ensures { (rows : List (List ℕ × X)) → lookup capitals.now rows ≡ Some meaning →
         IfSome result (λ found. IsNamed rows found.0 bytes.entry.now found.1.now) }
 {
-    let rest = behind_word(bytes, capitals)?;
-    Some((meaning, rest))
+    if !begins_with(bytes, capitals) {
+        return None;
+    }
+    let rest = bytes.split_at(capitals.len()).1;
+    is_ended(rest).then_some((meaning, rest))
 }
 
 /// Returns the next token and the line after it, if it is a word that doesn't begin with X (as
@@ -260,32 +226,19 @@ pub fn next_word(bytes: &[u8]) -> Option<(&[u8], &[u8])>
     Some(front.split_at(word_len(front)))
 }
 
-/// Returns the next token and the line after it, if it is a quoted literal with no blank before it.
-/// `None` decides nothing.
-pub fn next_quoted(bytes: &[u8]) -> Option<(Literal<'_>, &[u8])>
-    ensures { IfSome result (λ found.
-        Takes bytes.now (Ok (Some (Token.Literal found.0, found.1)))) }
+/// Returns the next token and the line after it, if it is a quoted literal or a number with no
+/// blank before it. `None` decides nothing.
+pub fn next_value(bytes: &[u8]) -> Option<(Token<'_>, &[u8])>
+    ensures { IfSome result (λ found. Takes bytes.now (Ok (Some found))) }
 {
     let (first, behind_quote) = bytes.split_first()?;
-    if !is_quote_byte(*first) {
-        return None;
+    if is_quote_byte(*first) {
+        return read_literal(Notation::Quoted, behind_quote).ok();
     }
-    literal_at(Notation::Quoted, behind_quote)
-}
-
-/// Returns the next token and the line after it, if it is a number with no blank before it. `None`
-/// decides nothing.
-pub fn next_number(bytes: &[u8]) -> Option<(u64, &[u8])>
-    ensures { IfSome result (λ found.
-        Takes bytes.now (Ok (Some (Token.Number found.0, found.1)))) }
-{
-    let (first, _) = bytes.split_first()?;
     if !first.is_ascii_digit() {
         return None;
     }
-    let (digits, rest) = bytes.split_at(digits_len(bytes));
-    let number = number_of(digits)?;
-    Some((number, rest))
+    read_number(bytes).ok()
 }
 
 /// Returns the next token and the line after it, or `None` at the line's end. Cold, since the calls
@@ -301,8 +254,5 @@ pub fn next_token(bytes: &[u8]) -> Result<Option<(Token<'_>, &[u8])>, LineFault>
     if front.is_empty() {
         return Ok(None);
     }
-    match read_token(front) {
-        Ok((token, rest)) => Ok(Some((token, rest))),
-        Err(fault) => Err(fault),
-    }
+    Ok(Some(read_token(front)?))
 }

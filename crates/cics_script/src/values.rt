@@ -31,13 +31,7 @@ fn value_at<'a, 'l>(found: &'a [Found<'l>], option: OptionWord) -> Option<&'a Va
 pub fn text_of(alloc: Global, found: &[Found<'_>], option: OptionWord) -> Result<Record, LineFault>
     ensures { Reads (needed (text_at option (entries found.now)) Ok) result }
 {
-    match value_at(found, option) {
-        Some(Value::Text(literal)) => match literal.record(alloc) {
-            Ok(record) => Ok(record),
-            Err(_) => Err(LineFault::NoMemory),
-        },
-        _ => Err(LineFault::MissingOption),
-    }
+    needed(optional_text_of(alloc, found, option)?)
 }
 
 /// Returns the record that an option gives, if it gives one. Errors: `NoMemory`.

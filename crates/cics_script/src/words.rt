@@ -422,12 +422,7 @@ fn shared_options(form: Form) -> &'static [OptionWord]
 fn is_among(options: &[OptionWord], option: OptionWord) -> bool
     ensures { result ≡ list_any (same option) options.now }
 {
-    for one in options {
-        if is_same(option, *one) {
-            return true;
-        }
-    }
-    false
+    options.iter().any(|one| is_same(option, *one))
 }
 
 // Returns what an option takes in most lines that have it.

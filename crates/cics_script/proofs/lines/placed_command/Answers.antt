@@ -1,23 +1,24 @@
-use Rattle.std.proofs.Common.{◌≡◌, ℕ, List, ◌∷◌, Some, ap, sym, ◌∙◌}
+use Rattle.std.proofs.Common.{◌≡◌, ℕ, List, ap, sym, ◌∙◌}
 use Rattle.cics_script.specs.declared.words.CommandWord.{CommandWord}
-use Rattle.cics_script.specs.Tokens.{word, tokens}
+use Rattle.cics_script.specs.Tokens.{tokens}
 use Rattle.cics_script.specs.Words.{lookup, queue_words}
 use Rattle.cics_script.specs.Lines.{taken, command_at}
+use Rattle.cics_script.specs.Views.{IsNamed}
 use Rattle.cics_script.proofs.lines.placed_command.Goals as goal
 use lib.Chars.{codes}
 
 -- a word behind a verb that makes it this command
-placed : (verb command : CommandWord) (w bytes front rest : List ℕ) → tokens front ≡ tokens bytes → tokens front ≡ word w ∷ tokens rest
-    → lookup w (queue_words verb) ≡ Some command → command_at verb (tokens bytes) ≡ (command, tokens rest)
-placed verb command w bytes front rest same first is =
-    ap (command_at verb) (sym same ∙ first) ∙ ap (λ found. taken found verb w (tokens rest)) is
+placed : (verb command : CommandWord) (bytes front rest : List ℕ) → tokens front ≡ tokens bytes → IsNamed (queue_words verb) command front rest
+    → command_at verb (tokens bytes) ≡ (command, tokens rest)
+placed verb command bytes front rest same is =
+    ap (command_at verb) (sym same ∙ is.2.0) ∙ ap (λ found. taken found verb is.0 (tokens rest)) is.1
 
-pub returns-in-Some-behind_word : goal.returns-in-Some-behind_word
-returns-in-Some-behind_word c =
-    placed c.args.verb _ (codes "TS") c.args.bytes.now c.skip_one_blank-front.result.now c.in-Some-behind_word.rest.now c.skip_one_blank-front.ensures.tokens c.in-Some-behind_word.ensures.0
-    (ap (lookup (codes "TS")) c.in-Some.ensures.some)
+pub returns-in-Some-named : goal.returns-in-Some-named
+returns-in-Some-named c =
+    placed c.args.verb _ c.args.bytes.now c.skip_one_blank-front.result.now _ c.skip_one_blank-front.ensures.tokens
+    (c.in-Some-named.ensures (queue_words c.args.verb) (ap (lookup (codes "TS")) c.in-Some.ensures.some))
 
-pub returns-in-Some-behind_word-2 : goal.returns-in-Some-behind_word-2
-returns-in-Some-behind_word-2 c =
-    placed c.args.verb _ (codes "TD") c.args.bytes.now c.skip_one_blank-front.result.now c.in-Some-behind_word-2.rest.now c.skip_one_blank-front.ensures.tokens c.in-Some-behind_word-2.ensures.0
-    (ap (lookup (codes "TD")) c.in-Some.ensures.some)
+pub returns-in-Some-named-2 : goal.returns-in-Some-named-2
+returns-in-Some-named-2 c =
+    placed c.args.verb _ c.args.bytes.now c.skip_one_blank-front.result.now _ c.skip_one_blank-front.ensures.tokens
+    (c.in-Some-named-2.ensures (queue_words c.args.verb) (ap (lookup (codes "TD")) c.in-Some.ensures.some))

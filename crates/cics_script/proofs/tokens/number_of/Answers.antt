@@ -4,11 +4,11 @@ use Rattle.cics_script.specs.Tokens.{value_of}
 use Rattle.cics_script.proofs.Numbers.{value_of-more, value_of-above, number-fits, number-over, over-from_none}
 use Rattle.cics_script.proofs.tokens.number_of.Goals as goal
 
-pub returns-in-None : goal.returns-in-None
-returns-in-None c =
+pub returns-in_err-value : goal.returns-in_err-value
+returns-in_err-value c =
     let digits = c.args.digits.now in
     let i = c.loop-digit.digit-index in
-    number-over (value_of digits) (omega (arith, over-from_none _ c.in-None.ensures, c.loop-digit.invariant.0, value_of-more digits i c.loop-digit-test.true, value_of-above digits (i + 1)))
+    c.from_residual.ensures ∙ number-over (value_of digits) (omega (arith, over-from_none _ c.in_err-value.ensures, c.loop-digit.invariant.0, value_of-more digits i c.loop-digit-test.true, value_of-above digits (i + 1)))
 
 pub returns : goal.returns
 returns c =
