@@ -35,7 +35,7 @@ impl Drop for Command {
 /// - `from`: what is written; `length`, if it is given, says how many of its first bytes.
 /// - `length` of a command that reads: how many bytes the task takes, if it is given. A longer
 ///   content is answered LENGERR with its first bytes, and counts as read.
-#[derive(Drop)]
+#[derive(Clone, Drop)]
 pub enum Verb {
     /// READ (file control): reads the record of a key. With `gteq` that is the smallest key that
     /// isn't below the one given, with `generic` a key that begins with it. With both it is the
@@ -177,170 +177,13 @@ impl Command {
         ensures { IfOk result (λ copy. copy ≡ self.now) }
     {
         Ok(Command {
-            verb: self.verb.copy()?,
+            verb: self.verb.clone()?,
             resp: self.resp,
         })
     }
 }
 
-// Returns a copy of a record, if there is one.
-fn copy_of(found: &Option<Record>) -> Result<Option<Record>, NoMemory>
-    ensures { IfOk result (λ copy. copy ≡ found.now) }
-{
-    match found {
-        Some(record) => Ok(Some(record.copy()?)),
-        None => Ok(None),
-    }
-}
-
 impl Verb {
-    // Another verb that asks for the same, with the same options.
-    fn copy(&self) -> Result<Verb, NoMemory>
-        ensures { IfOk result (λ copy. copy ≡ self.now) }
-    {
-        match self {
-            Verb::Read {
-                file,
-                ridfld,
-                key_length,
-                length,
-                generic,
-                gteq,
-                update,
-            } => Ok(Verb::Read {
-                file: *file,
-                ridfld: ridfld.copy()?,
-                key_length: *key_length,
-                length: *length,
-                generic: *generic,
-                gteq: *gteq,
-                update: *update,
-            }),
-            Verb::Write {
-                file,
-                ridfld,
-                key_length,
-                from,
-                length,
-            } => Ok(Verb::Write {
-                file: *file,
-                ridfld: ridfld.copy()?,
-                key_length: *key_length,
-                from: from.copy()?,
-                length: *length,
-            }),
-            Verb::Rewrite { file, from, length } => Ok(Verb::Rewrite {
-                file: *file,
-                from: from.copy()?,
-                length: *length,
-            }),
-            Verb::Delete {
-                file,
-                ridfld,
-                key_length,
-                generic,
-            } => Ok(Verb::Delete {
-                file: *file,
-                ridfld: copy_of(ridfld)?,
-                key_length: *key_length,
-                generic: *generic,
-            }),
-            Verb::Unlock { file } => Ok(Verb::Unlock { file: *file }),
-            Verb::StartBr {
-                file,
-                ridfld,
-                key_length,
-                generic,
-                equal,
-            } => Ok(Verb::StartBr {
-                file: *file,
-                ridfld: ridfld.copy()?,
-                key_length: *key_length,
-                generic: *generic,
-                equal: *equal,
-            }),
-            Verb::ResetBr {
-                file,
-                ridfld,
-                key_length,
-                generic,
-                equal,
-            } => Ok(Verb::ResetBr {
-                file: *file,
-                ridfld: ridfld.copy()?,
-                key_length: *key_length,
-                generic: *generic,
-                equal: *equal,
-            }),
-            Verb::ReadNext { file, length } => Ok(Verb::ReadNext {
-                file: *file,
-                length: *length,
-            }),
-            Verb::ReadPrev { file, length } => Ok(Verb::ReadPrev {
-                file: *file,
-                length: *length,
-            }),
-            Verb::EndBr { file } => Ok(Verb::EndBr { file: *file }),
-            Verb::WriteqTs {
-                queue,
-                from,
-                length,
-                item,
-            } => Ok(Verb::WriteqTs {
-                queue: *queue,
-                from: from.copy()?,
-                length: *length,
-                item: *item,
-            }),
-            Verb::ReadqTs {
-                queue,
-                length,
-                item,
-            } => Ok(Verb::ReadqTs {
-                queue: *queue,
-                length: *length,
-                item: *item,
-            }),
-            Verb::DeleteqTs { queue } => Ok(Verb::DeleteqTs { queue: *queue }),
-            Verb::WriteqTd {
-                queue,
-                from,
-                length,
-            } => Ok(Verb::WriteqTd {
-                queue: *queue,
-                from: from.copy()?,
-                length: *length,
-            }),
-            Verb::ReadqTd {
-                queue,
-                length,
-                nosuspend,
-            } => Ok(Verb::ReadqTd {
-                queue: *queue,
-                length: *length,
-                nosuspend: *nosuspend,
-            }),
-            Verb::DeleteqTd { queue } => Ok(Verb::DeleteqTd { queue: *queue }),
-            Verb::Enq {
-                resource,
-                length,
-                nosuspend,
-            } => Ok(Verb::Enq {
-                resource: resource.copy()?,
-                length: *length,
-                nosuspend: *nosuspend,
-            }),
-            Verb::Deq { resource, length } => Ok(Verb::Deq {
-                resource: resource.copy()?,
-                length: *length,
-            }),
-            Verb::Syncpoint => Ok(Verb::Syncpoint),
-            Verb::Rollback => Ok(Verb::Rollback),
-            Verb::Return => Ok(Verb::Return),
-            Verb::Abend { code } => Ok(Verb::Abend { code: *code }),
-        }
-    }
-
     /// Returns the file that the command names, or None if it names none.
     pub fn file(&self) -> Option<&Name8>
         ensures { option_copied result ≡ file_named self.now }
