@@ -1,13 +1,13 @@
 -- Steps of reading options, one after another.
 use Rattle.std.proofs.Common.{◌≡◌, ◌≢◌, ℕ, Bool, ◌||◌, List, [], ◌∷◌, ◌++◌, refl, ap, sym, ◌∙◌, Option, Some}
 use Rattle.std.specs.Prelude.{Result, Ok, Err}
+use Rattle.std.specs.Borrow.{Bor}
 use Rattle.std.specs.Result.{result_map_both}
 use Rattle.std.specs.List.{list_any}
 use Rattle.arrayvec.specs.ArrayVec.{ArrayVec}
 use Rattle.std.proofs.lemmas.List.{map-append}
 use Rattle.cics_script.specs.declared.faults.LineFault.{LineFault}
 use Rattle.cics_script.specs.declared.options.Found.{Found}
-use Rattle.cics_script.specs.declared.options.Next.{Next}
 use Rattle.cics_script.specs.declared.words.Form.{Form}
 use Rattle.cics_script.specs.declared.words.OptionWord.{OptionWord}
 use Rattle.cics_script.specs.declared.words.Kind.{Kind}
@@ -22,7 +22,7 @@ use Rattle.cics_script.specs.Views.{Enters, Ends, GivesEntries, content, entries
 pub refuses_behind : {A : Type 0} (read rest : Result A LineFault) (fault : LineFault) → read ≡ rest → Refuses rest fault → Refuses read fault
 refuses_behind read rest fault step refuses = λ remembered. step ∙ refuses remembered
 
-entered-value : (option : OptionWord) (found : List Entry) (kind : Kind) → kind ≢ Flag → kind ≢ Last → entered option found kind ≡ (at_opening option kind, found)
+pub entered-value : (option : OptionWord) (found : List Entry) (kind : Kind) → kind ≢ Flag → kind ≢ Last → entered option found kind ≡ (at_opening option kind, found)
 entered-value option found Flag valued more = absurd (valued refl)
 entered-value option found Text valued more = refl
 entered-value option found Name8 valued more = refl
@@ -45,14 +45,23 @@ pub reads-further : (form : Form) (kind : Kind) (found : List Entry) (rest : Lis
     → reads form (at_option (Some kind)) found rest ≡ reads form (behind_option kind) found rest
 reads-further form kind found rest more = ap (λ place. reads form place found rest) (sym (behind_option-open kind more))
 
--- an option with a value, behind its word
-pub reads-opening : (form : Form) (last : Option Kind) (found : List Entry) (w : List ℕ) (option : OptionWord) (kind : Kind) (rest : List Token)
-    → Some option ≡ lookup w option_words → Ok kind ≡ allowed found option (kind_in form option) → kind ≢ Flag → kind ≢ Last
-    → reads form (at_option last) found (word w ∷ rest) ≡ reads form (at_opening option kind) found rest
-reads-opening form last found w option kind rest is may valued more =
-    ap (λ o. named form found o >>= λ s. reads form s.0 s.1 rest) (sym is)
-    ∙ ap (λ r. (r >>= λ k. Ok (entered option found k)) >>= λ s. reads form s.0 s.1 rest) (sym may)
-    ∙ ap (λ s. reads form s.0 s.1 rest) (entered-value option found kind valued more)
+-- an option's word, by whether the option may stand there
+reads-word : (form : Form) (last : Option Kind) (found : List Entry) (w : List ℕ) (option : OptionWord) (may : Result Kind LineFault) (rest : List Token)
+    → lookup w option_words ≡ Some option → may ≡ allowed found option (kind_in form option)
+    → reads form (at_option last) found (word w ∷ rest) ≡ ((may >>= λ kind. Ok (entered option found kind)) >>= λ s. reads form s.0 s.1 rest)
+reads-word form last found w option may rest is may_be =
+    ap (λ o. named form found o >>= λ s. reads form s.0 s.1 rest) is
+    ∙ ap (λ r. (r >>= λ kind. Ok (entered option found kind)) >>= λ s. reads form s.0 s.1 rest) (sym may_be)
+
+pub reads-entered : (form : Form) (last : Option Kind) (found : List Entry) (w : List ℕ) (option : OptionWord) (kind : Kind) (rest : List Token)
+    → lookup w option_words ≡ Some option → Ok kind ≡ allowed found option (kind_in form option)
+    → reads form (at_option last) found (word w ∷ rest) ≡ reads form (entered option found kind).0 (entered option found kind).1 rest
+reads-entered form last found w option kind rest is may = reads-word form last found w option (Ok kind) rest is may
+
+pub reads-refused : (form : Form) (last : Option Kind) (found : List Entry) (w : List ℕ) (option : OptionWord) (fault : LineFault) (rest : List Token)
+    → lookup w option_words ≡ Some option → Err fault ≡ allowed found option (kind_in form option)
+    → reads form (at_option last) found (word w ∷ rest) ≡ Err fault
+reads-refused form last found w option fault rest is may = reads-word form last found w option (Err fault) rest is may
 
 -- whether an option was read that passes a test
 pub any-entries : (test : OptionWord → Bool) (found : List Found) → list_any (λ one. test one.option) found ≡ list_any (λ entry. test entry.0) (entries found)
@@ -64,13 +73,15 @@ pub entries-more : (found : List Found) (one : Found) → entries (found ++ one 
 entries-more found one = map-append (λ f. (f.option, content f.value)) found (one ∷ [])
 
 -- what is still to be read from the place behind an option that was read
-pub reads-past : (form : Form) (last : Option Kind) (found after : List Entry) (bytes w behind : List ℕ) (next : Next) (place : Place) (whole : Result (List Entry) LineFault)
+pub reads-past : (form : Form) (last : Option Kind) (found after : List Entry) (bytes w behind : List ℕ) (option : OptionWord) (kind : Kind) (rest : Bor (List ℕ)) (place : Place) (whole : Result (List Entry) LineFault)
     → reads form (at_option last) found (tokens bytes) ≡ whole → tokens bytes ≡ word w ∷ tokens behind
-    → Enters form last found after w behind (Ok next) → behind_option next.kind ≡ place
-    → reads form place after (tokens next.rest.now) ≡ whole
-reads-past form last found after bytes w behind next place whole so_far first enters here =
-    ap (λ p. reads form p after (tokens next.rest.now)) (sym here)
-    ∙ sym enters.0 ∙ sym (ap (λ ts. reads form (at_option last) found ts) first) ∙ so_far
+    → lookup w option_words ≡ Some option → Ok kind ≡ allowed found option (kind_in form option)
+    → Enters kind option found after behind (Ok rest) → behind_option kind ≡ place
+    → reads form place after (tokens rest.now) ≡ whole
+reads-past form last found after bytes w behind option kind rest place whole so_far first is may enters here =
+    ap (λ p. reads form p after (tokens rest.now)) (sym here)
+    ∙ sym (enters form).0 ∙ sym (reads-entered form last found w option kind (tokens behind) is may)
+    ∙ sym (ap (λ ts. reads form (at_option last) found ts) first) ∙ so_far
 
 -- a token as a value
 moves-value : (form : Form) (option : OptionWord) (kind : Kind) (found : List Entry) (t : Token)

@@ -12,7 +12,7 @@ use Rattle.cics_script.specs.declared.words.Kind.TheVariants.{Flag, Text, Name8,
 use Rattle.cics_script.specs.Faults.{◌>>=◌}
 use Rattle.cics_script.specs.Tokens.{Token, word, number, literal, opening, closing, broken}
 use Rattle.cics_script.specs.Words.{lookup, option_word, option_words, commands, queue_words, same, excludes, kind_in}
-use Rattle.cics_script.specs.Options.{Content, Entry, Place, name8, name4, text, amount, content_in, nothing, at_option, at_value, at_closing, behind_option, moves, reads, named, entered, allowed, options}
+use Rattle.cics_script.specs.Options.{Content, Entry, Place, name8, name4, text, amount, content_in, nothing, at_option, at_value, at_closing, behind_option, moves, reads, entered, allowed, options}
 use Rattle.cics_script.specs.Values.{content_at, has, amount_at, text_at, name4_at, name8_at}
 use Rattle.cics_script.specs.Commands.{verb_in, is_handled}
 use Rattle.cics_names.specs.declared.commands.Command.{Command}
@@ -27,7 +27,7 @@ use Rattle.cics_script.specs.declared.faults.LineFault.{LineFault}
 use Rattle.std.proofs.lemmas.Bool.{cases_Bool}
 use Rattle.cics_script.specs.declared.words.CommandWord.TheVariants as command
 use Rattle.cics_script.specs.Spelling.{Written, command_word, value_tokens, option_tokens, is_bare, IsValue, MayPrecede, IsWritten, AreOptions, AreApart, Stands, Gives, flag, options_of, word_of, AllGiven, queue_tokens, verb_tokens, Spells}
-use Rattle.cics_script.proofs.OptionSteps.{reads-opening, reads-further}
+use Rattle.cics_script.proofs.OptionSteps.{entered-value, reads-entered, reads-further}
 use lib.Chars.{codes}
 
 lookup-option_word : (option : OptionWord) → Some option ≡ lookup (option_word option) option_words
@@ -155,15 +155,14 @@ module _ (form : Form) (last : Option Kind) (found : List Entry) (option : Optio
       → list_any (λ earlier. same earlier.0 option) found ≡ false → list_any (λ earlier. excludes earlier.0 option) found ≡ false
       → reads form (at_option last) found (word (option_word option) ∷ (value_tokens value ++ rest)) ≡ reads form (behind_option kind) (found ++ (option, content) ∷ []) rest
   reads-written None is holds new free =
-      ap (λ o. named form found o >>= λ s. reads form s.0 s.1 rest) (sym (lookup-option_word option))
-      ∙ ap (λ k. (allowed found option k >>= λ k. Ok (entered option found k)) >>= λ s. reads form s.0 s.1 rest) is
-      ∙ ap (λ r. (r >>= λ k. Ok (entered option found k)) >>= λ s. reads form s.0 s.1 rest) (sym (allowed-apart found option kind new free))
+      reads-entered form last found (option_word option) option kind rest
+      (sym (lookup-option_word option)) (allowed-apart found option kind new free ∙ ap (allowed found option) (sym is))
       ∙ ap (λ s. reads form s.0 s.1 rest) (entered-bare option found kind holds.0)
       ∙ ap (λ c. reads form (behind_option kind) (found ++ (option, c) ∷ []) rest) holds.1
   reads-written (Some value) is holds new free =
-      reads-opening form last found (option_word option) option kind (opening ∷ value ∷ closing ∷ rest)
-      (lookup-option_word option) (allowed-apart found option kind new free ∙ ap (allowed found option) (sym is))
-      (valued kind Flag value content refl holds) (valued kind Last value content refl holds)
+      reads-entered form last found (option_word option) option kind (opening ∷ value ∷ closing ∷ rest)
+      (sym (lookup-option_word option)) (allowed-apart found option kind new free ∙ ap (allowed found option) (sym is))
+      ∙ ap (λ s. reads form s.0 s.1 (opening ∷ value ∷ closing ∷ rest)) (entered-value option found kind (valued kind Flag value content refl holds) (valued kind Last value content refl holds))
       ∙ ap (λ r. r >>= λ s. reads form s.0 s.1 (closing ∷ rest)) (moves-value form option kind found value)
       ∙ ap (λ r. (r >>= λ c. Ok (behind_value option kind found c)) >>= λ s. reads form s.0 s.1 (closing ∷ rest)) holds
       ∙ reads-further form kind (found ++ (option, content) ∷ []) rest (valued kind Last value content refl holds)

@@ -12,7 +12,6 @@ use Rattle.cics_script.specs.declared.tokens.Token.TheVariants as token
 use Rattle.cics_script.specs.declared.options.Value.{Value}
 use Rattle.cics_script.specs.declared.options.Value.TheVariants as value
 use Rattle.cics_script.specs.declared.options.Found.{Found}
-use Rattle.cics_script.specs.declared.options.Next.{Next}
 use Rattle.cics_script.specs.declared.words.CommandWord.{CommandWord}
 use Rattle.cics_script.specs.declared.words.Form.{Form}
 use Rattle.cics_script.specs.declared.words.OptionWord.{OptionWord}
@@ -21,7 +20,7 @@ use Rattle.cics_script.specs.Faults.{Refuses}
 use Rattle.cics_script.specs.Literals.{said, recorded}
 use Rattle.cics_script.specs.Tokens.{Token, word, number, literal, opening, closing, broken, capital, text_in, token_at, tokens}
 use Rattle.cics_script.specs.Words.{lookup}
-use Rattle.cics_script.specs.Options.{Content, text, name8, name4, amount, nothing, Entry, Place, at_option, at_opening, at_value, at_closing, at_end, behind_option, reads}
+use Rattle.cics_script.specs.Options.{Content, text, name8, name4, amount, nothing, Entry, Place, at_option, at_opening, at_value, at_closing, at_end, behind_option, entered, reads}
 
 -- a token of the code, which is borrowed from its line
 abbrev pub view : made.Token → Token
@@ -132,12 +131,13 @@ abbrev pub HasValue : Kind → OptionWord → List Entry → List Entry → List
 HasValue kind option before after bytes result = (f : Form)
     → Steps f before (at_opening option kind) bytes (λ rest. (at_option (Some kind), after, rest.now)) result
 
--- an option was read from after its word, and added after the others
-abbrev pub Enters : Form → Option Kind → List Entry → List Entry → List ℕ → List ℕ → Result Next LineFault → Type 0
-Enters form last before after w bytes (Ok next) =
-    (reads form (at_option last) before (word w ∷ tokens bytes) ≡ reads form (behind_option next.kind) after (tokens next.rest.now))
-    × (length next.rest.now ≤ length bytes)
-Enters form last before after w bytes (Err fault) = Refuses (reads form (at_option last) before (word w ∷ tokens bytes)) fault
+-- what reading an option behind its word gave, with the option put behind others
+abbrev pub Enters : Kind → OptionWord → List Entry → List Entry → List ℕ → Result (Bor (List ℕ)) LineFault → Type 0
+Enters kind option before after bytes (Ok rest) = (form : Form)
+    → (reads form (entered option before kind).0 (entered option before kind).1 (tokens bytes) ≡ reads form (behind_option kind) after (tokens rest.now))
+    × (length rest.now ≤ length bytes)
+Enters kind option before after bytes (Err fault) = (form : Form)
+    → Refuses (reads form (entered option before kind).0 (entered option before kind).1 (tokens bytes)) fault
 
 -- the line ends here, or a fault was returned
 abbrev pub Ends : List ℕ → Result Unit LineFault → Type 0

@@ -1,8 +1,10 @@
--- A command as the bytes of a line.
-use Rattle.std.specs.Prelude.{ℕ, false, Option, None, Some, option_map, List, [], ◌∷◌, ◌++◌}
+-- A command written out as the bytes of a line.
+use Rattle.std.specs.Prelude.{ℕ, Bool, true, false, Option, None, Some, option_map, List, [], ◌∷◌, ◌++◌}
 use Rattle.std.specs.List.{flat_map}
 use Rattle.std.specs.Fmt.{decimal}
 use Rattle.cics_names.specs.declared.commands.Command.{Command}
+use Rattle.cics_names.specs.declared.commands.Verb.{Verb}
+use Rattle.cics_names.specs.declared.commands.Verb.TheVariants as verb
 use Rattle.cics_script.specs.declared.words.CommandWord.{CommandWord}
 use Rattle.cics_script.specs.declared.words.OptionWord.{OptionWord}
 use Rattle.cics_script.specs.declared.words.OptionWord.TheVariants.{NoHandle}
@@ -38,7 +40,21 @@ queue_text first = flat_map (λ token. codes " " ++ token_bytes token) (queue_to
 abbrev pub command_text : CommandWord → List ℕ
 command_text first = command_word first ++ queue_text first
 
--- the options of a command, with NOHANDLE if its conditions are handled
+-- DELETE, STARTBR and RESETBR
+abbrev pub seeks_keys : Verb → Bool
+seeks_keys (verb.Delete file ridfld key_length generic) = true
+seeks_keys (verb.StartBr file ridfld key_length generic equal) = true
+seeks_keys (verb.ResetBr file ridfld key_length generic equal) = true
+seeks_keys other = false
+
+-- whether a command acts on a temporary storage queue
+abbrev pub is_on_ts : Verb → Bool
+is_on_ts (verb.WriteqTs queue from length item) = true
+is_on_ts (verb.ReadqTs queue length item) = true
+is_on_ts (verb.DeleteqTs queue) = true
+is_on_ts other = false
+
+-- the options of a command, with NOHANDLE where its conditions are handled
 abbrev pub asked_of : Command → List (OptionWord × Option Content)
 asked_of asked = (NoHandle, flag asked.resp) ∷ options_of asked.verb
 

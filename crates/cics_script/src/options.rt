@@ -4,7 +4,7 @@ ghost use Rattle.std.specs.Prelude.{◌≡◌, ◌<◌, ◌≤◌, ℕ, true, Li
 ghost use Rattle.std.specs.Prelude.{Option, Some, None, Ok, Err, IfSome, IfOk, IfErr, length};
 ghost use Rattle.std.specs.Result.{result_map_both};
 ghost use Rattle.std.specs.List.{list_any};
-ghost use Rattle.cics_script.specs.Words.{lookup, option_words, same, excludes, kind_in};
+ghost use Rattle.cics_script.specs.Words.{option_words, same, excludes, kind_in};
 ghost use Rattle.cics_script.specs.Tokens.{tokens};
 ghost use Rattle.cics_script.specs.Options.{fault_of, quoted, content_in, allowed};
 ghost use Rattle.cics_script.specs.Options.{Content, Entry, reads, at_option, options};
@@ -55,11 +55,11 @@ impl Default for Found<'_> {
     }
 }
 
-/// What an option that was read takes, and the line after it.
+/// An option that may stand where its word was read, and what it takes.
 #[derive(Clone, Copy)]
-struct Next<'a> {
+struct Allowed {
+    option: OptionWord,
     kind: Kind,
-    rest: &'a [u8],
 }
 
 // Returns the fault of a wrong or missing value or parenthesis, by what the option takes.
@@ -149,20 +149,20 @@ fn value_token(kind: Kind, bytes: &[u8]) -> Result<(Token<'_>, &[u8]), LineFault
 // Adds an option with what stands as its value, and returns the line after the value.
 fn read_content<'a>(
     alloc: Global,
-    kind: Kind,
+    one: &Allowed,
     bytes: &'a [u8],
-    option: OptionWord,
     found: &mut Options<'a>,
 ) -> Result<&'a [u8], LineFault>
     requires { length found.old.items < 13 }
-    ensures { Fills kind option (entries found.old.items) (entries found.new.items)
-        bytes.entry.now result }
+    ensures { Fills one.now.kind one.now.option (entries found.old.items)
+        (entries found.new.items) bytes.entry.now result }
 {
-    let (token, rest) = match value_token(kind, bytes) {
+    let (token, rest) = match value_token(one.kind, bytes) {
         Ok(found) => found,
         Err(fault) => return Err(fault),
     };
-    match value_of(alloc, kind, token) {
+    let option = one.option;
+    match value_of(alloc, one.kind, token) {
         Ok(value) => found.push(Found { option, value }),
         Err(fault) => return Err(fault),
     }
@@ -186,20 +186,19 @@ fn read_closing(kind: Kind, bytes: &[u8]) -> Result<&[u8], LineFault>
 // Adds an option with its value in parentheses, and returns the line after them.
 fn read_value<'a>(
     alloc: Global,
-    kind: Kind,
+    one: &Allowed,
     bytes: &'a [u8],
-    option: OptionWord,
     found: &mut Options<'a>,
 ) -> Result<&'a [u8], LineFault>
     requires { length found.old.items < 13 }
     ensures put { IfOk result (λ rest. (content : Content)
-        × (entries found.new.items ≡ entries found.old.items ++ (option, content) ∷ [])) }
-    ensures value { HasValue kind option (entries found.old.items) (entries found.new.items)
-        bytes.entry.now result }
+        × (entries found.new.items ≡ entries found.old.items ++ (one.now.option, content) ∷ [])) }
+    ensures value { HasValue one.now.kind one.now.option (entries found.old.items)
+        (entries found.new.items) bytes.entry.now result }
 {
-    let inside = read_opening(kind, bytes)?;
-    let behind = read_content(alloc, kind, inside, option, found)?;
-    read_closing(kind, behind)
+    let inside = read_opening(one.kind, bytes)?;
+    let behind = read_content(alloc, one, inside, found)?;
+    read_closing(one.kind, behind)
 }
 
 /// Returns whether an option was read.
@@ -235,34 +234,25 @@ fn allowed_kind(form: Form, found: &[Found<'_>], option: OptionWord) -> Result<K
 // Adds an option with its value, if it may stand here. `bytes` begin after its word.
 fn read_option<'a>(
     alloc: Global,
-    form: Form,
-    found: &mut Options<'a>,
-    option: OptionWord,
+    one: &Allowed,
     bytes: &'a [u8],
-) -> Result<Next<'a>, LineFault>
-    requires { (kind : Kind) →
-        allowed (entries found.old.items) option (kind_in form option) ≡ Ok kind →
-        length found.old.items < 13 }
-    ensures allowed { IfOk result (λ next. (content : Content)
-        × (entries found.new.items ≡ entries found.old.items ++ (option, content) ∷ [])
-        × (allowed (entries found.old.items) option (kind_in form option) ≡ Ok next.kind)) }
-    ensures reading { (last : Option Kind) (w : List ℕ) → lookup w option_words ≡ Some option →
-        Enters form last (entries found.old.items) (entries found.new.items)
-        w bytes.entry.now result }
+    found: &mut Options<'a>,
+) -> Result<&'a [u8], LineFault>
+    requires { length found.old.items < 13 }
+    ensures put { IfOk result (λ rest. (content : Content)
+        × (entries found.new.items ≡ entries found.old.items ++ (one.now.option, content) ∷ [])) }
+    ensures reading { Enters one.now.kind one.now.option (entries found.old.items)
+        (entries found.new.items) bytes.entry.now result }
 {
-    let kind = allowed_kind(form, found, option)?;
-    match kind {
+    match one.kind {
         Kind::Flag | Kind::Last => {
             found.push(Found {
-                option,
+                option: one.option,
                 value: Value::Nothing,
             });
-            Ok(Next { kind, rest: bytes })
+            Ok(bytes)
         }
-        _ => match read_value(alloc, kind, bytes, option, found) {
-            Ok(rest) => Ok(Next { kind, rest }),
-            Err(fault) => Err(fault),
-        },
+        _ => read_value(alloc, one, bytes, found),
     }
 }
 
@@ -364,15 +354,11 @@ pub fn read_options<'a>(
             Ok(None) => return Ok(()),
             Err(fault) => return Err(fault),
         };
-        match read_option(alloc, form, found, option, behind) {
-            Ok(next) => match next.kind {
-                Kind::Last => return read_end(next.rest),
-                kind => {
-                    last = Some(kind);
-                    rest = next.rest;
-                }
-            },
-            Err(fault) => return Err(fault),
+        let kind = allowed_kind(form, found, option)?;
+        rest = read_option(alloc, &Allowed { option, kind }, behind, found)?;
+        match kind {
+            Kind::Last => return read_end(rest),
+            _ => last = Some(kind),
         }
     }
 }

@@ -1,6 +1,6 @@
 //! Writes commands as lines of a script.
 
-ghost use Rattle.std.specs.Prelude.{◌≡◌, ◌++◌, OnOk, Some, None, option_map, codes};
+ghost use Rattle.std.specs.Prelude.{◌≡◌, ◌++◌, OnOk, Some, None, true, option_map, codes};
 ghost use Rattle.std.specs.Option.{option_copied};
 ghost use Rattle.std.specs.List.{flat_map};
 ghost use Rattle.cics_names.specs.Commands.{file_named};
@@ -8,6 +8,7 @@ ghost use Rattle.cics_script.specs.Options.{text, name8, name4, amount};
 ghost use Rattle.cics_script.specs.Spelling.{flag, options_of, replacing, word_of};
 ghost use Rattle.cics_script.specs.Words.{option_word};
 ghost use Rattle.cics_script.specs.WrittenOut.{option_text, command_text, written_out};
+ghost use Rattle.cics_script.specs.WrittenOut.{seeks_keys, is_on_ts};
 
 use crate::texts::{push_name, push_number, push_str, push_text};
 use crate::words::{OptionWord, option_word};
@@ -108,6 +109,25 @@ fn push_options(out: &mut Vec<u8>, verb: &Verb) -> Result<(), NoMemory>
             push_name8(out, OptionWord::File, file)?;
             push_from(out, from, *length)
         }
+        Verb::Delete { .. } | Verb::StartBr { .. } | Verb::ResetBr { .. } => {
+            push_seek_options(out, verb)
+        }
+        Verb::Unlock { file } | Verb::EndBr { file } => push_name8(out, OptionWord::File, file),
+        Verb::ReadNext { file, length } | Verb::ReadPrev { file, length } => {
+            push_name8(out, OptionWord::File, file)?;
+            push_amount(out, OptionWord::Length, *length)
+        }
+        _ => push_other_options(out, verb),
+    }
+}
+
+// Appends the options of DELETE, STARTBR and RESETBR.
+fn push_seek_options(out: &mut Vec<u8>, verb: &Verb) -> Result<(), NoMemory>
+    requires { seeks_keys verb.now ≡ true }
+    ensures { OnOk result (out.new.items
+        ≡ out.old.items ++ flat_map option_text (options_of verb.now)) }
+{
+    match verb {
         Verb::Delete {
             file,
             ridfld,
@@ -121,7 +141,6 @@ fn push_options(out: &mut Vec<u8>, verb: &Verb) -> Result<(), NoMemory>
             push_amount(out, OptionWord::KeyLength, *key_length)?;
             push_flag(out, OptionWord::Generic, *generic)
         }
-        Verb::Unlock { file } | Verb::EndBr { file } => push_name8(out, OptionWord::File, file),
         Verb::StartBr {
             file,
             ridfld,
@@ -140,11 +159,7 @@ fn push_options(out: &mut Vec<u8>, verb: &Verb) -> Result<(), NoMemory>
             push_flag(out, OptionWord::Generic, *generic)?;
             push_flag(out, OptionWord::Equal, *equal)
         }
-        Verb::ReadNext { file, length } | Verb::ReadPrev { file, length } => {
-            push_name8(out, OptionWord::File, file)?;
-            push_amount(out, OptionWord::Length, *length)
-        }
-        _ => push_other_options(out, verb),
+        _ => Ok(()),
     }
 }
 
@@ -155,26 +170,9 @@ fn push_other_options(out: &mut Vec<u8>, verb: &Verb) -> Result<(), NoMemory>
         ≡ out.old.items ++ flat_map option_text (options_of verb.now)) }
 {
     match verb {
-        Verb::WriteqTs {
-            queue,
-            from,
-            length,
-            item,
-        } => {
-            push_name8(out, OptionWord::Queue, queue)?;
-            push_from(out, from, *length)?;
-            push_replaced(out, *item)
+        Verb::WriteqTs { .. } | Verb::ReadqTs { .. } | Verb::DeleteqTs { .. } => {
+            push_ts_options(out, verb)
         }
-        Verb::ReadqTs {
-            queue,
-            length,
-            item,
-        } => {
-            push_name8(out, OptionWord::Queue, queue)?;
-            push_amount(out, OptionWord::Length, *length)?;
-            push_amount(out, OptionWord::Item, *item)
-        }
-        Verb::DeleteqTs { queue } => push_name8(out, OptionWord::Queue, queue),
         Verb::WriteqTd {
             queue,
             from,
@@ -212,7 +210,38 @@ fn push_other_options(out: &mut Vec<u8>, verb: &Verb) -> Result<(), NoMemory>
     }
 }
 
-// Appends REWRITE, and ITEM with the number of the item that is replaced, if there is one.
+// Appends the options of a command on a temporary storage queue.
+fn push_ts_options(out: &mut Vec<u8>, verb: &Verb) -> Result<(), NoMemory>
+    requires { is_on_ts verb.now ≡ true }
+    ensures { OnOk result (out.new.items
+        ≡ out.old.items ++ flat_map option_text (options_of verb.now)) }
+{
+    match verb {
+        Verb::WriteqTs {
+            queue,
+            from,
+            length,
+            item,
+        } => {
+            push_name8(out, OptionWord::Queue, queue)?;
+            push_from(out, from, *length)?;
+            push_replaced(out, *item)
+        }
+        Verb::ReadqTs {
+            queue,
+            length,
+            item,
+        } => {
+            push_name8(out, OptionWord::Queue, queue)?;
+            push_amount(out, OptionWord::Length, *length)?;
+            push_amount(out, OptionWord::Item, *item)
+        }
+        Verb::DeleteqTs { queue } => push_name8(out, OptionWord::Queue, queue),
+        _ => Ok(()),
+    }
+}
+
+// REWRITE, and ITEM with the number of the item that is replaced, where one is.
 fn push_replaced(out: &mut Vec<u8>, item: Option<u64>) -> Result<(), NoMemory>
     ensures { OnOk result (out.new.items
         ≡ out.old.items ++ flat_map option_text (replacing item)) }

@@ -1,24 +1,28 @@
-use Rattle.std.proofs.Common.{arith, sym, ◌∙◌}
-use Rattle.cics_script.specs.Views.{entries}
-use Rattle.cics_script.proofs.OptionSteps.{refuses_behind, reads-opening, reads-further}
+use Rattle.std.proofs.Common.{◌≢◌, ℕ, List, ap, ◌∙◌, arith}
+use Rattle.std.specs.Prelude.{Result, Ok, Err}
+use Rattle.std.specs.Borrow.{Bor}
+use Rattle.cics_script.specs.declared.faults.LineFault.{LineFault}
+use Rattle.cics_script.specs.declared.words.OptionWord.{OptionWord}
+use Rattle.cics_script.specs.declared.words.Kind.{Kind}
+use Rattle.cics_script.specs.declared.words.Kind.TheVariants.{Flag, Last}
+use Rattle.cics_script.specs.Tokens.{tokens}
+use Rattle.cics_script.specs.Options.{Entry, reads}
+use Rattle.cics_script.specs.Views.{HasValue, Enters}
+use Rattle.cics_script.proofs.OptionSteps.{refuses_behind, entered-value, reads-further}
 use Rattle.cics_script.proofs.options.read_option.Goals as goal
 
-pub returns-in-Ok-clause-reading : goal.returns-in-Ok-clause-reading
-returns-in-Ok-clause-reading c last w is =
-    let step = c.in-Ok.ensures.value c.args.form in (
-      reads-opening c.args.form last (entries c.args.found.now.items) w
-          c.args.option c.in_ok-kind.kind _ (sym is) (rw c.deref.ensures.0 at c.in_ok-kind.ensures)
-          c.in_default.not-Flag c.in_default.not-Last ∙ step.0
-          ∙ reads-further c.args.form c.in_ok-kind.kind _ _ c.in_default.not-Last,
-      omega (arith, step.1),
-    )
+-- what reading a value gave is what reading its option gave
+behind_word : (kind : Kind) (option : OptionWord) (before after : List Entry) (bytes : List ℕ) (result : Result (Bor (List ℕ)) LineFault) → kind ≢ Flag → kind ≢ Last
+    → HasValue kind option before after bytes result → Enters kind option before after bytes result
+behind_word kind option before after bytes (Ok rest) valued more value = λ form. (
+  ap (λ s. reads form s.0 s.1 (tokens bytes)) (entered-value option before kind valued more) ∙ (value form).0 ∙ reads-further form kind _ _ more,
+  omega (arith, (value form).1),
+)
+behind_word kind option before after bytes (Err fault) valued more value = λ form.
+    refuses_behind _ _ fault (ap (λ s. reads form s.0 s.1 (tokens bytes)) (entered-value option before kind valued more)) (value form)
 
-pub returns-in-Err-clause-reading : goal.returns-in-Err-clause-reading
-returns-in-Err-clause-reading c last w is =
-    refuses_behind _ _ c.in-Err.fault
-    (reads-opening c.args.form last (entries c.args.found.now.items) w c.args.option c.in_ok-kind.kind _ (sym is) (rw c.deref.ensures.0 at c.in_ok-kind.ensures) c.in_default.not-Flag c.in_default.not-Last)
-    (c.in-Err.ensures.value c.args.form)
-
-pub returns-in-Ok-clause-allowed : goal.returns-in-Ok-clause-allowed
-returns-in-Ok-clause-allowed c =
-    (c.in-Ok.ensures.put.0, c.in-Ok.ensures.put.1, sym (rw c.deref.ensures.0 at c.in_ok-kind.ensures))
+pub returns-in_default : goal.returns-in_default
+returns-in_default c = record {
+  put = c.read_value.ensures.put;
+  reading = behind_word c.args.one.now.kind c.args.one.now.option _ _ c.args.bytes.now _ c.in_default.not-Flag c.in_default.not-Last c.read_value.ensures.value;
+}

@@ -24,7 +24,8 @@ closed f kind option before after bytes behind c (Err fault) put step less refus
 pub returns-clause-value : goal.returns-clause-value
 returns-clause-value c f =
     let found = entries c.args.found.now.items in
-    let one = c.in_ok-inside.ensures f found c.args.option in
+    let asked = c.args.one.now in
+    let one = c.in_ok-inside.ensures f found asked.option in
     let two = c.in_ok-behind.ensures in
-    closed f c.args.kind c.args.option found _ c.args.bytes.now c.in_ok-behind.behind.now two.0 c.read_closing.result two.1 (one.0 ∙ two.2 f) (omega (arith, one.1, two.3))
-    (c.read_closing.ensures f found c.args.option two.0)
+    closed f asked.kind asked.option found _ c.args.bytes.now c.in_ok-behind.behind.now two.0 c.read_closing.result two.1 (one.0 ∙ two.2 f) (omega (arith, one.1, two.3))
+    (c.read_closing.ensures f found asked.option two.0)
