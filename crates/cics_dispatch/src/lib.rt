@@ -15,7 +15,6 @@
 mod browses;
 mod checks;
 mod dispatcher;
-mod faults;
 mod findings;
 mod outcomes;
 mod reads;

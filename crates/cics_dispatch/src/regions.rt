@@ -1,6 +1,6 @@
 //! A region: tasks that share files and queues, their waits, and their units of work.
 
-ghost use Rattle.std.specs.Prelude.{◌≡◌, ◌&&◌, not, if◌then◌else◌, None, true, false, ℕ, length};
+ghost use Rattle.std.specs.Prelude.{◌≡◌, ◌&&◌, if◌then◌else◌, None, true, false, ℕ, length};
 ghost use Rattle.std.specs.Prelude.{IfOk, IfErr, IfSome, OnOk};
 ghost use Rattle.std.specs.Bool.{OnTrue};
 ghost use Rattle.cics_history.specs.Events.{is_live};
@@ -90,14 +90,6 @@ fn giving_up(keeps: bool, outcome: &Outcome, unit: Option<UnitId>) -> Option<Uni
     } else {
         unit
     }
-}
-
-// Returns whether no waiting command must be looked at after a command. `was_blocker` says that the
-// command's unit was the blocker of one, and may have released something.
-fn stays_settled(is_settled: bool, was_blocker: bool, waits: bool) -> bool
-    ensures { result ≡ is_settled && (not was_blocker && not waits) }
-{
-    is_settled && !was_blocker && !waits
 }
 
 impl Region {
@@ -192,7 +184,8 @@ impl Region {
         let outcome = self.dispatcher.issue(at, label, command)?;
         let was_blocker = self.notes.forget(giving_up(keeps, &outcome, unit));
         let waits = self.dispatcher.is_waiting(&label);
-        self.is_settled = stays_settled(self.is_settled, was_blocker, waits);
+        // It stays so if the command released nothing that another waits for, and doesn't wait.
+        self.is_settled &= !was_blocker & !waits;
         Ok(outcome)
     }
 
