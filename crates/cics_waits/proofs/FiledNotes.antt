@@ -1,5 +1,5 @@
--- The notes of the waiting commands stay right after each change.
-use Rattle.std.specs.Prelude.{Result, Ok, Err, OnErr, IfSome, ◌≡◌, ◌<◌, ◌≤◌, ℕ, ◌+◌, ◌==◌, Bool, true, false, not, cond, Option, Some, None, is_some, if◌then◌else◌, take, drop, length, map, nat_eq, List, [], ◌∷◌, ◌++◌, Vec, slice_get, slice_set, refl}
+-- The notes of the waiting commands are kept in order over each change.
+use Rattle.std.specs.Prelude.{IfSome, ◌≡◌, ◌<◌, ℕ, ◌+◌, ◌==◌, Bool, true, false, not, cond, Option, Some, None, is_some, if◌then◌else◌, length, map, nat_eq, List, [], ◌∷◌, ◌++◌, Vec, slice_get, slice_set, refl}
 use Rattle.std.specs.Map.{lookup}
 use Rattle.std.specs.BTreeSet.{BTreeSet}
 use Rattle.std.specs.Option.{option_eq}
@@ -7,20 +7,16 @@ use Rattle.std.specs.declared.alloc.Global.{Global}
 use Rattle.std.proofs.Common.{inl, inr, zero, suc, sym, ap, ◌∙◌, subst, arith}
 use Rattle.std.proofs.Math.Numerals.{add-one}
 use Rattle.std.proofs.lemmas.Bool.{true≢false, eqb-true, eq-eqb}
+use Rattle.std.proofs.lemmas.List.{length-map}
 use Rattle.std.proofs.lemmas.Option.{slice_get_within}
 use Rattle.cics_history.specs.declared.resources.Resource.{Resource}
 use Rattle.cics_waits.specs.declared.notes.Note.{Note}
 use Rattle.cics_waits.specs.declared.notes.Parked.{Parked}
-use Rattle.cics_waits.specs.declared.notes.Parked.TheVariants.{Line as OfLine, Row as OfRow}
+use Rattle.cics_waits.specs.declared.notes.Parked.TheVariants.{Group as OfGroup, Row as OfRow}
 use Rattle.cics_names.specs.Keyed.{Bytes}
-use Rattle.cics_waits.specs.Notes.{is_unit}
 use Rattle.cics_waits.specs.Notes.{of_line, blocker_by, blocker_in, given_up, forgotten, new_note, alone, in_line, count, AreClosed, IsOpenAt, IsFirstOpen, KeepsResources, KeepsBlockers}
 use Rattle.cics_waits.specs.Filed.{has, IsShown, IsParked, KeepParked, IsAlone, AreParked, IsFiled, IsLeft, IsPut, IsNotOf, IsReopening}
-use Rattle.cics_waits.proofs.ShownNotes.{length_set, get_set, get_push, push_here, push_there, longer, of_line_set, of_line_more, shown_push, shown_left, shown_closed, shown_passed, shown_new_line}
-
-pub length_map : {X : Type 0} (f : X → X) (xs : List X) → length (map f xs) ≡ length xs
-length_map f [] = refl
-length_map f (x ∷ xs) = ap suc (length_map f xs)
+use Rattle.cics_waits.proofs.ShownNotes.{length_set, get_set, get_push, push_here, push_there, longer, of_line_set, of_line_here, of_line_more, shown_push, shown_left, shown_closed, shown_passed, shown_new_group}
 
 -- ---- Closed
 
@@ -41,31 +37,7 @@ known_set (b ∷ bs) (suc g) zero u is = is
 known_set (b ∷ bs) (suc g) (suc h) u is = known_set bs g h u is
 
 pub known_own : (bs : List (Option ℕ)) (g u : ℕ) → g < length bs → is_some (of_line (slice_set bs g (Some u)) g) ≡ true
-known_own [] g u within = absurd (never within)
-  where
-    never : g < 0 → ⊥
-    never less = omega (arith, less)
-known_own (b ∷ bs) zero u within = refl
-known_own (b ∷ bs) (suc g) u within = known_own bs g u (omega (arith, within))
-
-closed_suc : (bs : List (Option ℕ)) (ns : List (Option Note)) (i : ℕ) (c : Option Note) → slice_get ns i ≡ Some c → ((n : Note) → c ≡ Some n → is_some (blocker_in bs n) ≡ true) → AreClosed bs (take i ns) → AreClosed bs (take (suc i) ns)
-closed_suc bs [] i c there known closed = cc
-closed_suc bs (None ∷ ns) zero c there known closed = tt
-closed_suc bs (Some j ∷ ns) zero c there known closed = (known j (let same : Some j ≡ c = cc in sym same), tt)
-closed_suc bs (None ∷ ns) (suc i) c there known closed = closed_suc bs ns i c there known closed
-closed_suc bs (Some j ∷ ns) (suc i) c there known closed = (closed.0, closed_suc bs ns i c there known closed.1)
-
-pub closed_more : (bs : List (Option ℕ)) (ns : List (Option Note)) (i : ℕ) (c : Option Note) → slice_get ns i ≡ Some c → ((n : Note) → c ≡ Some n → is_some (blocker_in bs n) ≡ true) → AreClosed bs (take i ns) → AreClosed bs (take (i + 1) ns)
-closed_more bs ns i c there known closed = subst (λ k. AreClosed bs (take k ns)) (sym (add-one i)) (closed_suc bs ns i c there known closed)
-
-pub closed_all : (bs : List (Option ℕ)) (ns : List (Option Note)) (i : ℕ) → length ns ≤ i → AreClosed bs (take i ns) → AreClosed bs ns
-closed_all bs [] i past closed = tt
-closed_all bs (n ∷ ns) zero past closed = absurd (never past)
-  where
-    never : suc (length ns) ≤ 0 → ⊥
-    never less = omega (arith, less)
-closed_all bs (None ∷ ns) (suc i) past closed = closed_all bs ns i (omega (arith, past)) closed
-closed_all bs (Some n ∷ ns) (suc i) past closed = (closed.0, closed_all bs ns i (omega (arith, past)) closed.1)
+known_own bs g u within = ap is_some (of_line_here bs g (Some u) within)
 
 -- ---- One more, and one fewer
 
@@ -73,11 +45,6 @@ pub count_push : (ns : List (Option Note)) (n : Note) → count (ns ++ Some n �
 count_push [] n = refl
 count_push (None ∷ ns) n = count_push ns n
 count_push (Some k ∷ ns) n = ap suc (count_push ns n)
-
-count_few : (ns : List (Option Note)) → count ns ≤ length ns
-count_few [] = omega arith
-count_few (None ∷ ns) = let few = count_few ns in omega (arith, few)
-count_few (Some n ∷ ns) = let few = count_few ns in omega (arith, few)
 
 pub count_set : (ns : List (Option Note)) (i : ℕ) (k n : Note) → slice_get ns i ≡ Some (Some k) → count (slice_set ns i (Some n)) ≡ count ns
 count_set [] i k n there = refl
@@ -111,9 +78,6 @@ pub some_same : (A : Type 0) (x y : A) → Some x ≡ Some y → x ≡ y
 some_same A x y same = cc
 
 module _ (rows : List (Option Note)) (k : ℕ) (rs : List Resource) (bs : List (Option ℕ)) (ms : List (BTreeSet ℕ)) (parked : Lists) (keys : List ℕ) (is : IsFiled rows k rs bs ms parked keys) where
-  pub filed_few : k ≤ length rows
-  filed_few = let few = count_few rows in let counted = is.counted in omega (arith, few, counted)
-
   pub filed_push : (label : Bytes) (j : ℕ) → j ≡ k + 1 → IsFiled (rows ++ Some (new_note label) ∷ []) j rs bs ms parked (keys ++ 0 ∷ [])
   filed_push label j more = record {
     counted = more ∙ add-one k ∙ ap suc is.counted ∙ sym (count_push rows (new_note label));
@@ -124,19 +88,19 @@ module _ (rows : List (Option Note)) (k : ℕ) (rs : List Resource) (bs : List (
         | inl now ↦ absurd (none_some ℕ u (ap (λ x. x.blocker) (some_same Note (new_note label) a.note now.1) ∙ a.own))
         | inr was ↦ is.lists.rows_of i u (record { note = a.note; there = was; own = a.own })
       ];
-      lines_of = is.lists.lines_of;
+      groups_of = is.lists.groups_of;
     };
   }
 
   -- one note is removed or replaced, and its blocker, if it has one, has it in its list
   parked_set : (at : ℕ) (c : Option Note) (cs : List (Option ℕ)) (more : Lists) → KeepParked parked more → ((n : Note) (u : ℕ) → c ≡ Some n → n.blocker ≡ Some u → IsParked more u (OfRow at)) →
-      ((g u : ℕ) → of_line cs g ≡ Some u → IsParked more u (OfLine g)) → AreParked (slice_set rows at c) cs more
+      ((g u : ℕ) → of_line cs g ≡ Some u → IsParked more u (OfGroup g)) → AreParked (slice_set rows at c) cs more
   parked_set at c cs more kept own lines = record {
     rows_of = λ i u a. elim (get_set rows at i c (Some a.note) a.there) [
       | inl now ↦ subst (λ x. IsParked more u (OfRow x)) (sym now.0) (own a.note u now.1 a.own)
       | inr was ↦ kept u (OfRow i) (is.lists.rows_of i u (record { note = a.note; there = was.1; own = a.own }))
     ];
-    lines_of = lines;
+    groups_of = lines;
   }
 
   pub filed_gone : (at j : ℕ) (n : Note) (ls : List (BTreeSet ℕ)) (new : List ℕ) → slice_get rows at ≡ Some (Some n) → IsLeft at n.line bs ms keys ls new → j + 1 ≡ k → IsFiled (slice_set rows at None) j rs bs ls parked new
@@ -147,7 +111,7 @@ module _ (rows : List (Option Note)) (k : ℕ) (rs : List Resource) (bs : List (
         omega (arith, less, counted, gone);
     resources = is.resources;
     shown = shown_left rows bs ms keys is.shown at n None ls new there tt left;
-    lists = parked_set at None bs parked (λ u w was. was) (λ m u never own. absurd (none_some Note m never)) is.lists.lines_of;
+    lists = parked_set at None bs parked (λ u w was. was) (λ m u never own. absurd (none_some Note m never)) is.lists.groups_of;
   }
 
   pub filed_parked : (more : Lists) → KeepParked parked more → IsFiled rows k rs bs ms more keys
@@ -155,7 +119,7 @@ module _ (rows : List (Option Note)) (k : ℕ) (rs : List Resource) (bs : List (
     counted = is.counted;
     resources = is.resources;
     shown = is.shown;
-    lists = record { rows_of = λ i u a. kept u (OfRow i) (is.lists.rows_of i u a); lines_of = λ g u own. kept u (OfLine g) (is.lists.lines_of g u own) };
+    lists = record { rows_of = λ i u a. kept u (OfRow i) (is.lists.rows_of i u a); groups_of = λ g u own. kept u (OfGroup g) (is.lists.groups_of g u own) };
   }
 
   pub filed_alone : (at u : ℕ) (n : Note) (ls : List (BTreeSet ℕ)) (new : List ℕ) (more : Lists) → slice_get rows at ≡ Some (Some n) → IsLeft at n.line bs ms keys ls new → KeepParked parked more → IsParked more u (OfRow at) →
@@ -166,20 +130,20 @@ module _ (rows : List (Option Note)) (k : ℕ) (rs : List Resource) (bs : List (
     shown = shown_left rows bs ms keys is.shown at n (Some (alone u n)) ls new there (refl, λ never. none_some ℕ u (sym never)) left;
     lists = parked_set at (Some (alone u n)) bs more kept
         (λ m v same own. subst (λ x. IsParked more x (OfRow at)) (some_same ℕ u v (ap (λ x. x.blocker) (some_same Note (alone u n) m same) ∙ own)) added)
-        (λ g v own. kept v (OfLine g) (is.lists.lines_of g v own));
+        (λ g v own. kept v (OfGroup g) (is.lists.groups_of g v own));
   }
 
-  pub filed_line : (at u g : ℕ) (n : Note) (s t : BTreeSet ℕ) (more : Lists) → slice_get rows at ≡ Some (Some n) → ((h : ℕ) → n.line ≡ Some h → h ≡ g) → slice_get ms g ≡ Some s → IsPut at true s t →
-      KeepParked parked more → IsParked more u (OfLine g) → IsFiled (slice_set rows at (Some (in_line g n))) k rs (slice_set bs g (Some u)) (slice_set ms g t) more keys
-  filed_line at u g n s t more there only had put kept added = record {
+  pub filed_group : (at u g : ℕ) (n : Note) (s t : BTreeSet ℕ) (more : Lists) → slice_get rows at ≡ Some (Some n) → ((h : ℕ) → n.line ≡ Some h → h ≡ g) → slice_get ms g ≡ Some s → IsPut at true s t →
+      KeepParked parked more → IsParked more u (OfGroup g) → IsFiled (slice_set rows at (Some (in_line g n))) k rs (slice_set bs g (Some u)) (slice_set ms g t) more keys
+  filed_group at u g n s t more there only had put kept added = record {
     counted = is.counted ∙ sym (count_set rows at n (in_line g n) there);
     resources = is.resources ∙ sym (length_set bs g (Some u));
     shown = shown_closed rows bs ms keys is.shown at g u n s t there only had put;
     lists = parked_set at (Some (in_line g n)) (slice_set bs g (Some u)) more kept
         (λ m v same own. absurd (none_some ℕ v (ap (λ x. x.blocker) (some_same Note (in_line g n) m same) ∙ own)))
         (λ h v own. elim (of_line_set bs g h (Some u) (Some v) own) [
-          | inl now ↦ subst (λ x. IsParked more x (OfLine h)) (some_same ℕ u v now.1) (subst (λ x. IsParked more u (OfLine x)) (sym now.0) added)
-          | inr was ↦ kept v (OfLine h) (is.lists.lines_of h v was)
+          | inl now ↦ subst (λ x. IsParked more x (OfGroup h)) (some_same ℕ u v now.1) (subst (λ x. IsParked more u (OfGroup x)) (sym now.0) added)
+          | inr was ↦ kept v (OfGroup h) (is.lists.groups_of h v was)
         ]);
   }
 
@@ -187,13 +151,13 @@ module _ (rows : List (Option Note)) (k : ℕ) (rs : List Resource) (bs : List (
   pub filed_passed : (at : ℕ) → ((n : Note) → slice_get rows at ≡ Some (Some n) → blocker_in bs n ≡ None → ⊥) → IsFiled rows k rs bs ms parked (slice_set keys at 1)
   filed_passed at passed = record { counted = is.counted; resources = is.resources; shown = shown_passed rows bs ms keys is.shown at passed; lists = is.lists }
 
-  -- one wait group more
-  pub filed_new_line : (r : Resource) (s : BTreeSet ℕ) → ((i : ℕ) → has s i ≡ false) → IsFiled rows k (rs ++ r ∷ []) (bs ++ None ∷ []) (ms ++ s ∷ []) parked keys
-  filed_new_line r s empty = record {
+  -- a wait group more
+  pub filed_new_group : (r : Resource) (s : BTreeSet ℕ) → ((i : ℕ) → has s i ≡ false) → IsFiled rows k (rs ++ r ∷ []) (bs ++ None ∷ []) (ms ++ s ∷ []) parked keys
+  filed_new_group r s empty = record {
     counted = is.counted;
     resources = longer rs r ∙ ap suc is.resources ∙ sym (longer bs None);
-    shown = shown_new_line rows bs ms keys is.shown s empty;
-    lists = record { rows_of = is.lists.rows_of; lines_of = λ g u own. is.lists.lines_of g u (sym (of_line_more bs g) ∙ own) };
+    shown = shown_new_group rows bs ms keys is.shown s empty;
+    lists = record { rows_of = is.lists.rows_of; groups_of = λ g u own. is.lists.groups_of g u (sym (of_line_more bs g) ∙ own) };
   }
 
   -- a unit's list is removed, and the unit blocks nothing of it any more
@@ -204,17 +168,17 @@ module _ (rows : List (Option Note)) (k : ℕ) (rs : List Resource) (bs : List (
     pub none_alone : (i : ℕ) → IsAlone ns i u → ⊥
     none_alone i a = in_list (OfRow i) (is.lists.rows_of i u (re.rows_of i u a)) a
 
-    pub none_lined : (g : ℕ) → of_line cs g ≡ Some u → ⊥
-    none_lined g own = in_list (OfLine g) (is.lists.lines_of g u (re.lines_of g u own)) own
+    pub none_grouped : (g : ℕ) → of_line cs g ≡ Some u → ⊥
+    none_grouped g own = in_list (OfGroup g) (is.lists.groups_of g u (re.groups_of g u own)) own
 
-    pub filed_reopened : (less : Lists) (new : List ℕ) → IsShown ns cs ms new → ((v : ℕ) → (v ≡ u → ⊥) → lookup (nat_eq v) less ≡ lookup (nat_eq v) parked) → IsFiled ns k rs cs ms less new
-    filed_reopened less new shown others = record {
+    pub filed_reopened : (less : Lists) (ls : List (BTreeSet ℕ)) (new : List ℕ) → IsShown ns cs ls new → ((v : ℕ) → (v ≡ u → ⊥) → lookup (nat_eq v) less ≡ lookup (nat_eq v) parked) → IsFiled ns k rs cs ls less new
+    filed_reopened less ls new shown others = record {
       counted = is.counted ∙ sym (count_forgotten (Some u) rows) ∙ sym (ap count re.rows_alike) ∙ count_forgotten (Some u) ns;
-      resources = is.resources ∙ sym (length_map (given_up (Some u)) bs) ∙ sym (ap length re.lines_alike) ∙ length_map (given_up (Some u)) cs;
+      resources = is.resources ∙ sym (length-map bs (given_up (Some u))) ∙ sym (ap length re.groups_alike) ∙ length-map cs (given_up (Some u));
       shown = shown;
       lists = record {
         rows_of = λ i v a. still v (OfRow i) (λ e. none_alone i (subst (IsAlone ns i) e a)) (is.lists.rows_of i v (re.rows_of i v a));
-        lines_of = λ g v own. still v (OfLine g) (λ e. none_lined g (own ∙ ap Some e)) (is.lists.lines_of g v (re.lines_of g v own));
+        groups_of = λ g v own. still v (OfGroup g) (λ e. none_grouped g (own ∙ ap Some e)) (is.lists.groups_of g v (re.groups_of g v own));
       };
     }
       where
@@ -225,31 +189,21 @@ module _ (rows : List (Option Note)) (k : ℕ) (rs : List Resource) (bs : List (
   pub not_alone : (u : ℕ) → lookup (nat_eq u) parked ≡ None → (i : ℕ) → IsAlone rows i u → ⊥
   not_alone u absent i a = let was = is.lists.rows_of i u a in none_some (Vec Parked Global) was.list (sym absent ∙ was.there)
 
-  pub not_lined : (u : ℕ) → lookup (nat_eq u) parked ≡ None → (g : ℕ) → of_line bs g ≡ Some u → ⊥
-  not_lined u absent g own = let was = is.lists.lines_of g u own in none_some (Vec Parked Global) was.list (sym absent ∙ was.there)
+  pub not_grouped : (u : ℕ) → lookup (nat_eq u) parked ≡ None → (g : ℕ) → of_line bs g ≡ Some u → ⊥
+  not_grouped u absent g own = let was = is.lists.groups_of g u own in none_some (Vec Parked Global) was.list (sym absent ∙ was.there)
 
--- the blockers of the wait groups, with one group more
-pub blockers_more : (lines : List (Option ℕ)) → KeepsBlockers lines (lines ++ None ∷ [])
-blockers_more lines = record { kept = none_more lines; long = let is = longer lines in omega (arith, is) }
-  where
-    longer : (xs : List (Option ℕ)) → length (xs ++ None ∷ []) ≡ suc (length xs)
-    longer [] = refl
-    longer (y ∷ ys) = ap suc (longer ys)
-
-    none_more : (bs : List (Option ℕ)) (g : ℕ) → of_line (bs ++ None ∷ []) g ≡ of_line bs g
-    none_more [] zero = refl
-    none_more [] (suc g) = refl
-    none_more (b ∷ bs) zero = refl
-    none_more (b ∷ bs) (suc g) = none_more bs g
+-- the blockers of the wait groups where there is one more
+pub blockers_more : (bs : List (Option ℕ)) → KeepsBlockers bs (bs ++ None ∷ [])
+blockers_more bs = record { kept = of_line_more bs; long = let is = longer bs None in omega (arith, is) }
 
 -- ---- The lists
 
 module _ (ls ms : Lists) (u : ℕ) (w : Vec Parked Global) (h : (q : ℕ) → lookup (nat_eq q) ms ≡ cond (nat_eq u q) (Some w) (lookup (nat_eq q) ls)) where
-  pub list_there : lookup (nat_eq u) ms ≡ Some w
+  list_there : lookup (nat_eq u) ms ≡ Some w
   list_there = h u ∙ ap (λ b. cond b (Some w) (lookup (nat_eq u) ls)) (eq-eqb u u refl)
 
-  -- a unit's list is replaced by one that has what it had
-  pub list_kept : ((l : Vec Parked Global) (k : ℕ) (p : Parked) → lookup (nat_eq u) ls ≡ Some l → slice_get l.items k ≡ Some p → slice_get w.items k ≡ Some p) → KeepParked ls ms
+  -- where a unit's list is written over by one that has what it had
+  list_kept : ((l : Vec Parked Global) (k : ℕ) (p : Parked) → lookup (nat_eq u) ls ≡ Some l → slice_get l.items k ≡ Some p → slice_get w.items k ≡ Some p) → KeepParked ls ms
   list_kept keeps v what was = by (nat_eq u v) refl
     where
       by : (t : Bool) → nat_eq u v ≡ t → IsParked ms v what
@@ -261,23 +215,17 @@ module _ (ls ms : Lists) (u : ℕ) (w : Vec Parked Global) (h : (q : ℕ) → lo
       }
       by false is = record { list = was.list; there = h v ∙ ap (λ b. cond b (Some w) (lookup (nat_eq v) ls)) is ∙ was.there; place = was.place; at = was.at }
 
-  pub list_begun : lookup (nat_eq u) ls ≡ None → KeepParked ls ms
-  list_begun absent = list_kept (λ l k p there at. absurd (none_some (Vec Parked Global) l (sym absent ∙ there)))
+  -- the list before is the unit's, if it has one
+  module _ (l : Vec Parked Global) (own : (x : Vec Parked Global) → lookup (nat_eq u) ls ≡ Some x → l ≡ x) where
+    pub list_same : w.items ≡ l.items → KeepParked ls ms
+    list_same same = list_kept (λ x k p is at. subst (λ xs. slice_get xs k ≡ Some p) (sym same) (subst (λ y. slice_get y.items k ≡ Some p) (sym (own x is)) at))
 
-  pub list_same : (l : Vec Parked Global) → lookup (nat_eq u) ls ≡ Some l → w.items ≡ l.items → KeepParked ls ms
-  list_same l there same = list_kept (λ m k p own at. subst (λ xs. slice_get xs k ≡ Some p) (sym same) (subst (λ x. slice_get x.items k ≡ Some p) (some_same (Vec Parked Global) m l (sym own ∙ there)) at))
-
-  pub list_more : (l : Vec Parked Global) (what : Parked) → lookup (nat_eq u) ls ≡ Some l → w.items ≡ l.items ++ what ∷ [] → KeepParked ls ms
-  list_more l what there more = list_kept (λ m k p own at.
-      subst (λ xs. slice_get xs k ≡ Some p) (sym more) (push_there l.items k what p (subst (λ x. slice_get x.items k ≡ Some p) (some_same (Vec Parked Global) m l (sym own ∙ there)) at)))
+    pub list_more : (what : Parked) → w.items ≡ l.items ++ what ∷ [] → KeepParked ls ms
+    list_more what more = list_kept (λ x k p is at.
+        subst (λ xs. slice_get xs k ≡ Some p) (sym more) (push_there l.items k what p (subst (λ y. slice_get y.items k ≡ Some p) (sym (own x is)) at)))
 
   pub list_added : (l : Vec Parked Global) (what : Parked) → w.items ≡ l.items ++ what ∷ [] → IsParked ms u what
   list_added l what more = record { list = w; there = list_there; place = length l.items; at = subst (λ xs. slice_get xs (length l.items) ≡ Some what) (sym more) (push_here l.items what) }
-
--- what is not there is nothing
-pub none_from : {X : Type 0} (o : Option X) → is_some o ≡ false → o ≡ None
-none_from None e = refl
-none_from (Some x) e = cc
 
 -- ---- Forgotten
 
@@ -298,10 +246,10 @@ rows_unnoted u (Some n ∷ ns) none =
     let same = unnoted u n.blocker (λ own. none 0 (record { note = n; there = refl; own = own })) in
     λ i. Some (record n { blocker = same i }) ∷ rest i
 
-pub lines_unnoted : (u : ℕ) (bs : List (Option ℕ)) → ((g : ℕ) → of_line bs g ≡ Some u → ⊥) → bs ≡ map (given_up (Some u)) bs
-lines_unnoted u [] none = refl
-lines_unnoted u (b ∷ bs) none =
-    let rest = lines_unnoted u bs (λ g. none (suc g)) in
+pub groups_unnoted : (u : ℕ) (bs : List (Option ℕ)) → ((g : ℕ) → of_line bs g ≡ Some u → ⊥) → bs ≡ map (given_up (Some u)) bs
+groups_unnoted u [] none = refl
+groups_unnoted u (b ∷ bs) none =
+    let rest = groups_unnoted u bs (λ g. none (suc g)) in
     let same = unnoted u b (none 0) in
     λ i. same i ∷ rest i
 
@@ -312,10 +260,10 @@ rows_none None (None ∷ ns) none = ap (λ r. None ∷ r) (rows_none None ns ref
 rows_none None (Some n ∷ ns) none = ap (λ r. Some n ∷ r) (rows_none None ns refl)
 rows_none (Some u) ns none = cc
 
-pub lines_none : (unit : Option ℕ) (bs : List (Option ℕ)) → unit ≡ None → bs ≡ map (given_up unit) bs
-lines_none None [] none = refl
-lines_none None (b ∷ bs) none = ap (λ r. b ∷ r) (lines_none None bs refl)
-lines_none (Some u) bs none = cc
+pub groups_none : (unit : Option ℕ) (bs : List (Option ℕ)) → unit ≡ None → bs ≡ map (given_up unit) bs
+groups_none None [] none = refl
+groups_none None (b ∷ bs) none = ap (λ r. b ∷ r) (groups_none None bs refl)
+groups_none (Some u) bs none = cc
 
 -- ---- Looked at again
 
@@ -327,18 +275,15 @@ map_set f (z ∷ xs) (suc i) x y there same = ap (λ r. f z ∷ r) (map_set f xs
 own_given : (u : ℕ) (b : Option ℕ) → b ≡ Some u → None ≡ given_up (Some u) b
 own_given u b own = ap (λ t. cond t None (Some u)) (sym (eq-eqb u u refl)) ∙ ap (given_up (Some u)) (sym own)
 
-pub reopening_same : (u : ℕ) (rows : List (Option Note)) (bs : List (Option ℕ)) → IsReopening u rows rows bs bs
-reopening_same u rows bs = record { rows_alike = refl; lines_alike = refl; rows_of = λ i v a. a; lines_of = λ g v own. own }
-
 pub reopening_row : (u at : ℕ) (rows : List (Option Note)) (bs : List (Option ℕ)) (n : Note) → slice_get rows at ≡ Some (Some n) → n.blocker ≡ Some u → IsReopening u rows (slice_set rows at (Some (record n { blocker = None }))) bs bs
 reopening_row u at rows bs n there own = record {
   rows_alike = map_set (forgotten (Some u)) rows at (Some n) (Some (record n { blocker = None })) there (ap (λ b. Some (record n { blocker = b })) (own_given u n.blocker own));
-  lines_alike = refl;
+  groups_alike = refl;
   rows_of = λ i v a. elim (get_set rows at i (Some (record n { blocker = None })) (Some a.note) a.there) [
     | inl now ↦ absurd (none_some ℕ v (ap (λ x. x.blocker) (some_same Note (record n { blocker = None }) a.note now.1) ∙ a.own))
     | inr was ↦ record { note = a.note; there = was.1; own = a.own }
   ];
-  lines_of = λ g v own. own;
+  groups_of = λ g v own. own;
 }
 
 pub row_opened : (u at : ℕ) (rows : List (Option Note)) (n : Note) → slice_get rows at ≡ Some (Some n) → IsAlone (slice_set rows at (Some (record n { blocker = None }))) at u → ⊥
@@ -347,36 +292,25 @@ row_opened u at rows n there a = elim (get_set rows at at (Some (record n { bloc
   | inr was ↦ was.0 refl
 ]
 
-pub reopening_line : (u g : ℕ) (rows : List (Option Note)) (bs : List (Option ℕ)) → slice_get bs g ≡ Some (Some u) → IsReopening u rows rows bs (slice_set bs g None)
-reopening_line u g rows bs own = record {
+pub reopening_group : (u g : ℕ) (rows : List (Option Note)) (bs : List (Option ℕ)) → slice_get bs g ≡ Some (Some u) → IsReopening u rows rows bs (slice_set bs g None)
+reopening_group u g rows bs own = record {
   rows_alike = refl;
-  lines_alike = map_set (given_up (Some u)) bs g (Some u) None own (own_given u (Some u) refl);
+  groups_alike = map_set (given_up (Some u)) bs g (Some u) None own (own_given u (Some u) refl);
   rows_of = λ i v a. a;
-  lines_of = λ h v is. elim (of_line_set bs g h None (Some v) is) [ inl now ↦ absurd (none_some ℕ v now.1) | inr was ↦ was ];
+  groups_of = λ h v is. elim (of_line_set bs g h None (Some v) is) [ inl now ↦ absurd (none_some ℕ v now.1) | inr was ↦ was ];
 }
 
 pub reopening_more : (u : ℕ) (rows ns qs : List (Option Note)) (bs cs ds : List (Option ℕ)) → IsReopening u rows ns bs cs → IsReopening u ns qs cs ds → IsReopening u rows qs bs ds
 reopening_more u rows ns qs bs cs ds first next = record {
   rows_alike = next.rows_alike ∙ first.rows_alike;
-  lines_alike = next.lines_alike ∙ first.lines_alike;
+  groups_alike = next.groups_alike ∙ first.groups_alike;
   rows_of = λ i v a. first.rows_of i v (next.rows_of i v a);
-  lines_of = λ g v own. first.lines_of g v (next.lines_of g v own);
+  groups_of = λ g v own. first.groups_of g v (next.groups_of g v own);
 }
 
 pub not_of_kept : (u : ℕ) (rows ns : List (Option Note)) (bs cs : List (Option ℕ)) (p : Parked) → IsReopening u rows ns bs cs → IsNotOf rows bs u p → IsNotOf ns cs u p
 not_of_kept u rows ns bs cs (OfRow i) re none = λ a. none (re.rows_of i u a)
-not_of_kept u rows ns bs cs (OfLine g) re none = λ own. none (re.lines_of g u own)
-
--- a list that replaces another
-refilled : {X : Type 0} (ws ns : List X) → length ws ≡ length ns → take (length ns) (ws ++ drop (length ws) ns) ≡ ws
-refilled [] [] even = refl
-refilled [] (n ∷ ns) even = cc
-refilled (w ∷ ws) [] even = cc
-refilled (w ∷ ws) (n ∷ ns) even = ap (λ r. w ∷ r) (refilled ws ns (let k : length ws ≡ length ns = omega (arith, even) in k))
-
-pub written : {X : Type 0} (size : ℕ) (ns ws : List X) (f : X → X) → size ≡ length ns → map f ws ≡ map f ns → take size (ws ++ drop (length ws) ns) ≡ ws
-written size ns ws f sized alike =
-    ap (λ k. take k (ws ++ drop (length ws) ns)) sized ∙ refilled ws ns (sym (length_map f ws) ∙ ap length alike ∙ length_map f ns)
+not_of_kept u rows ns bs cs (OfGroup g) re none = λ own. none (re.groups_of g u own)
 
 -- the lists of the other units
 pub other_lists : (ls ms : Lists) (u : ℕ) → ((q : ℕ) → lookup (nat_eq q) ms ≡ cond (nat_eq u q) None (lookup (nat_eq q) ls)) → (v : ℕ) → (v ≡ u → ⊥) → lookup (nat_eq v) ms ≡ lookup (nat_eq v) ls
@@ -398,11 +332,6 @@ first_found rows rs bs ms keys is due (Some p) first = record {
   line = λ g own. let m = is.member p.0 p.1 g first.there own in subst (λ k. g < k) is.sized (slice_get_within ms g m.members m.there);
 }
 
--- what holds anyway holds on a refusal
-pub on_err_anyway : {X E Q : Type 0} (r : Result X E) → Q → OnErr r Q
-on_err_anyway (Ok x) q = tt
-on_err_anyway (Err e) q = q
-
 -- a key that is new comes last
 pub pushed_key : (rs new : List Resource) (r : Resource) (there is_new : Bool) → new ≡ (if there then rs else rs ++ r ∷ []) → is_new ≡ not there → is_new ≡ true → new ≡ rs ++ r ∷ []
 pushed_key rs new r true is_new put added is = absurd (true≢false (sym is ∙ added))
@@ -417,10 +346,6 @@ resources_more rs r = record { kept = kept rs }
     kept (y ∷ ys) (suc g) x there = kept ys g x there
 
 -- the test of the program
-pub eq_noted : (o : Option ℕ) (u : ℕ) → option_eq nat_eq o (Some u) ≡ is_unit o u
-eq_noted None u = refl
-eq_noted (Some v) u = refl
-
 pub same_unit : (o : Option ℕ) (u : ℕ) (t : Bool) → t ≡ option_eq nat_eq o (Some u) → t ≡ true → o ≡ Some u
 same_unit None u t is holds = absurd (true≢false (sym holds ∙ is))
 same_unit (Some v) u t is holds = ap Some (eqb-true v u (sym is ∙ holds))

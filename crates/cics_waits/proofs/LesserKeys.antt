@@ -263,17 +263,7 @@ last_found keys (x ∷ y ∷ levels) l is =
 
 -- ---- The level above the keys
 
--- the first of the levels has the lesser keys, and the others stand above it
-pub next_above : (keys : List ℕ) (levels rest : List (Vec ℕ Global)) (next : Vec ℕ Global) → levels ≡ next ∷ rest → AreAbove keys levels → (next.items ≡ lesser_of_pairs keys) × AreAbove next.items rest
-next_above keys levels rest next order above = subst (AreAbove keys) order above
-
--- the first key below a limit of the first of the levels is that of a pair
-pub pair_found : (keys next_keys : List ℕ) (levels rest : List (Vec ℕ Global)) (next : Vec ℕ Global) (limit pair : ℕ) → levels ≡ next ∷ rest → AreAbove keys levels → next_keys ≡ next.items →
-    IsFirstBelow next_keys limit pair → IsFirstBelow (lesser_of_pairs keys) limit pair
-pair_found keys next_keys levels rest next limit pair order above read first =
-    subst (λ l. IsFirstBelow l limit pair) (read ∙ (next_above keys levels rest next order above).0) first
-
--- that pair has its first key
+-- a pair that has the first key below a limit is within the keys
 pub first_pair_within : (keys : List ℕ) (limit pair : ℕ) → IsFirstBelow (lesser_of_pairs keys) limit pair → pair * 2 < length keys
 first_pair_within keys limit pair first = key_within keys pair (slice_get_within (lesser_of_pairs keys) pair first.key first.there)
 

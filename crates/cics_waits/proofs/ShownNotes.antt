@@ -8,12 +8,13 @@ use Rattle.std.specs.Cmp.{nat_cmp_is}
 use Rattle.std.specs.declared.cmp.Ordering.TheVariants.{Less, Greater}
 use Rattle.std.proofs.Common.{◌⊎◌, inl, inr, zero, suc, sym, ap, ◌∙◌, subst, arith}
 use Rattle.std.proofs.lemmas.Bool.{true≢false}
+use Rattle.std.proofs.lemmas.List.{length-set}
 use Rattle.std.proofs.lemmas.Option.{slice_get_within, slice_get_past, get_or_from_slice_get}
 use Rattle.cics_waits.specs.declared.notes.Note.{Note}
 use Rattle.cics_names.specs.Keyed.{Bytes}
 use Rattle.cics_waits.specs.Notes.{of_line, blocker_by, blocker_in, new_note, in_line, AreClosed}
 use Rattle.cics_waits.specs.Firsts.{IsFirstBelow}
-use Rattle.cics_waits.specs.Filed.{has, IsMember, IsInLine, IsShownBy, IsShown, IsFirstShown, IsPut, HasLeft, IsLeft}
+use Rattle.cics_waits.specs.Filed.{has, IsMember, IsInGroup, IsShownBy, IsShown, IsFirstShown, IsPut, HasLeft, IsLeft}
 
 -- ---- Indexes
 
@@ -46,9 +47,7 @@ pub zero_kept : (ks : List ℕ) (at i : ℕ) → slice_get ks i ≡ Some 0 → s
 zero_kept ks at i there = elim (set_cases ks at i 0 0 there) [ inl now ↦ now.1 | inr was ↦ was.1 ]
 
 pub length_set : {X : Type 0} (xs : List X) (i : ℕ) (x : X) → length (slice_set xs i x) ≡ length xs
-length_set [] i x = refl
-length_set (y ∷ ys) zero x = refl
-length_set (y ∷ ys) (suc i) x = ap suc (length_set ys i x)
+length_set xs i x = length-set xs i x
 
 pub longer : {X : Type 0} (xs : List X) (x : X) → length (xs ++ x ∷ []) ≡ suc (length xs)
 longer [] x = refl
@@ -86,13 +85,11 @@ of_line_set (c ∷ bs) zero (suc h) b v is = inr is
 of_line_set (c ∷ bs) (suc g) zero b v is = inr is
 of_line_set (c ∷ bs) (suc g) (suc h) b v is = elim (of_line_set bs g h b v is) [ inl now ↦ inl (ap suc now.0, now.1) | inr was ↦ inr was ]
 
+pub of_line_at : (bs : List (Option ℕ)) (g : ℕ) (b : Option ℕ) → slice_get bs g ≡ Some b → of_line bs g ≡ b
+of_line_at bs g b there = ap (λ o. unwrap_or o None) there
+
 pub of_line_here : (bs : List (Option ℕ)) (g : ℕ) (b : Option ℕ) → g < length bs → of_line (slice_set bs g b) g ≡ b
-of_line_here [] g b within = absurd (never within)
-  where
-    never : g < 0 → ⊥
-    never less = omega (arith, less)
-of_line_here (c ∷ bs) zero b within = refl
-of_line_here (c ∷ bs) (suc g) b within = of_line_here bs g b (omega (arith, within))
+of_line_here bs g b within = of_line_at (slice_set bs g b) g b (set_here bs g b within)
 
 pub of_line_more : (bs : List (Option ℕ)) (g : ℕ) → of_line (bs ++ None ∷ []) g ≡ of_line bs g
 of_line_more [] zero = refl
@@ -106,8 +103,8 @@ same_or_apart zero (suc b) = inr (λ e. omega (arith, e))
 same_or_apart (suc a) zero = inr (λ e. omega (arith, e))
 same_or_apart (suc a) (suc b) = elim (same_or_apart a b) [ inl same ↦ inl (ap suc same) | inr apart ↦ inr (λ e. apart (omega (arith, e))) ]
 
-in_line_kept : (rows : List (Option Note)) (at i g : ℕ) (c : Option Note) → (i ≡ at → ⊥) → IsInLine rows i g → IsInLine (slice_set rows at c) i g
-in_line_kept rows at i g c apart is = record { note = is.note; there = set_apart rows at i c (Some is.note) apart is.there; own = is.own }
+in_group_kept : (rows : List (Option Note)) (at i g : ℕ) (c : Option Note) → (i ≡ at → ⊥) → IsInGroup rows i g → IsInGroup (slice_set rows at c) i g
+in_group_kept rows at i g c apart is = record { note = is.note; there = set_apart rows at i c (Some is.note) apart is.there; own = is.own }
 
 put_there : (at : ℕ) (b : Bool) (s t : BTreeSet ℕ) (i : ℕ) → IsPut at b s t → (i ≡ at → ⊥) → has s i ≡ true → has t i ≡ true
 put_there at b s t i put apart there = put.others i apart ∙ there
@@ -122,7 +119,7 @@ closed_from bs [] known = tt
 closed_from bs (None ∷ ns) known = closed_from bs ns (λ i n there. known (suc i) n there)
 closed_from bs (Some n ∷ ns) known = (known 0 n refl, closed_from bs ns (λ i n there. known (suc i) n there))
 
--- no note, or a note in no wait group that has a blocker
+-- a note that has to wait for a unit in no wait group, or none
 abbrev pub IsAside : Option Note → Type 0
 IsAside None = Unit {0}
 IsAside (Some m) = (m.line ≡ None) × (m.blocker ≡ None → ⊥)
@@ -131,9 +128,9 @@ aside_closed : (c : Option Note) (m : Note) → IsAside c → c ≡ Some m → m
 aside_closed None m aside is none = cc
 aside_closed (Some k) m aside is none = let same : k ≡ m = cc in aside.1 (ap (λ x. x.blocker) same ∙ none)
 
-aside_line : (c : Option Note) (m : Note) (g : ℕ) → IsAside c → c ≡ Some m → m.line ≡ Some g → ⊥
-aside_line None m g aside is own = cc
-aside_line (Some k) m g aside is own = let same : k ≡ m = cc in let none : None ≡ Some g = sym aside.0 ∙ ap (λ x. x.line) same ∙ own in cc
+aside_group : (c : Option Note) (m : Note) (g : ℕ) → IsAside c → c ≡ Some m → m.line ≡ Some g → ⊥
+aside_group None m g aside is own = cc
+aside_group (Some k) m g aside is own = let same : k ≡ m = cc in let none : None ≡ Some g = sym aside.0 ∙ ap (λ x. x.line) same ∙ own in cc
 
 module _ (rows : List (Option Note)) (bs : List (Option ℕ)) (ms : List (BTreeSet ℕ)) (keys : List ℕ) (is : IsShown rows bs ms keys) where
   pub shown_push : (label : Bytes) → IsShown (rows ++ Some (new_note label) ∷ []) bs ms (keys ++ 0 ∷ [])
@@ -163,28 +160,28 @@ module _ (rows : List (Option Note)) (bs : List (Option ℕ)) (ms : List (BTreeS
         even = is.even ∙ sym (length_set rows at c);
         sized = is.sized;
         alone = λ i m was line own. elim (get_set rows at i c (Some m) was) [ inl now ↦ absurd (aside_closed c m aside now.1 own) | inr old ↦ is.alone i m old.1 line own ];
-        member = λ i m g was own. elim (get_set rows at i c (Some m) was) [ inl now ↦ absurd (aside_line c m g aside now.1 own) | inr old ↦ is.member i m g old.1 own ];
-        row = λ g s i put member. let was = is.row g s i put member in in_line_kept rows at i g c (apart i g was) was;
+        member = λ i m g was own. elim (get_set rows at i c (Some m) was) [ inl now ↦ absurd (aside_group c m g aside now.1 own) | inr old ↦ is.member i m g old.1 own ];
+        row = λ g s i put member. let was = is.row g s i put member in in_group_kept rows at i g c (apart i g was) was;
         first = is.first;
       }
         where
-          apart : (i g : ℕ) → IsInLine rows i g → i ≡ at → ⊥
+          apart : (i g : ℕ) → IsInGroup rows i g → i ≡ at → ⊥
           apart i g was same =
               let m : was.note ≡ n = let e : Some was.note ≡ Some n = one (slice_get rows i) (Some was.note) (Some n) was.there (ap (slice_get rows) same ∙ there) in cc in
               let never : Some g ≡ None = sym was.own ∙ ap (λ x. x.line) m ∙ none in cc
 
-      from_line : (g : ℕ) → n.line ≡ Some g → (left : HasLeft at g bs ms keys ls new) → IsShown (slice_set rows at c) bs (slice_set ms g left.rest) new
-      from_line g own left = record {
+      from_group : (g : ℕ) → n.line ≡ Some g → (left : HasLeft at g bs ms keys ls new) → IsShown (slice_set rows at c) bs (slice_set ms g left.rest) new
+      from_group g own left = record {
         even = left.first.even ∙ is.even ∙ sym (length_set rows at c);
         sized = length_set ms g left.rest ∙ is.sized;
         alone = λ i m was line none. elim (get_set rows at i c (Some m) was) [ inl now ↦ absurd (aside_closed c m aside now.1 none) | inr old ↦ left.first.kept i (is.alone i m old.1 line none) ];
-        member = λ i m h was line. elim (get_set rows at i c (Some m) was) [ inl now ↦ absurd (aside_line c m h aside now.1 line) | inr old ↦ member_kept i h old.0 (is.member i m h old.1 line) ];
+        member = λ i m h was line. elim (get_set rows at i c (Some m) was) [ inl now ↦ absurd (aside_group c m h aside now.1 line) | inr old ↦ member_kept i h old.0 (is.member i m h old.1 line) ];
         row = λ h s i put member. elim (get_set ms g h left.rest s put) [
           | inl now ↦
               let in_rest : has left.rest i ≡ true = subst (λ t. has t i ≡ true) (sym now.1) member in
               let apart : i ≡ at → ⊥ = λ e. absurd (true≢false (sym in_rest ∙ ap (has left.rest) e ∙ left.gone.here)) in
-              subst (IsInLine (slice_set rows at c) i) (sym now.0) (in_line_kept rows at i g c apart (is.row g left.old i left.there (put_was at false left.old left.rest i left.gone apart in_rest)))
-          | inr old ↦ let was = is.row h s i old.1 member in in_line_kept rows at i h c (other i h old.0 was) was
+              subst (IsInGroup (slice_set rows at c) i) (sym now.0) (in_group_kept rows at i g c apart (is.row g left.old i left.there (put_was at false left.old left.rest i left.gone apart in_rest)))
+          | inr old ↦ let was = is.row h s i old.1 member in in_group_kept rows at i h c (other i h old.0 was) was
         ];
         first = λ h s i put none member. elim (get_set ms g h left.rest s put) [
           | inl now ↦ subst (λ t. IsShownBy t new i) now.1 (left.first.shown i (ap (of_line bs) (sym now.0) ∙ none) (subst (λ t. has t i ≡ true) (sym now.1) member))
@@ -200,7 +197,7 @@ module _ (rows : List (Option Note)) (bs : List (Option ℕ)) (ms : List (BTreeS
             | inr old ↦ record { members = m.members; there = old.1; member = m.member }
           ]
 
-          other : (i h : ℕ) → (h ≡ g → ⊥) → IsInLine rows i h → i ≡ at → ⊥
+          other : (i h : ℕ) → (h ≡ g → ⊥) → IsInGroup rows i h → i ≡ at → ⊥
           other i h apart was same =
               let m : was.note ≡ n = let e : Some was.note ≡ Some n = one (slice_get rows i) (Some was.note) (Some n) was.there (ap (slice_get rows) same ∙ there) in cc in
               let lines : Some h ≡ Some g = sym was.own ∙ ap (λ x. x.line) m ∙ own in
@@ -209,7 +206,7 @@ module _ (rows : List (Option Note)) (bs : List (Option ℕ)) (ms : List (BTreeS
 
       by : (line : Option ℕ) → n.line ≡ line → IsLeft at line bs ms keys ls new → IsShown (slice_set rows at c) bs ls new
       by None none left = subst (λ l. IsShown (slice_set rows at c) bs l new) (sym left.0) (subst (λ k. IsShown (slice_set rows at c) bs ms k) (sym left.1) (from_none none))
-      by (Some g) own left = subst (λ l. IsShown (slice_set rows at c) bs l new) (sym left.put) (from_line g own left)
+      by (Some g) own left = subst (λ l. IsShown (slice_set rows at c) bs l new) (sym left.put) (from_group g own left)
 
   pub shown_closed : (at g u : ℕ) (n : Note) (s t : BTreeSet ℕ) → slice_get rows at ≡ Some (Some n) → ((h : ℕ) → n.line ≡ Some h → h ≡ g) → slice_get ms g ≡ Some s → IsPut at true s t →
       IsShown (slice_set rows at (Some (in_line g n))) (slice_set bs g (Some u)) (slice_set ms g t) keys
@@ -218,12 +215,12 @@ module _ (rows : List (Option Note)) (bs : List (Option ℕ)) (ms : List (BTreeS
     sized = length_set ms g t ∙ is.sized ∙ sym (length_set bs g (Some u));
     alone = λ i m was line none. elim (get_set rows at i noted (Some m) was) [ inl now ↦ absurd (not_alone m now.1 line) | inr old ↦ is.alone i m old.1 line none ];
     member = λ i m h was line. elim (get_set rows at i noted (Some m) was) [
-      | inl now ↦ subst (λ l. IsMember (slice_set ms g t) l i) (own_line m h now.1 line) (record { members = t; there = set_here ms g t (slice_get_within ms g s had); member = subst (λ k. has t k ≡ true) (sym now.0) put.here })
+      | inl now ↦ subst (λ l. IsMember (slice_set ms g t) l i) (own_group m h now.1 line) (record { members = t; there = set_here ms g t (slice_get_within ms g s had); member = subst (λ k. has t k ≡ true) (sym now.0) put.here })
       | inr old ↦ member_kept i h old.0 (is.member i m h old.1 line)
     ];
     row = λ h q i was member. elim (get_set ms g h t q was) [
-      | inl now ↦ subst (IsInLine (slice_set rows at noted) i) (sym now.0) (own_row i (subst (λ x. has x i ≡ true) (sym now.1) member))
-      | inr old ↦ let line = is.row h q i old.1 member in in_line_kept rows at i h noted (other i h old.0 line) line
+      | inl now ↦ subst (IsInGroup (slice_set rows at noted) i) (sym now.0) (own_row i (subst (λ x. has x i ≡ true) (sym now.1) member))
+      | inr old ↦ let line = is.row h q i old.1 member in in_group_kept rows at i h noted (other i h old.0 line) line
     ];
     first = λ h q i was none member. elim (get_set ms g h t q was) [
       | inl now ↦ absurd (closed_now h now.0 none)
@@ -237,8 +234,8 @@ module _ (rows : List (Option Note)) (bs : List (Option ℕ)) (ms : List (BTreeS
       not_alone : (m : Note) → noted ≡ Some m → m.line ≡ None → ⊥
       not_alone m is line = let same : in_line g n ≡ m = cc in let never : Some g ≡ None = ap (λ x. x.line) same ∙ line in cc
 
-      own_line : (m : Note) (h : ℕ) → noted ≡ Some m → m.line ≡ Some h → g ≡ h
-      own_line m h is line = let same : in_line g n ≡ m = cc in let both : Some g ≡ Some h = ap (λ x. x.line) same ∙ line in cc
+      own_group : (m : Note) (h : ℕ) → noted ≡ Some m → m.line ≡ Some h → g ≡ h
+      own_group m h is line = let same : in_line g n ≡ m = cc in let both : Some g ≡ Some h = ap (λ x. x.line) same ∙ line in cc
 
       closed_now : (h : ℕ) → h ≡ g → of_line (slice_set bs g (Some u)) h ≡ None → ⊥
       closed_now h same none =
@@ -253,19 +250,19 @@ module _ (rows : List (Option Note)) (bs : List (Option ℕ)) (ms : List (BTreeS
         | inr old ↦ record { members = m.members; there = old.1; member = m.member }
       ]
 
-      own_row : (i : ℕ) → has t i ≡ true → IsInLine (slice_set rows at noted) i g
+      own_row : (i : ℕ) → has t i ≡ true → IsInGroup (slice_set rows at noted) i g
       own_row i member = elim (same_or_apart i at) [
-        | inl same ↦ subst (λ k. IsInLine (slice_set rows at noted) k g) (sym same) (record { note = in_line g n; there = set_here rows at noted (slice_get_within rows at (Some n) there); own = refl })
-        | inr apart ↦ in_line_kept rows at i g noted apart (is.row g s i had (put_was at true s t i put apart member))
+        | inl same ↦ subst (λ k. IsInGroup (slice_set rows at noted) k g) (sym same) (record { note = in_line g n; there = set_here rows at noted (slice_get_within rows at (Some n) there); own = refl })
+        | inr apart ↦ in_group_kept rows at i g noted apart (is.row g s i had (put_was at true s t i put apart member))
       ]
 
-      other : (i h : ℕ) → (h ≡ g → ⊥) → IsInLine rows i h → i ≡ at → ⊥
+      other : (i h : ℕ) → (h ≡ g → ⊥) → IsInGroup rows i h → i ≡ at → ⊥
       other i h apart was same =
           let m : was.note ≡ n = let e : Some was.note ≡ Some n = one (slice_get rows i) (Some was.note) (Some n) was.there (ap (slice_get rows) same ∙ there) in cc in
           apart (only h (sym (ap (λ x. x.line) m) ∙ was.own))
 
-  pub shown_new_line : (s : BTreeSet ℕ) → ((i : ℕ) → has s i ≡ false) → IsShown rows (bs ++ None ∷ []) (ms ++ s ∷ []) keys
-  shown_new_line s empty = record {
+  pub shown_new_group : (s : BTreeSet ℕ) → ((i : ℕ) → has s i ≡ false) → IsShown rows (bs ++ None ∷ []) (ms ++ s ∷ []) keys
+  shown_new_group s empty = record {
     even = is.even;
     sized = longer ms s ∙ ap suc is.sized ∙ sym (longer bs None);
     alone = is.alone;
@@ -296,7 +293,7 @@ module _ (rows : List (Option Note)) (bs : List (Option ℕ)) (ms : List (BTreeS
         };
   }
 
-  -- a command in no wait group must be looked at again
+  -- a command in no wait group is looked at again
   pub shown_row : (at : ℕ) (n m : Note) → slice_get rows at ≡ Some (Some n) → m.line ≡ n.line → IsShown (slice_set rows at (Some m)) bs ms (slice_set keys at 0)
   shown_row at n m there line = record {
     even = length_set keys at 0 ∙ is.even ∙ sym (length_set rows at (Some m));
@@ -313,14 +310,14 @@ module _ (rows : List (Option Note)) (bs : List (Option ℕ)) (ms : List (BTreeS
       | inl same ↦
           let k : was.note ≡ n = let e : Some was.note ≡ Some n = one (slice_get rows i) (Some was.note) (Some n) was.there (ap (slice_get rows) same ∙ there) in cc in
           record { note = m; there = ap (slice_get (slice_set rows at (Some m))) same ∙ set_here rows at (Some m) (slice_get_within rows at (Some n) there); own = line ∙ sym (ap (λ x. x.line) k) ∙ was.own }
-      | inr apart ↦ in_line_kept rows at i g (Some m) apart was
+      | inr apart ↦ in_group_kept rows at i g (Some m) apart was
     ];
     first = λ g s i put open_yet member. let was = is.first g s i put open_yet member in record { place = was.place; before = was.before; member = was.member; key = zero_kept keys at was.place was.key };
   }
 
-  -- the commands of a wait group must be looked at again
-  pub shown_line : (g : ℕ) (s : BTreeSet ℕ) (new : List ℕ) → slice_get ms g ≡ Some s → IsFirstShown None s keys new → IsShown rows (slice_set bs g None) ms new
-  shown_line g s new there fs = record {
+  -- the commands of a wait group are
+  pub shown_group : (g : ℕ) (s : BTreeSet ℕ) (new : List ℕ) → slice_get ms g ≡ Some s → IsFirstShown None s keys new → IsShown rows (slice_set bs g None) ms new
+  shown_group g s new there fs = record {
     even = fs.even ∙ is.even;
     sized = is.sized ∙ sym (length_set bs g None);
     alone = λ i n was line own. fs.kept i (is.alone i n was line own);
@@ -388,14 +385,14 @@ none_in s empty i = ap (list_any (is_at (nat_cmp i))) empty
 
 module _ (rows : List (Option Note)) (bs : List (Option ℕ)) (ms : List (BTreeSet ℕ)) (keys : List ℕ) (is : IsShown rows bs ms keys) where
   -- the wait group of a note, if it is in one, is one of these
-  pub line_within : (at : ℕ) (n : Note) → slice_get rows at ≡ Some (Some n) → IfSome n.line (λ g. g < length ms)
-  line_within at n there = by n.line refl
+  pub group_within : (at : ℕ) (n : Note) → slice_get rows at ≡ Some (Some n) → IfSome n.line (λ g. g < length ms)
+  group_within at n there = by n.line refl
     where
       by : (line : Option ℕ) → n.line ≡ line → IfSome line (λ g. g < length ms)
       by None own = tt
       by (Some g) own = let m = is.member at n g there own in slice_get_within ms g m.members m.there
 
-  -- an index in a wait group has a key
+  -- an index of a wait group has a key
   pub member_within : (g : ℕ) (s : BTreeSet ℕ) (i : ℕ) → slice_get ms g ≡ Some s → has s i ≡ true → i < length keys
   member_within g s i there member = let row = is.row g s i there member in subst (λ k. i < k) (sym is.even) (slice_get_within rows i (Some row.note) row.there)
 
@@ -404,9 +401,6 @@ module _ (rows : List (Option Note)) (bs : List (Option ℕ)) (ms : List (BTreeS
 
 pub of_line_past : (bs : List (Option ℕ)) (g : ℕ) → length bs ≤ g → of_line bs g ≡ None
 of_line_past bs g past = ap (λ o. unwrap_or o None) (slice_get_past bs g past)
-
-pub of_line_at : (bs : List (Option ℕ)) (g : ℕ) (b : Option ℕ) → slice_get bs g ≡ Some b → of_line bs g ≡ b
-of_line_at bs g b there = ap (λ o. unwrap_or o None) there
 
 pub less_or_same : (k at : ℕ) → k < at + 1 → (k < at) ⊎ (k ≡ at)
 less_or_same k at before = elim (same_or_apart k at) [ inl same ↦ inr same | inr apart ↦ inl (below apart) ]

@@ -8,7 +8,8 @@ use Rattle.std.specs.declared.alloc.Global.{Global}
 use Rattle.cics_history.specs.declared.resources.Resource.{Resource}
 use Rattle.cics_waits.specs.declared.notes.Note.{Note}
 use Rattle.cics_waits.specs.declared.notes.Parked.{Parked}
-use Rattle.cics_waits.specs.declared.notes.Parked.TheVariants.{Line as OfLine, Row as OfRow}
+use Rattle.cics_waits.specs.declared.notes.Parked.TheVariants.{Group as OfGroup, Row as OfRow}
+use Rattle.cics_waits.specs.declared.notes.Groups.{Groups}
 use Rattle.cics_waits.specs.Notes.{of_line, given_up, forgotten, count}
 
 -- the index is one of these
@@ -22,7 +23,7 @@ pub record IsMember (ms : List (BTreeSet ℕ)) (g i : ℕ) : Type 0 where
   pub member : has members i ≡ true
 
 -- the note at an index is of a wait group
-pub record IsInLine (rows : List (Option Note)) (i g : ℕ) : Type 0 where
+pub record IsInGroup (rows : List (Option Note)) (i g : ℕ) : Type 0 where
   pub note : Note
   pub there : slice_get rows i ≡ Some (Some note)
   pub own : note.line ≡ Some g
@@ -41,8 +42,12 @@ pub record IsShown (rows : List (Option Note)) (bs : List (Option ℕ)) (ms : Li
   pub sized : length ms ≡ length bs
   pub alone : (i : ℕ) (n : Note) → slice_get rows i ≡ Some (Some n) → n.line ≡ None → n.blocker ≡ None → slice_get keys i ≡ Some 0
   pub member : (i : ℕ) (n : Note) (g : ℕ) → slice_get rows i ≡ Some (Some n) → n.line ≡ Some g → IsMember ms g i
-  pub row : (g : ℕ) (s : BTreeSet ℕ) (i : ℕ) → slice_get ms g ≡ Some s → has s i ≡ true → IsInLine rows i g
+  pub row : (g : ℕ) (s : BTreeSet ℕ) (i : ℕ) → slice_get ms g ≡ Some s → has s i ≡ true → IsInGroup rows i g
   pub first : (g : ℕ) (s : BTreeSet ℕ) (i : ℕ) → slice_get ms g ≡ Some s → of_line bs g ≡ None → has s i ≡ true → IsShownBy s keys i
+
+-- the same, of the notes with their wait groups
+abbrev pub AreShown : Groups → Type 0
+AreShown n = IsShown n.rows.items n.blockers.items n.members.items n.keys
 
 -- an entry is in the list of a unit
 pub record IsParked (parked : List (ℕ × Vec Parked Global)) (u : ℕ) (what : Parked) : Type 0 where
@@ -64,7 +69,7 @@ pub record IsAlone (rows : List (Option Note)) (i u : ℕ) : Type 0 where
 -- each wait group, and each command in none, is in its blocker's list
 pub record AreParked (rows : List (Option Note)) (bs : List (Option ℕ)) (parked : List (ℕ × Vec Parked Global)) : Type 0 where
   pub rows_of : (i u : ℕ) → IsAlone rows i u → IsParked parked u (OfRow i)
-  pub lines_of : (g u : ℕ) → of_line bs g ≡ Some u → IsParked parked u (OfLine g)
+  pub groups_of : (g u : ℕ) → of_line bs g ≡ Some u → IsParked parked u (OfGroup g)
 
 -- the notes are counted, shown and parked, and each wait group has its resource
 pub record IsFiled (rows : List (Option Note)) (k : ℕ) (rs : List Resource) (bs : List (Option ℕ)) (ms : List (BTreeSet ℕ)) (parked : List (ℕ × Vec Parked Global)) (keys : List ℕ) : Type 0 where
@@ -100,22 +105,18 @@ abbrev pub IsLeft : ℕ → Option ℕ → List (Option ℕ) → List (BTreeSet 
 IsLeft at None bs ms keys ls new = (ls ≡ ms) × (new ≡ keys)
 IsLeft at (Some g) bs ms keys ls new = HasLeft at g bs ms keys ls new
 
--- a command has joined a wait group
-pub record HasJoined (at g : ℕ) (ms ls : List (BTreeSet ℕ)) : Type 0 where
-  pub old : BTreeSet ℕ
-  pub all : BTreeSet ℕ
-  pub there : slice_get ms g ≡ Some old
-  pub joined : IsPut at true old all
-  pub put : ls ≡ slice_set ms g all
-
 -- what an entry stands for isn't blocked by a unit
 abbrev pub IsNotOf : List (Option Note) → List (Option ℕ) → ℕ → Parked → Type 0
 IsNotOf rows bs u (OfRow i) = IsAlone rows i u → ⊥
-IsNotOf rows bs u (OfLine g) = of_line bs g ≡ Some u → ⊥
+IsNotOf rows bs u (OfGroup g) = of_line bs g ≡ Some u → ⊥
 
 -- some of what a unit blocked must be looked at, and nothing else has changed
 pub record IsReopening (u : ℕ) (rows ns : List (Option Note)) (bs cs : List (Option ℕ)) : Type 0 where
   pub rows_alike : map (forgotten (Some u)) ns ≡ map (forgotten (Some u)) rows
-  pub lines_alike : map (given_up (Some u)) cs ≡ map (given_up (Some u)) bs
+  pub groups_alike : map (given_up (Some u)) cs ≡ map (given_up (Some u)) bs
   pub rows_of : (i v : ℕ) → IsAlone ns i v → IsAlone rows i v
-  pub lines_of : (g v : ℕ) → of_line cs g ≡ Some v → of_line bs g ≡ Some v
+  pub groups_of : (g v : ℕ) → of_line cs g ≡ Some v → of_line bs g ≡ Some v
+
+-- the same, of the notes with their wait groups
+abbrev pub Reopens : ℕ → Groups → Groups → Type 0
+Reopens u old new = IsReopening u old.rows.items new.rows.items old.blockers.items new.blockers.items

@@ -1,21 +1,18 @@
 //! What is known of the waiting commands: the blocker and the deadline of each.
 
-ghost use Rattle.std.specs.Prelude.{◌≡◌, ◌<◌, [], ◌∷◌, ◌++◌, None, Some, false, length, map, is_ok};
-ghost use Rattle.std.specs.Prelude.{slice_get, slice_set, if◌then◌else◌, IfOk, IfSome, IfNone};
-ghost use Rattle.std.specs.Prelude.{true, is_some, nat_eq, ◌≤◌, All, MatchOption};
-ghost use Rattle.std.specs.Map.{lookup};
-ghost use Rattle.cics_waits.specs.Notes.{forgotten, given_up, new_note, alone, in_line, count};
-ghost use Rattle.cics_waits.specs.Notes.{of_line, blocker_in, AreClosed, IsOpenAt, IsFirstOpen};
-ghost use Rattle.cics_waits.specs.Notes.{without, without_deadline, IsNoteAt};
-ghost use Rattle.cics_waits.specs.Notes.{KeepsResources, KeepsBlockers};
-ghost use Rattle.cics_waits.specs.Filed.{has, IsShown, IsFirstShown, IsLeft, HasJoined};
-ghost use Rattle.cics_waits.specs.Filed.{IsParked, KeepParked, IsNotOf, IsAlone, IsReopening};
-ghost use Rattle.cics_waits.specs.declared.notes.Parked.{Parked as ParkedValue};
-ghost use Rattle.cics_waits.specs.declared.notes.Parked.TheVariants.{Line as OfLine};
-ghost use Rattle.std.specs.Prelude.{ℕ, List, Option, OnOk, OnErr};
+ghost use Rattle.std.specs.Prelude.{◌≡◌, ◌<◌, ◌≤◌, ℕ, [], ◌∷◌, ◌++◌, length, map, All, None, Some};
+ghost use Rattle.std.specs.Prelude.{is_some, IfSome, IfNone, MatchOption, is_ok, IfOk, OnOk};
+ghost use Rattle.std.specs.Prelude.{true, false, if◌then◌else◌, slice_get, slice_set};
 ghost use Rattle.std.specs.BTreeSet.{BTreeSet as Places};
 ghost use Rattle.cics_waits.specs.declared.notes.Note.{Note as NoteValue};
-ghost use Rattle.cics_waits.specs.Notes.{never};
+ghost use Rattle.cics_waits.specs.declared.notes.Parked.{Parked as ParkedValue};
+ghost use Rattle.cics_waits.specs.declared.notes.Parked.TheVariants.{Group as OfGroup};
+ghost use Rattle.cics_waits.specs.Notes.{new_note, alone, in_line, count, of_line, blocker_in};
+ghost use Rattle.cics_waits.specs.Notes.{AreClosed, IsOpenAt, IsFirstOpen, IsNoteAt};
+ghost use Rattle.cics_waits.specs.Notes.{forgotten, given_up, never, without, without_deadline};
+ghost use Rattle.cics_waits.specs.Notes.{KeepsResources, KeepsBlockers};
+ghost use Rattle.cics_waits.specs.Filed.{has, AreShown, IsFirstShown, IsLeft, IsParked, KeepParked};
+ghost use Rattle.cics_waits.specs.Filed.{Reopens, IsAlone, IsNotOf};
 ghost use Rattle.cics_waits.specs.Firsts.{IsFirstBelow};
 
 use crate::firsts::{Firsts, push_each};
@@ -41,16 +38,33 @@ pub struct Note {
 #[derive(Clone, Copy)]
 enum Parked {
     // A wait group, by its index.
-    Line(usize),
+    Group(usize),
     // A command in no wait group, by the index of its note.
     Row(usize),
 }
 
+// The notes with their wait groups, and which commands must be looked at.
+#[derive(Drop)]
+struct Groups {
+    // The notes, and None for each command that waits no more.
+    rows: Vec<Option<Note>>,
+    // The blocker of each wait group. None if its commands must be looked at.
+    blockers: Vec<Option<UnitId>>,
+    // The indexes of the notes of each wait group.
+    members: Vec<BTreeSet<usize>>,
+    // For each index LOOK if the command must be looked at, and is in no wait group or the first of
+    // its group. Else WAIT, or perhaps LOOK.
+    keys: Firsts,
+}
+
+// The lists of what each unit blocks, and perhaps of what it blocked before.
+type Lists = IndexMap<UnitId, Vec<Parked>>;
+
 /// Notes of the earliest waiting commands, in the order in which the waits began.
 ///
-/// A command's blocker is a unit for which it must wait as long as that releases nothing. A command
-/// whose blocker isn't known must be looked at. The commands of a wait group (`line` in the code)
-/// use one resource, the same for all, and nothing else. They share their blocker.
+/// A command's blocker is a unit that it must wait for, as long as that releases nothing. A command
+/// whose blocker isn't known must be looked at. The commands of a wait group, a `line` in public
+/// names, use the same one resource and nothing else, and share their blocker.
 ///
 /// On `NoMemory` all notes stay as they are.
 ///
@@ -59,25 +73,15 @@ enum Parked {
 /// command in none, that was noted as blocked by it.
 #[derive(Drop)]
 pub struct Notes {
-    // The notes, and None for each command that waits no more.
-    rows: Vec<Option<Note>>,
+    groups: Groups,
     // How many notes there are.
     count: usize,
     // The resource of each wait group.
     resources: IndexSet<Resource>,
-    // The blocker of each wait group. None if its commands must be looked at.
-    lines: Vec<Option<UnitId>>,
-    // The indexes of the notes of each wait group.
-    members: Vec<BTreeSet<usize>>,
-    // What each unit blocks, and perhaps what it blocked before.
-    parked: IndexMap<UnitId, Vec<Parked>>,
-    // For each index LOOK if its command must be looked at, and is in no wait group or the first of
-    // its group. Else WAIT, or LOOK until `first_open` passes over it.
-    keys: Firsts,
+    parked: Lists,
     // For each index the last clock at which the task hasn't waited too long. u64::MAX if the task
     // may wait without limit, or the command waits no more.
     deadlines: Firsts,
-    alloc: Global,
 }
 
 impl Model for Notes {
@@ -87,14 +91,14 @@ impl Model for Notes {
     ghost Value = { NotesValue };
 
     ghost view = { λ n. record {
-      rows = n.rows.items;
+      rows = n.groups.rows.items;
       resources = n.resources.keys;
-      blockers = n.lines.items;
+      blockers = n.groups.blockers.items;
       deadlines = n.deadlines;
     } };
 
-    ghost invariant = { λ n. IsFiled n.rows.items n.count n.resources.keys n.lines.items
-        n.members.items n.parked.entries n.keys };
+    ghost invariant = { λ n. IsFiled n.groups.rows.items n.count n.resources.keys
+        n.groups.blockers.items n.groups.members.items n.parked.entries n.groups.keys };
 }
 
 // The key of a command that must be looked at.
@@ -104,102 +108,29 @@ const LOOK: u64 = 0;
 const WAIT: u64 = 1;
 
 // Returns the blocker of a note's command, or of its wait group, if it is known.
-fn note_blocker(lines: &[Option<UnitId>], note: &Note) -> Option<UnitId>
-    ensures { result ≡ blocker_in lines.now note.now }
+fn note_blocker(blockers: &[Option<UnitId>], note: &Note) -> Option<UnitId>
+    ensures { result ≡ blocker_in blockers.now note.now }
 {
-    let Some(line) = note.line else {
+    let Some(group) = note.line else {
         return note.blocker;
     };
-    match lines.get(line) {
+    match blockers.get(group) {
         Some(blocker) => *blocker,
         None => None,
     }
 }
 
 // Returns a note, if there is one and its command must be looked at.
-fn open_note(lines: &[Option<UnitId>], row: Option<Note>) -> Option<Note>
-    ensures some { IfSome result (λ n. (row ≡ Some n) × (blocker_in lines.now n ≡ None)) }
+fn open_note(blockers: &[Option<UnitId>], row: Option<Note>) -> Option<Note>
+    ensures some { IfSome result (λ n. (row ≡ Some n) × (blocker_in blockers.now n ≡ None)) }
     ensures none { IfNone result ((n : NoteValue) → row ≡ Some n
-        → is_some (blocker_in lines.now n) ≡ true) }
+        → is_some (blocker_in blockers.now n) ≡ true) }
 {
     let note = row?;
-    match note_blocker(lines, &note) {
+    match note_blocker(blockers, &note) {
         Some(_) => None,
         None => Some(note),
     }
-}
-
-// Returns the index and the note of the first command that must be looked at. Sets the key of each
-// that it passes over to WAIT.
-fn first_shown(
-    rows: &[Option<Note>],
-    lines: &[Option<UnitId>],
-    keys: &mut Firsts,
-) -> Option<(usize, Note)>
-    requires shown { (ms : List (Places ℕ)) × IsShown rows.now lines.now ms keys.old }
-    ensures shown { (ms : List (Places ℕ)) → IsShown rows.now lines.now ms keys.old
-        → IsShown rows.now lines.now ms keys.new }
-    ensures first { IfSome result (λ p. IsOpenAt rows.now lines.now p.0 p.1) }
-    ensures none { IfNone result (AreClosed lines.now rows.now) }
-{
-    while let Some(at) = keys.first_below(WAIT) {
-        if let Some(note) = open_note(lines, rows[at]) {
-            return Some((at, note));
-        }
-        keys.set(at, WAIT);
-    }
-    None
-}
-
-// Gives a unit an empty list, if it has none.
-fn begin(
-    parked: &mut IndexMap<UnitId, Vec<Parked>>,
-    unit: UnitId,
-    alloc: Global,
-) -> Result<(), NoMemory>
-    ensures kept { KeepParked parked.old.entries parked.new.entries }
-    ensures there { OnOk result (is_some (lookup (nat_eq unit) parked.new.entries) ≡ true) }
-{
-    if !parked.contains_key(&unit) {
-        parked.insert(unit, Vec::new(alloc))?;
-    }
-    Ok(())
-}
-
-// Adds an entry to the list of what a unit blocks. On error every list keeps what it has.
-fn park(
-    parked: &mut IndexMap<UnitId, Vec<Parked>>,
-    unit: UnitId,
-    what: Parked,
-    alloc: Global,
-) -> Result<(), NoMemory>
-    ensures added { OnOk result (IsParked parked.new.entries unit what) }
-    ensures kept { KeepParked parked.old.entries parked.new.entries }
-{
-    begin(parked, unit, alloc)?;
-    let Some(list) = parked.get_mut(&unit) else {
-        unreachable!();
-    };
-    list.push(what)?;
-    Ok(())
-}
-
-// Adds a wait group to what a unit blocks, unless `blocker`, the group's blocker, is that unit.
-fn park_line(
-    parked: &mut IndexMap<UnitId, Vec<Parked>>,
-    number: usize,
-    blocker: Option<UnitId>,
-    unit: UnitId,
-    alloc: Global,
-) -> Result<(), NoMemory>
-    requires { blocker ≡ Some unit → IsParked parked.old.entries unit (OfLine number) }
-    ensures added { OnOk result (IsParked parked.new.entries unit (OfLine number)) }
-    ensures kept { KeepParked parked.old.entries parked.new.entries }
-{
-    if blocker == Some(unit) {
-        return Ok(());
-    }
-    park(parked, unit, Parked::Line(number), alloc)
 }
 
 // Sets the key of a wait group's first command to LOOK, if the group's blocker isn't known.
@@ -215,125 +146,137 @@ fn show_first(keys: &mut Firsts, blocker: Option<UnitId>, members: &BTreeSet<usi
     }
 }
 
-// Takes the command of the note at an index out of its wait group, if it is in one.
-fn leave(
-    lines: &[Option<UnitId>],
-    members: &mut Vec<BTreeSet<usize>>,
-    keys: &mut Firsts,
-    at: usize,
-    note: &Note,
-)
-    requires line { IfSome note.now.line (λ g. g < length members.old.items) }
-    requires even { length members.old.items ≡ length lines.now }
-    requires within { (g : ℕ) (s : Places ℕ) (i : ℕ) → slice_get members.old.items g ≡ Some s
-        → has s i ≡ true → i < length keys.old }
-    ensures { IsLeft at note.now.line lines.now members.old.items keys.old
-        members.new.items keys.new }
-{
-    let Some(number) = note.line else {
-        return;
-    };
-    members[number].remove(&at);
-    show_first(keys, lines[number], &members[number]);
+impl Groups {
+    // Returns the index and the note of the first command that must be looked at. Sets the key of
+    // each that it passes over to WAIT.
+    fn first_open(&mut self) -> Option<(usize, Note)>
+        requires { AreShown self.old }
+        ensures shown { AreShown self.new }
+        ensures rows { self.new.rows ≡ self.old.rows }
+        ensures blockers { self.new.blockers ≡ self.old.blockers }
+        ensures first { IfSome result (λ p.
+            IsOpenAt self.new.rows.items self.new.blockers.items p.0 p.1) }
+        ensures none { IfNone result (AreClosed self.new.blockers.items self.new.rows.items) }
+    {
+        while let Some(at) = self.keys.first_below(WAIT) {
+            if let Some(note) = open_note(self.blockers.as_slice(), self.rows[at]) {
+                return Some((at, note));
+            }
+            self.keys.set(at, WAIT);
+        }
+        None
+    }
+
+    // Takes the command of the note at an index out of its wait group, if it is in one.
+    fn leave(&mut self, at: usize, note: &Note)
+        requires line { IfSome note.now.line (λ g. g < length self.old.members.items) }
+        requires even { length self.old.members.items ≡ length self.old.blockers.items }
+        requires within { (g : ℕ) (s : Places ℕ) (i : ℕ)
+            → slice_get self.old.members.items g ≡ Some s → has s i ≡ true
+            → i < length self.old.keys }
+        ensures rows { self.new.rows ≡ self.old.rows }
+        ensures blockers { self.new.blockers ≡ self.old.blockers }
+        ensures left { IsLeft at note.now.line self.old.blockers.items self.old.members.items
+            self.old.keys self.new.members.items self.new.keys }
+    {
+        let Some(group) = note.line else {
+            return;
+        };
+        self.members[group].remove(&at);
+        show_first(&mut self.keys, self.blockers[group], &self.members[group]);
+    }
+
+    // Forgets the blocker of a wait group, if it is this unit. The group must then be looked at.
+    fn reopen_group(&mut self, group: usize, unit: UnitId)
+        requires { AreShown self.old }
+        ensures shown { AreShown self.new }
+        ensures reopening { Reopens unit self.old self.new }
+        ensures opened { of_line self.new.blockers.items group ≡ Some unit → ⊥ }
+    {
+        if group >= self.blockers.len() {
+            return;
+        }
+        if self.blockers[group] == Some(unit) {
+            self.blockers[group] = None;
+            show_first(&mut self.keys, None, &self.members[group]);
+        }
+    }
+
+    // Forgets the blocker of a command in no wait group, if it is this unit. The command must then
+    // be looked at.
+    fn reopen_row(&mut self, at: usize, unit: UnitId)
+        requires { AreShown self.old }
+        ensures shown { AreShown self.new }
+        ensures reopening { Reopens unit self.old self.new }
+        ensures opened { IsAlone self.new.rows.items at unit → ⊥ }
+    {
+        if at >= self.rows.len() {
+            return;
+        }
+        let Some(note) = self.rows[at] else {
+            return;
+        };
+        if note.blocker == Some(unit) {
+            self.rows[at] = Some(Note {
+                blocker: None,
+                ..note
+            });
+            self.keys.set(at, LOOK);
+        }
+    }
+
+    // Forgets a unit as the blocker of an entry of its list.
+    fn reopen_one(&mut self, what: Parked, unit: UnitId)
+        requires { AreShown self.old }
+        ensures shown { AreShown self.new }
+        ensures reopening { Reopens unit self.old self.new }
+        ensures opened { IsNotOf self.new.rows.items self.new.blockers.items unit what }
+    {
+        match what {
+            Parked::Group(group) => self.reopen_group(group, unit),
+            Parked::Row(at) => self.reopen_row(at, unit),
+        }
+    }
+
+    // Forgets a unit as the blocker of each entry of its list.
+    fn reopen(&mut self, parked: &[Parked], unit: UnitId)
+        requires { AreShown self.old }
+        ensures shown { AreShown self.new }
+        ensures reopening { Reopens unit self.old self.new }
+        ensures opened { (k : ℕ) (p : ParkedValue) → slice_get parked.now k ≡ Some p
+            → IsNotOf self.new.rows.items self.new.blockers.items unit p }
+    {
+        for place in 0..parked.len() {
+            self.reopen_one(parked[place], unit);
+        }
+    }
 }
 
-// Puts the command of the note at an index into a wait group, if it isn't in it.
-fn join(members: &mut Vec<BTreeSet<usize>>, number: usize, at: usize) -> Result<(), NoMemory>
-    requires { number < length members.old.items }
-    ensures ok { OnOk result (HasJoined at number members.old.items members.new.items) }
-    ensures err { OnErr result (members.new.items ≡ members.old.items) }
+// Adds to the list of what a unit blocks. On error every list keeps what it has.
+fn park(parked: &mut Lists, unit: UnitId, what: Parked) -> Result<(), NoMemory>
+    ensures added { OnOk result (IsParked parked.new.entries unit what) }
+    ensures kept { KeepParked parked.old.entries parked.new.entries }
 {
-    members[number].insert(at)?;
+    let none = Vec::new(*parked.allocator());
+    parked.entry(unit)?.or_insert(none).push(what)?;
     Ok(())
 }
 
-// Forgets the blocker of a wait group, if it is this unit. The group must then be looked at.
-fn reopen_line(
-    lines: &mut [Option<UnitId>],
-    members: &[BTreeSet<usize>],
-    keys: &mut Firsts,
-    number: usize,
+// Adds a wait group to what a unit blocks, unless `blocker`, the group's blocker, is that unit.
+fn park_group(
+    parked: &mut Lists,
+    group: usize,
+    blocker: Option<UnitId>,
     unit: UnitId,
-)
-    requires shown { (rows : List (Option NoteValue))
-        × IsShown rows lines.old members.now keys.old }
-    ensures shown { (rows : List (Option NoteValue)) → IsShown rows lines.old members.now keys.old
-        → IsShown rows lines.new members.now keys.new }
-    ensures reopening { (rows : List (Option NoteValue))
-        → IsReopening unit rows rows lines.old lines.new }
-    ensures opened { of_line lines.new number ≡ Some unit → ⊥ }
+) -> Result<(), NoMemory>
+    requires { blocker ≡ Some unit → IsParked parked.old.entries unit (OfGroup group) }
+    ensures added { OnOk result (IsParked parked.new.entries unit (OfGroup group)) }
+    ensures kept { KeepParked parked.old.entries parked.new.entries }
 {
-    if number >= lines.len() {
-        return;
+    if blocker == Some(unit) {
+        return Ok(());
     }
-    if lines[number] == Some(unit) {
-        lines[number] = None;
-        show_first(keys, None, &members[number]);
-    }
-}
-
-// Forgets the blocker of a command in no wait group, if it is this unit. The command must then be
-// looked at.
-fn reopen_row(rows: &mut [Option<Note>], keys: &mut Firsts, at: usize, unit: UnitId)
-    requires even { length keys.old ≡ length rows.old }
-    ensures shown { (bs : List (Option ℕ)) (ms : List (Places ℕ)) → IsShown rows.old bs ms keys.old
-        → IsShown rows.new bs ms keys.new }
-    ensures reopening { (bs : List (Option ℕ)) → IsReopening unit rows.old rows.new bs bs }
-    ensures opened { IsAlone rows.new at unit → ⊥ }
-{
-    if at >= rows.len() {
-        return;
-    }
-    let Some(note) = rows[at] else {
-        return;
-    };
-    if note.blocker == Some(unit) {
-        rows[at] = Some(Note {
-            blocker: None,
-            ..note
-        });
-        keys.set(at, LOOK);
-    }
-}
-
-// Forgets a unit as the blocker of an entry of its list.
-fn reopen_one(
-    rows: &mut [Option<Note>],
-    lines: &mut [Option<UnitId>],
-    members: &[BTreeSet<usize>],
-    keys: &mut Firsts,
-    what: Parked,
-    unit: UnitId,
-)
-    requires shown { IsShown rows.old lines.old members.now keys.old }
-    ensures shown { IsShown rows.new lines.new members.now keys.new }
-    ensures reopening { IsReopening unit rows.old rows.new lines.old lines.new }
-    ensures opened { IsNotOf rows.new lines.new unit what }
-{
-    match what {
-        Parked::Line(number) => reopen_line(lines, members, keys, number, unit),
-        Parked::Row(at) => reopen_row(rows, keys, at, unit),
-    }
-}
-
-// Forgets a unit as the blocker of each entry of its list.
-fn reopen(
-    rows: &mut [Option<Note>],
-    lines: &mut [Option<UnitId>],
-    members: &[BTreeSet<usize>],
-    keys: &mut Firsts,
-    parked: &[Parked],
-    unit: UnitId,
-)
-    requires shown { IsShown rows.old lines.old members.now keys.old }
-    ensures shown { IsShown rows.new lines.new members.now keys.new }
-    ensures reopening { IsReopening unit rows.old rows.new lines.old lines.new }
-    ensures opened { (k : ℕ) (p : ParkedValue) → slice_get parked.now k ≡ Some p
-        → IsNotOf rows.new lines.new unit p }
-{
-    for place in 0..parked.len() {
-        reopen_one(rows, lines, members, keys, parked[place], unit);
-    }
+    park(parked, unit, Parked::Group(group))
 }
 
 impl Notes {
@@ -343,15 +286,16 @@ impl Notes {
         ensures deadlines { result.deadlines ≡ [] }
     {
         Notes {
-            rows: Vec::new(alloc),
+            groups: Groups {
+                rows: Vec::new(alloc),
+                blockers: Vec::new(alloc),
+                members: Vec::new(alloc),
+                keys: Firsts::new(alloc),
+            },
             count: 0,
             resources: IndexSet::new(alloc),
-            lines: Vec::new(alloc),
-            members: Vec::new(alloc),
             parked: IndexMap::new(alloc),
-            keys: Firsts::new(alloc),
             deadlines: Firsts::new(alloc),
-            alloc,
         }
     }
 
@@ -366,7 +310,7 @@ impl Notes {
     /// indexes is more than `waits`, the number of waiting commands, plus 1,000. To clear all notes
     /// and add them anew then costs little for each command that came and went.
     pub fn have_grown(&self, waits: usize) -> bool {
-        self.rows.len() / 8 > waits.saturating_add(1000)
+        self.groups.rows.len() / 8 > waits.saturating_add(1000)
     }
 
     /// Drops all notes and wait groups. Takes no memory.
@@ -374,13 +318,13 @@ impl Notes {
         ensures rows { self.new.rows ≡ [] }
         ensures deadlines { self.new.deadlines ≡ [] }
     {
-        self.rows.clear();
+        self.groups.rows.clear();
+        self.groups.blockers.clear();
+        self.groups.members.clear();
+        self.groups.keys.clear();
         self.count = 0;
         self.resources.clear();
-        self.lines.clear();
-        self.members.clear();
         self.parked.clear();
-        self.keys.clear();
         self.deadlines.clear();
     }
 
@@ -397,9 +341,9 @@ impl Notes {
         let Some(count) = self.count.checked_add(1) else {
             return Err(NoMemory);
         };
-        self.rows.reserve(1)?;
-        push_each(&mut self.keys, LOOK, &mut self.deadlines, deadline)?;
-        self.rows.push_reserved(Some(Note {
+        self.groups.rows.reserve(1)?;
+        push_each(&mut self.groups.keys, LOOK, &mut self.deadlines, deadline)?;
+        self.groups.rows.push_reserved(Some(Note {
             label,
             line: None,
             blocker: None,
@@ -414,7 +358,7 @@ impl Notes {
         ensures none { IfNone result (AreClosed self.new.blockers self.new.rows) }
         ensures same { self.new ≡ self.old }
     {
-        first_shown(self.rows.as_slice(), self.lines.as_slice(), &mut self.keys)
+        self.groups.first_open()
     }
 
     /// Returns the index of the first note whose deadline is below the clock `now`, if there is
@@ -432,7 +376,7 @@ impl Notes {
         ensures { (n : NoteValue) → slice_get self.now.rows at ≡ Some (Some n)
             → result ≡ n.label }
     {
-        match self.rows[at] {
+        match self.groups.rows[at] {
             Some(note) => note.label,
             None => unreachable!(),
         }
@@ -461,17 +405,11 @@ impl Notes {
         ensures resources { self.new.resources ≡ self.old.resources }
         ensures blockers { self.new.blockers ≡ self.old.blockers }
     {
-        let Some(note) = self.rows[at] else {
+        let Some(note) = self.groups.rows[at] else {
             unreachable!();
         };
-        leave(
-            self.lines.as_slice(),
-            &mut self.members,
-            &mut self.keys,
-            at,
-            &note,
-        );
-        self.rows[at] = None;
+        self.groups.leave(at, &note);
+        self.groups.rows[at] = None;
         self.count -= 1;
         self.deadlines.set(at, u64::MAX);
     }
@@ -493,14 +431,7 @@ impl Notes {
         let Some(parked) = self.parked.swap_remove(&unit) else {
             return false;
         };
-        reopen(
-            &mut self.rows,
-            &mut self.lines,
-            self.members.as_slice(),
-            &mut self.keys,
-            parked.as_slice(),
-            unit,
-        );
+        self.groups.reopen(parked.as_slice(), unit);
         true
     }
 
@@ -514,14 +445,15 @@ impl Notes {
         ensures blockers { KeepsBlockers self.old.blockers self.new.blockers }
         ensures deadlines { self.new.deadlines ≡ self.old.deadlines }
     {
-        self.lines.reserve(1)?;
-        self.members.reserve(1)?;
-        let (number, is_new) = self.resources.insert_full(resource)?;
+        self.groups.blockers.reserve(1)?;
+        self.groups.members.reserve(1)?;
+        let (group, is_new) = self.resources.insert_full(resource)?;
         if is_new {
-            self.lines.push_reserved(None);
-            self.members.push_reserved(BTreeSet::new(self.alloc));
+            let members = BTreeSet::new(*self.parked.allocator());
+            self.groups.blockers.push_reserved(None);
+            self.groups.members.push_reserved(members);
         }
-        Ok(number)
+        Ok(group)
     }
 
     /// Returns whether a wait group is that of a resource.
@@ -539,7 +471,7 @@ impl Notes {
         requires { line < length self.now.blockers }
         ensures { result ≡ of_line self.now.blockers line }
     {
-        self.lines[line]
+        self.groups.blockers[line]
     }
 
     /// Notes a unit as the blocker of the command of the note at an index, which leaves its wait
@@ -552,15 +484,9 @@ impl Notes {
         ensures deadlines { self.new.deadlines ≡ self.old.deadlines }
         ensures blockers { self.new.blockers ≡ self.old.blockers }
     {
-        park(&mut self.parked, unit, Parked::Row(at), self.alloc)?;
-        leave(
-            self.lines.as_slice(),
-            &mut self.members,
-            &mut self.keys,
-            at,
-            note,
-        );
-        self.rows[at] = Some(Note {
+        park(&mut self.parked, unit, Parked::Row(at))?;
+        self.groups.leave(at, note);
+        self.groups.rows[at] = Some(Note {
             label: note.label,
             line: None,
             blocker: Some(unit),
@@ -587,15 +513,15 @@ impl Notes {
         ensures resources { self.new.resources ≡ self.old.resources }
         ensures deadlines { self.new.deadlines ≡ self.old.deadlines }
     {
-        park_line(&mut self.parked, line, self.lines[line], unit, self.alloc)?;
-        join(&mut self.members, line, at)?;
-        self.lines[line] = Some(unit);
-        self.rows[at] = Some(Note {
+        park_group(&mut self.parked, line, self.groups.blockers[line], unit)?;
+        self.groups.members[line].insert(at)?;
+        self.groups.blockers[line] = Some(unit);
+        self.groups.rows[at] = Some(Note {
             label: note.label,
             line: Some(line),
             blocker: None,
         });
-        self.keys.set(at, WAIT);
+        self.groups.keys.set(at, WAIT);
         Ok(())
     }
 }

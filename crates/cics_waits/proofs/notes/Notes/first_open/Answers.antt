@@ -1,12 +1,21 @@
-use Rattle.std.specs.Prelude.{IfSome}
-use Rattle.std.proofs.Common.{subst}
-use Rattle.cics_waits.specs.Notes.{IsOpenAt}
+use Rattle.std.proofs.Common.{sym, ap, ◌∙◌, length}
+use Rattle.cics_waits.specs.Notes.{count}
 use Rattle.cics_waits.proofs.FiledNotes.{first_found}
 use Rattle.cics_waits.proofs.notes.Notes.first_open.Goals as goal
+
+pub invariant_of-self : goal.invariant_of-self
+invariant_of-self c =
+    let u = c.self.inside in
+    let new = c.first_open.new.self in
+    let is = c.self.invariant in
+    record {
+      counted = is.counted ∙ ap (λ r. count r.items) (sym c.first_open.ensures.rows);
+      resources = is.resources ∙ ap (λ b. length b.items) (sym c.first_open.ensures.blockers);
+      shown = c.first_open.ensures.shown;
+      lists = rw c.first_open.ensures.rows (rw c.first_open.ensures.blockers is.lists);
+    }
 
 pub returns-clause-first : goal.returns-clause-first
 returns-clause-first c =
     let u = c.self.inside in
-    first_found u.rows.items u.resources.keys u.lines.items u.members.items u.keys c.self.invariant.shown u.deadlines c.first_shown.result
-    (subst (λ bs. IfSome c.first_shown.result (λ p. IsOpenAt u.rows.items bs p.0 p.1)) c.as_slice-2.ensures.value
-    (subst (λ rows. IfSome c.first_shown.result (λ p. IsOpenAt rows c.as_slice-2.result.now p.0 p.1)) c.as_slice.ensures.value c.first_shown.ensures.first))
+    first_found _ u.resources.keys _ _ _ c.first_open.ensures.shown u.deadlines c.first_open.result c.first_open.ensures.first

@@ -4,22 +4,23 @@ use Rattle.cics_waits.specs.declared.notes.Parked.{Parked}
 use Rattle.cics_waits.specs.Filed.{IsNotOf}
 use Rattle.cics_waits.proofs.ShownNotes.{less_or_same}
 use Rattle.cics_waits.proofs.FiledNotes.{reopening_more, not_of_kept, some_same}
-use Rattle.cics_waits.proofs.notes.reopen.Goals as goal
+use Rattle.cics_waits.proofs.notes.Groups.reopen.Goals as goal
 
 pub loop-place-preserved : goal.loop-place-preserved
 loop-place-preserved c =
     let ps = c.args.parked.now in
     let u = c.args.unit in
     let at = c.loop-place.place in
+    let n = c.reopen_one.new.self in
     let within : at < length ps = omega arith in
     let re = c.reopen_one.ensures.reopening in
-    let one_more : (k : ℕ) (p : Parked) → k < at + 1 → slice_get ps k ≡ Some p → IsNotOf c.reopen_one.new.rows c.reopen_one.new.lines u p = λ k p before own. elim (less_or_same k at before) [
-      | inl less ↦ not_of_kept u c.loop-place.rows c.reopen_one.new.rows c.loop-place.lines c.reopen_one.new.lines p re (c.loop-place.invariant.opened k p less own)
-      | inr same ↦ subst (IsNotOf c.reopen_one.new.rows c.reopen_one.new.lines u) (some_same Parked _ p (sym (slice_get-get_or ps at _ within) ∙ ap (slice_get ps) (sym same) ∙ own)) c.reopen_one.ensures.opened
+    let one_more : (k : ℕ) (p : Parked) → k < at + 1 → slice_get ps k ≡ Some p → IsNotOf n.rows.items n.blockers.items u p = λ k p before own. elim (less_or_same k at before) [
+      | inl less ↦ not_of_kept u _ _ _ _ p re (c.loop-place.invariant.opened k p less own)
+      | inr same ↦ subst (IsNotOf n.rows.items n.blockers.items u) (some_same Parked _ p (sym (slice_get-get_or ps at _ within) ∙ ap (slice_get ps) (sym same) ∙ own)) c.reopen_one.ensures.opened
     ] in
     record {
       shown = c.reopen_one.ensures.shown;
-      reopening = reopening_more u c.args.rows.now c.loop-place.rows c.reopen_one.new.rows c.args.lines.now c.loop-place.lines c.reopen_one.new.lines c.loop-place.invariant.reopening re;
+      reopening = reopening_more u _ _ _ _ _ _ c.loop-place.invariant.reopening re;
       opened = one_more;
     }
 
