@@ -1,5 +1,6 @@
 -- The entries whose keys begin with a prefix stand side by side.
-use Rattle.std.proofs.Common.{map, take, set, ◌++◌, Option, None, IfSome, ◌≡◌, ℕ, zero, suc, ◌+◌, ◌<◌, ◌≤◌, Some, inl, inr, get_or, Bool, true, false, not, ◌&&◌, cond, T, List, [], ◌∷◌, length, drop, nat_eq, refl, sym, ◌∙◌, ap, subst, arith}
+use Rattle.std.proofs.Common.{map, take, set, ◌++◌, Option, None, unwrap_or, IfSome, ◌≡◌, ℕ, zero, suc, ◌+◌, ◌<◌, ◌≤◌, Some, inl, inr, get_or, Bool, true, false, not, ◌&&◌, cond, T, List, [], ◌∷◌, length, drop, nat_eq, refl, sym, ◌∙◌, ap, subst, arith}
+use Rattle.std.specs.Borrow.{Bor}
 use Rattle.std.specs.List.{filter}
 use Rattle.std.specs.Ordering.{is_lt, is_eq, nat_cmp, ordering_then}
 use Rattle.std.specs.declared.cmp.Ordering.{Ordering}
@@ -22,7 +23,7 @@ use Rattle.cics_ksds.proofs.Edits.{find_at}
 use Rattle.cics_ksds.proofs.Values.{get_records}
 use Rattle.std.specs.Option.{option_and_then}
 use Rattle.std.proofs.lemmas.List.{drop_more, get_or_default}
-use Rattle.cics_ksds.specs.Prefixes.{has_prefix, under, from}
+use Rattle.cics_ksds.specs.Prefixes.{has_prefix, under, from, bound_of}
 use Rattle.cics_ksds.proofs.Order.{first, second, less, turned_less, same_or_below}
 
 -- ---- what passes one test after another
@@ -48,6 +49,15 @@ right false b e = let wrong : false ≡ true = e in cc
 pub prefix_itself : (p : Bytes) → has_prefix p p ≡ true
 prefix_itself [] = refl
 prefix_itself (x ∷ p) = (λ i. eq-eqb x x refl i && prefix_itself p i)
+
+-- so does the key at which to look for records under it
+pub bound_begins : (prefix : Bytes) (last : Option (Bor Bytes)) → IfSome last (λ key. has_prefix prefix key.now ≡ true) → has_prefix prefix (bound_of prefix last) ≡ true
+bound_begins prefix None begins = prefix_itself prefix
+bound_begins prefix (Some key) begins = begins
+
+pub bound_is : (prefix : Bor Bytes) (last : Option (Bor Bytes)) → (unwrap_or last prefix).now ≡ bound_of prefix.now last
+bound_is prefix None = refl
+bound_is prefix (Some key) = refl
 
 -- no key that begins with a prefix is below it
 pub prefix_from : (p k : Bytes) → has_prefix p k ≡ true → is_from p false k ≡ true

@@ -209,12 +209,7 @@ impl Dataset {
     /// Inserts a slot. A full interval is split first, and so is a full area.
     ///
     /// All memory is requested before anything changes. The only error is `NoMemory`.
-    pub(crate) fn insert(
-        &mut self,
-        alloc: Global,
-        at: Position,
-        place: Place,
-    ) -> Result<(), NoMemory>
+    pub(crate) fn insert(&mut self, at: Position, place: Place) -> Result<(), NoMemory>
         requires there { 0 < length self.old → IsThere self.old at }
         requires place { at.place ≤ length (interval_at self.old at) }
         ensures places { OnOk result (places_in self.new
@@ -224,18 +219,19 @@ impl Dataset {
         ensures err { OnErr result (self.new ≡ self.old) }
     {
         if self.areas.is_empty() {
-            self.insert_first(alloc, place)
+            self.insert_first(place)
         } else {
-            self.insert_among(alloc, at, place)
+            self.insert_among(at, place)
         }
     }
 
     /// Inserts the first slot of all.
-    fn insert_first(&mut self, alloc: Global, place: Place) -> Result<(), NoMemory>
+    fn insert_first(&mut self, place: Place) -> Result<(), NoMemory>
         requires { self.old ≡ [] }
         ensures ok { OnOk result (self.new ≡ ((place ∷ []) ∷ []) ∷ []) }
         ensures err { OnErr result (self.new ≡ self.old) }
     {
+        let alloc = *self.areas.allocator();
         let mut interval = Interval::new(alloc)?;
         let mut area = Area::new(alloc)?;
         self.areas.reserve(1)?;
@@ -249,7 +245,7 @@ impl Dataset {
     }
 
     /// Inserts a slot, if there are others.
-    fn insert_among(&mut self, alloc: Global, at: Position, place: Place) -> Result<(), NoMemory>
+    fn insert_among(&mut self, at: Position, place: Place) -> Result<(), NoMemory>
         requires there { IsThere self.old at }
         requires place { at.place ≤ length (interval_at self.old at) }
         ensures places { OnOk result (places_in self.new
@@ -262,7 +258,7 @@ impl Dataset {
         let Some(len) = self.len.checked_add(1) else {
             return Err(NoMemory);
         };
-        let next = self.make_room(alloc, at)?;
+        let next = self.make_room(at)?;
         let comes = place.empties();
         self.areas[next.area].insert(next.interval, next.place, place);
         self.len = len;
@@ -272,7 +268,7 @@ impl Dataset {
 
     /// Splits a full interval, and returns where the new slot goes then. Between the two halves it
     /// goes to the end of the first.
-    fn make_room(&mut self, alloc: Global, at: Position) -> Result<Position, NoMemory>
+    fn make_room(&mut self, at: Position) -> Result<Position, NoMemory>
         requires there { IsThere self.old at }
         requires place { at.place ≤ length (interval_at self.old at) }
         ensures ok { IfOk result (IsRoom self.old at self.new) }
@@ -285,8 +281,8 @@ impl Dataset {
         let Some(count) = self.count.checked_add(1) else {
             return Err(NoMemory);
         };
-        let right = Interval::new(alloc)?;
-        let next = self.make_area_room(alloc, at)?;
+        let right = Interval::new(*self.areas.allocator())?;
+        let next = self.make_area_room(at)?;
         split_interval(&mut self.areas, next, right);
         self.count = count;
         if next.place <= intervals::HALF {
@@ -300,7 +296,7 @@ impl Dataset {
     }
 
     /// Splits a full area, and returns where the position is then.
-    fn make_area_room(&mut self, alloc: Global, at: Position) -> Result<Position, NoMemory>
+    fn make_area_room(&mut self, at: Position) -> Result<Position, NoMemory>
         requires { IsThere self.old at }
         ensures intervals { joined self.new ≡ joined self.old }
         ensures ok { IfOk result (IsAreaRoom self.old at self.new) }
@@ -309,7 +305,7 @@ impl Dataset {
         if self.areas[at.area].count() < areas::FULL {
             return Ok(at);
         }
-        let right = Area::new(alloc)?;
+        let right = Area::new(*self.areas.allocator())?;
         self.areas.reserve(1)?;
         Ok(split_area(&mut self.areas, at, right))
     }

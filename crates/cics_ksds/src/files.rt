@@ -184,7 +184,7 @@ impl File {
                 // The image comes first: once the record is in, nothing can fail any more.
                 let image = added(self.alloc, definition, key, keep)?;
                 let place = Place::filled(definition, content);
-                insert_at(self.alloc, definition, &mut self.places, at, place)?;
+                insert_at(definition, &mut self.places, at, place)?;
                 Ok(made(image))
             }
         }

@@ -366,7 +366,6 @@ pub(crate) fn put_at(definition: FileDef, places: &mut Dataset, at: Position, pl
 /// Inserts a slot into the gap for its key. A full interval is split first. All memory is requested
 /// before anything changes.
 pub(crate) fn insert_at(
-    alloc: Global,
     definition: FileDef,
     places: &mut Dataset,
     at: Position,
@@ -380,7 +379,7 @@ pub(crate) fn insert_at(
         ≡ placed (file_of definition places.old) (place_key definition place) place) }
     ensures err { OnErr result (places.new ≡ places.old) }
 {
-    places.insert(alloc, at, place)?;
+    places.insert(at, place)?;
     Ok(())
 }
 

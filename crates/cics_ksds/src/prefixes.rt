@@ -1,9 +1,9 @@
 //! The records whose keys begin with the same bytes: counting and deleting them.
 
 ghost use Rattle.std.specs.Prelude.{◌≡◌, ◌<◌, ◌^◌, true, false, not, length, map};
-ghost use Rattle.std.specs.Prelude.{IfOk, IfSome, OnOk, OnErr};
+ghost use Rattle.std.specs.Prelude.{IfOk, IfSome, OnOk, OnErr, is_some};
 ghost use Rattle.cics_ksds.specs.Places.{ArePlaces, IsRecordUnder, places_in, file_of, left_at};
-ghost use Rattle.cics_ksds.specs.Prefixes.{has_prefix, under, outside, from};
+ghost use Rattle.cics_ksds.specs.Prefixes.{has_prefix, under, outside, from, bound_of};
 ghost use Rattle.cics_ksds.specs.Prefixes.{without_prefix, added_entry};
 
 use crate::FileDef;
@@ -15,24 +15,24 @@ use crate::ranges::{behind, start_of};
 use cics_names::{Items, NoMemory, Record};
 use std::alloc::Global;
 
-/// Returns where the first record from a bound on is, or strictly above it, if its key begins with
-/// the prefix. It looks at most at one slot beyond the prefix, and at one of an interval without
-/// records.
+/// Returns where the first record is whose key begins with the prefix, or with `last`, a key that
+/// begins with it, the first one above that. It looks at most at one slot beyond the prefix, and at
+/// one of an interval without records.
 fn next_under(
     definition: FileDef,
     places: &Dataset,
-    bound: &[u8],
-    strict: bool,
+    last: Option<&[u8]>,
     prefix: &[u8],
 ) -> Option<Position>
     requires places { ArePlaces definition (places_in places.now) }
-    requires bound { has_prefix prefix.now bound.now ≡ true }
-    ensures left { left_at definition places.now prefix.now result
-        ≡ under prefix.now (from bound.now strict (file_of definition places.now).records) }
+    requires last { IfSome last (λ key. has_prefix prefix.now key.now ≡ true) }
+    ensures left { left_at definition places.now prefix.now result ≡ under prefix.now
+        (from (bound_of prefix.now last.entry) (is_some last.entry)
+        (file_of definition places.now).records) }
     ensures found { IfSome result (IsRecordUnder definition places.now prefix.now) }
     ensures few { length (places_in places.now) < 2 ^ 64 }
 {
-    let mut at = start_of(definition, places, bound, strict);
+    let mut at = start_of(definition, places, last.unwrap_or(prefix), last.is_some());
     while let Some(here) = places.next(at) {
         let place = place_at(places, here);
         if !place.key(definition).starts_with(prefix) {
@@ -52,11 +52,11 @@ fn count_under(definition: FileDef, places: &Dataset, prefix: &[u8]) -> u64
     ensures { result ≡ length (under prefix.now (file_of definition places.now).records) }
 {
     let mut number = 0;
-    let mut next = next_under(definition, places, prefix, false, prefix);
+    let mut next = next_under(definition, places, None, prefix);
     while let Some(at) = next {
         number += 1;
         let key = place_at(places, at).key(definition);
-        next = next_under(definition, places, key, true, prefix);
+        next = next_under(definition, places, Some(key), prefix);
     }
     number
 }
@@ -73,12 +73,12 @@ fn images_under(
         ≡ map (added_entry definition) (under prefix.now (file_of definition places.now).records)) }
 {
     let mut images = Vec::new(alloc);
-    let mut next = next_under(definition, places, prefix, false, prefix);
+    let mut next = next_under(definition, places, None, prefix);
     while let Some(at) = next {
         let key = place_at(places, at).key(definition);
         let before = Before::Added(Record::from_slice(alloc, key)?);
         images.push(FileImage { definition, before })?;
-        next = next_under(definition, places, key, true, prefix);
+        next = next_under(definition, places, Some(key), prefix);
     }
     Ok(images)
 }
@@ -92,11 +92,11 @@ fn drop_under(definition: FileDef, places: &mut Dataset, prefix: &[u8]) -> u64
     ensures number { result ≡ length (under prefix.now (file_of definition places.old).records) }
 {
     let mut number = 0;
-    let mut next = next_under(definition, places, prefix, false, prefix);
+    let mut next = next_under(definition, places, None, prefix);
     while let Some(at) = next {
         let old = take_at(definition, places, at);
         number += 1;
-        next = next_under(definition, places, old.key(definition), true, prefix);
+        next = next_under(definition, places, Some(old.key(definition)), prefix);
     }
     number
 }

@@ -2,12 +2,9 @@ use Rattle.std.proofs.Common.{◌≡◌, true, length, suc, ◌∙◌, ap, arith
 use Rattle.cics_ksds.specs.Files.{key_of}
 use Rattle.cics_ksds.specs.Places.{IsRecordUnder, places_in, value_of, left_at}
 use Rattle.cics_ksds.specs.Prefixes.{under, from}
-use Rattle.cics_ksds.proofs.UnderPrefix.{prefix_itself, under_from, fewer_under, found_at, found_left, found_key}
+use Rattle.cics_ksds.proofs.UnderPrefix.{under_from, fewer_under, found_at, found_left, found_key}
 use Rattle.cics_ksds.proofs.prefixes.count_under.Goals as goal
 use Rattle.cics_ksds.proofs.prefixes.count_under.Goals.{In-Some, After-next_under-next-in-Some}
-
-pub next_under-next-requires-clause-bound : goal.next_under-next-requires-clause-bound
-next_under-next-requires-clause-bound c = prefix_itself c.args.prefix.now
 
 pub loop-next-init : goal.loop-next-init
 loop-next-init c = record {

@@ -4,12 +4,9 @@ use Rattle.cics_ksds.specs.Files.{FileValue, key_of, dropped}
 use Rattle.cics_ksds.specs.Places.{IsRecordUnder, places_in, place_key, value_of, left_at}
 use Rattle.cics_ksds.specs.Prefixes.{has_prefix, under, from, all_deleted, without_prefix}
 use Rattle.cics_ksds.specs.PrefixLaws.{dropped_there}
-use Rattle.cics_ksds.proofs.UnderPrefix.{prefix_itself, under_from, from_without, fewer_under, found_at, none_found, found_left, found_key, found_place, found_record}
+use Rattle.cics_ksds.proofs.UnderPrefix.{under_from, from_without, fewer_under, found_at, none_found, found_left, found_key, found_place, found_record}
 use Rattle.cics_ksds.proofs.prefixes.drop_under.Goals as goal
 use Rattle.cics_ksds.proofs.prefixes.drop_under.Goals.{In-Some, In_default, After-take_at-old, After-next_under-next-in-Some}
-
-pub next_under-next-requires-clause-bound : goal.next_under-next-requires-clause-bound
-next_under-next-requires-clause-bound c = prefix_itself c.args.prefix.now
 
 pub loop-next-init : goal.loop-next-init
 loop-next-init c =
@@ -55,10 +52,10 @@ module _ (c : After-take_at-old) (found : IsRecordUnder c.args.definition c.loop
   less_one : value_of c.args.definition (places_in c.take_at-old.new.places) ≡ dropped (value_of c.args.definition (places_in c.loop-next.places)) (key_of c.args.definition found.record_there.0)
   less_one = c.take_at-old.ensures.value ∙ ap (λ p. dropped (value_of c.args.definition (places_in c.loop-next.places)) (place_key c.args.definition p)) found.record_there.1
 
-pub next_under-next-requires-in-Some-clause-bound : goal.next_under-next-requires-in-Some-clause-bound
-next_under-next-requires-in-Some-clause-bound c =
-    let at = found (goal.at.next_under-next-requires-in-Some-clause-bound c).In-Some in
-    ap (has_prefix c.args.prefix.now) (c.key.ensures ∙ key_is (goal.at.next_under-next-requires-in-Some-clause-bound c).After-take_at-old at) ∙ at.record_there.2
+pub next_under-next-requires-in-Some-clause-last : goal.next_under-next-requires-in-Some-clause-last
+next_under-next-requires-in-Some-clause-last c =
+    let at = found (goal.at.next_under-next-requires-in-Some-clause-last c).In-Some in
+    ap (has_prefix c.args.prefix.now) (c.key.ensures ∙ key_is (goal.at.next_under-next-requires-in-Some-clause-last c).After-take_at-old at) ∙ at.record_there.2
 
 -- what is left after it
 left_next : (c : After-next_under-next-in-Some) (found : IsRecordUnder c.args.definition c.loop-next.places c.args.prefix.now c.in-Some.at) →

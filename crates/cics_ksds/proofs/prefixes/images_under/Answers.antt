@@ -4,12 +4,9 @@ use Rattle.cics_ksds.specs.declared.images.Before.TheVariants.{Added}
 use Rattle.cics_ksds.specs.Files.{key_of}
 use Rattle.cics_ksds.specs.Places.{IsRecordUnder, places_in, value_of, left_at}
 use Rattle.cics_ksds.specs.Prefixes.{has_prefix, under, from, added_entry}
-use Rattle.cics_ksds.proofs.UnderPrefix.{prefix_itself, under_from, found_at, none_found, found_left, found_key, found_place}
+use Rattle.cics_ksds.proofs.UnderPrefix.{under_from, found_at, none_found, found_left, found_key, found_place}
 use Rattle.cics_ksds.proofs.prefixes.images_under.Goals as goal
 use Rattle.cics_ksds.proofs.prefixes.images_under.Goals.{In-Some, After-key-key, After-next_under-next-in-Some}
-
-pub next_under-next-requires-clause-bound : goal.next_under-next-requires-clause-bound
-next_under-next-requires-clause-bound c = prefix_itself c.args.prefix.now
 
 pub loop-next-init : goal.loop-next-init
 loop-next-init c = record {
@@ -35,10 +32,10 @@ key-key-requires c = found_place c.args.definition c.args.places.now c.args.pref
 key_is : (c : After-key-key) (found : IsRecordUnder c.args.definition c.args.places.now c.args.prefix.now c.in-Some.at) → c.key-key.result.now ≡ key_of c.args.definition found.record_there.0
 key_is c found = c.key-key.ensures ∙ found_key c.args.definition c.args.places.now c.args.prefix.now c.requires c.in-Some.at found c.place_at.result.now c.place_at.ensures
 
-pub next_under-next-requires-in-Some-clause-bound : goal.next_under-next-requires-in-Some-clause-bound
-next_under-next-requires-in-Some-clause-bound c =
-    let found = found (goal.at.next_under-next-requires-in-Some-clause-bound c).In-Some in
-    ap (λ k. has_prefix c.args.prefix.now k) (key_is (goal.at.next_under-next-requires-in-Some-clause-bound c).After-key-key found) ∙ found.record_there.2
+pub next_under-next-requires-in-Some-clause-last : goal.next_under-next-requires-in-Some-clause-last
+next_under-next-requires-in-Some-clause-last c =
+    let found = found (goal.at.next_under-next-requires-in-Some-clause-last c).In-Some in
+    ap (λ k. has_prefix c.args.prefix.now k) (key_is (goal.at.next_under-next-requires-in-Some-clause-last c).After-key-key found) ∙ found.record_there.2
 
 -- what is left, and what is left after it
 left_now : (c : In-Some) → left_at c.args.definition c.args.places.now c.args.prefix.now c.loop-next.next

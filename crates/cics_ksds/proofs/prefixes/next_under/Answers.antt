@@ -1,23 +1,32 @@
-use Rattle.std.proofs.Common.{◌≡◌, ◌<◌, ◌+◌, ℕ, refl, List, [], ◌∷◌, T, length, get_or, drop, map, sym, ◌∙◌, ap, subst, arith}
+use Rattle.std.proofs.Common.{◌≡◌, ◌<◌, ◌+◌, ℕ, refl, List, [], ◌∷◌, T, is_some, length, get_or, drop, map, sym, ◌∙◌, ap, subst, arith}
+use Rattle.std.specs.Borrow.{Bor}
 use Rattle.std.proofs.lemmas.List.{drop_more}
-use Rattle.cics_names.specs.Keyed.{is_rising, is_below}
+use Rattle.cics_names.specs.Keyed.{Bytes, is_rising, is_below}
 use Rattle.cics_ksds.specs.declared.places.Place.{Place}
 use Rattle.cics_ksds.specs.declared.places.Place.TheVariants.{Empty}
-use Rattle.cics_ksds.specs.Places.{IsPlace, record_in, slots, filled_slots, place_key, key_at, places_in, index_of, IsPosition}
-use Rattle.cics_ksds.specs.Prefixes.{has_prefix, under}
+use Rattle.cics_ksds.specs.Places.{IsPlace, record_in, slots, filled_slots, value_of, place_key, key_at, places_in, index_of, IsPosition}
+use Rattle.cics_ksds.specs.Files.{is_from}
+use Rattle.cics_ksds.specs.Prefixes.{has_prefix, under, from, bound_of}
 use Rattle.cics_ksds.proofs.Bounds.{records_listed, keyed}
 use Rattle.cics_ksds.proofs.IntervalEdits.{index_within}
-use Rattle.cics_ksds.proofs.UnderPrefix.{from_start, from_not_below, none_left, read_there, rising_drop}
+use Rattle.cics_ksds.proofs.UnderPrefix.{bound_begins, bound_is, from_start, from_not_below, none_left, read_there, rising_drop}
 use Rattle.cics_ksds.proofs.prefixes.next_under.Goals as goal
 use Rattle.cics_ksds.proofs.prefixes.next_under.Goals.{After-place_at-place}
 
 pub loop-here-init : goal.loop-here-init
-loop-here-init c = record {
-  there = c.start_of-at.ensures.there;
-  place = c.start_of-at.ensures.place;
-  after = c.start_of-at.ensures.after;
-  left = ap (under c.args.prefix.now) (sym (from_start c.args.definition c.args.bound.now c.args.strict (places_in c.args.places.now) (index_of c.args.places.now c.start_of-at.result) c.start_of-at.ensures.before c.start_of-at.ensures.after));
-}
+loop-here-init c =
+    let d = c.args.definition in
+    let places = places_in c.args.places.now in
+    let start = index_of c.args.places.now c.start_of-at.result in
+    let bound : c.unwrap_or.result.now ≡ bound_of c.args.prefix.now c.args.last = ap (λ (b : Bor Bytes). b.now) c.unwrap_or.ensures ∙ bound_is c.args.prefix c.args.last in
+    let strict : c.is_some.result ≡ is_some c.args.last = c.is_some.ensures in
+    record {
+      there = c.start_of-at.ensures.there;
+      place = c.start_of-at.ensures.place;
+      after = λ j le lt. sym (ap (λ b. is_from b c.is_some.result (key_at d places j)) bound ∙ ap (λ s. is_from (bound_of c.args.prefix.now c.args.last) s (key_at d places j)) strict) ∙ c.start_of-at.ensures.after j le lt;
+      left = ap (under c.args.prefix.now) (sym (from_start d c.unwrap_or.result.now c.is_some.result places start c.start_of-at.ensures.before c.start_of-at.ensures.after)
+          ∙ ap (λ b. from b c.is_some.result (value_of d places).records) bound ∙ ap (λ s. from (bound_of c.args.prefix.now c.args.last) s (value_of d places).records) strict);
+    }
 
 pub next-requires-clause-there : goal.next-requires-clause-there
 next-requires-clause-there c = c.loop-here.invariant.there
@@ -53,9 +62,10 @@ returns-then-not-starts_with-clause-left c =
     let at = (goal.at.returns-then-not-starts_with-clause-left c).After-place_at-place in
     let d = c.args.definition in
     let place = c.place_at-place.result.now in
+    let bound = bound_of c.args.prefix.now c.args.last in
     let above = c.loop-here.invariant.after (index at) (omega (arith, (is at).same)) (within at) in
-    sym (none_left d c.args.bound.now c.args.prefix.now c.requires.bound (place_key d place)
-    (ap (λ p. is_below (place_key d p) c.args.bound.now) (sym (stands at).0) ∙ from_not_below c.args.bound.now c.args.strict (key_at d (places at) (index at)) above)
+    sym (none_left d bound c.args.prefix.now (bound_begins c.args.prefix.now c.args.last c.requires.last) (place_key d place)
+    (ap (λ p. is_below (place_key d p) bound) (sym (stands at).0) ∙ from_not_below bound (is_some c.args.last) (key_at d (places at) (index at)) above)
     (ap (has_prefix c.args.prefix.now) (sym c.key.ensures) ∙ sym c.starts_with.ensures.value ∙ c.if-not-starts_with.true)
     place (drop (index at + 1) (places at)) refl (subst (λ l. T (is_rising (slots d l))) (parts at) (rising_drop d (index at) (places at) c.requires.places.rising)))
     ∙ ap (λ l. under c.args.prefix.now (filled_slots (slots d l))) (sym (parts at) ∙ ap (λ n. drop n (places at)) (is at).same)
