@@ -45,19 +45,6 @@ pub(crate) fn other_unit(held: Option<&Holding>, asker: &Option<UnitId>) -> Opti
     }
 }
 
-// Returns the owner of some bytes, if it isn't the asker.
-pub(crate) fn other_holder(
-    table: &BTreeMap<Key, Holding>,
-    bound: &mut Key,
-    bytes: &[u8],
-    asker: &Option<UnitId>,
-) -> Option<UnitId>
-    requires most { length bytes.now ≤ 265 }
-    ensures { result ≡ others_unit asker.now (lookup (finds bytes.now) table.now.entries) }
-{
-    other_unit(held_under(table, bound, bytes), asker)
-}
-
 // Sets the bound at which a look-up of what begins with some bytes begins: to these. Were there no
 // room for them, it would be no bytes, and the look-up would go through the whole table.
 fn set_bound(bound: &mut Key, start: &[u8])
@@ -65,36 +52,6 @@ fn set_bound(bound: &mut Key, start: &[u8])
     ensures { has_prefix bound.new.items start.now ≡ true }
 {
     let _ = bound.set(&[], start);
-}
-
-// Returns the bytes and the unit of the first entry that begins with some bytes and isn't the
-// asker's.
-pub(crate) fn first_under<'t>(
-    table: &'t BTreeMap<Key, Holding>,
-    bound: &mut Key,
-    start: &[u8],
-    asker: &Option<UnitId>,
-) -> Option<(&'t [u8], UnitId)>
-    requires most { length start.now ≤ 265 }
-    ensures { option_map (λ p. (p.0.now, p.1)) result
-        ≡ first_shown start.now asker.now table.now.entries }
-{
-    if table.is_empty() {
-        return None;
-    }
-    set_bound(bound, start);
-    for (key, holding) in table.range(&*bound..) {
-        let key = key.as_slice();
-        let is_another = is_another(asker, holding.unit);
-        if key.starts_with(start) {
-            if is_another {
-                return Some((key, holding.unit));
-            }
-        } else if start < key {
-            return None;
-        }
-    }
-    None
 }
 
 // Returns whether a prefix of keys may be owned: the bytes of one come before those of all else.
@@ -108,29 +65,6 @@ pub(crate) fn has_prefixes(table: &BTreeMap<Key, Holding>) -> bool
         },
         None => false,
     }
-}
-
-// Returns the owner, if it isn't the asker, of the shortest prefix of keys with which bytes begin,
-// other than these themselves.
-pub(crate) fn shorter_holder(
-    table: &BTreeMap<Key, Holding>,
-    bound: &mut Key,
-    file: Name8,
-    bytes: &[u8],
-    asker: &Option<UnitId>,
-) -> Option<UnitId>
-    requires most { length bytes.now ≤ 255 }
-    ensures { result ≡ first_shorter asker.now table.now.entries file bytes.now }
-{
-    let mut key = file_bytes(PREFIX, file, &[]);
-    for byte in bytes {
-        let holder = other_holder(table, bound, key.as_slice(), asker);
-        if holder.is_some() {
-            return holder;
-        }
-        key.push(*byte);
-    }
-    None
 }
 
 // Bytes without the first.
@@ -155,64 +89,112 @@ fn lesser_holder(key: &[u8], holder: UnitId, prefix: &[u8], other: UnitId) -> Un
     }
 }
 
-// Returns the owner, other than the asker, of the smallest key or prefix of keys that begins with a
-// prefix.
-pub(crate) fn least_holder(
-    table: &BTreeMap<Key, Holding>,
-    bound: &mut Key,
-    file: Name8,
-    prefix: &[u8],
-    asker: &Option<UnitId>,
-) -> Option<UnitId>
-    requires most { length prefix.now ≤ 255 }
-    ensures { result ≡ least_shown file prefix.now asker.now table.now.entries }
-{
-    let keys = file_bytes(KEY, file, prefix);
-    let prefixes = file_bytes(PREFIX, file, prefix);
-    let Some(key) = first_under(table, bound, keys.as_slice(), asker) else {
-        return match first_under(table, bound, prefixes.as_slice(), asker) {
-            Some(prefix) => Some(prefix.1),
-            None => None,
-        };
-    };
-    let Some(prefix) = first_under(table, bound, prefixes.as_slice(), asker) else {
-        return Some(key.1);
-    };
-    Some(lesser_holder(key.0, key.1, prefix.0, prefix.1))
+// A search of a table for what units other than the asker own. Each call fills `bound` with the
+// bytes that it looks for.
+#[derive(Clone, Copy)]
+pub(crate) struct Search<'t> {
+    pub(crate) table: &'t BTreeMap<Key, Holding>,
+    pub(crate) asker: Option<UnitId>,
 }
 
-// Returns the owner, other than the asker, of the first resource that conflicts with a key. That is
-// a shorter prefix, the key, or the prefix with its bytes.
-pub(crate) fn key_holder(
-    table: &BTreeMap<Key, Holding>,
-    bound: &mut Key,
-    file: Name8,
-    key: &[u8],
-    asker: &Option<UnitId>,
-) -> Option<UnitId>
-    requires most { length key.now ≤ 255 }
-    ensures { result ≡ first_of (first_shorter asker.now table.now.entries file key.now)
-        (first_of
-        (others_unit asker.now
-        (lookup (finds (1 ∷ length file ∷ (file ++ key.now))) table.now.entries))
-        (others_unit asker.now
-        (lookup (finds (0 ∷ length file ∷ (file ++ key.now))) table.now.entries))) }
-{
-    let holder = other_holder(table, bound, file_bytes(KEY, file, key).as_slice(), asker);
-    if !has_prefixes(table) {
-        return holder;
+impl<'t> Search<'t> {
+    // Returns the owner of some bytes.
+    fn other_holder(&self, bound: &mut Key, bytes: &[u8]) -> Option<UnitId>
+        requires most { length bytes.now ≤ 265 }
+        ensures { result ≡ others_unit self.now.asker
+            (lookup (finds bytes.now) self.now.table.now.entries) }
+    {
+        other_unit(held_under(self.table, bound, bytes), &self.asker)
     }
-    let shorter = shorter_holder(table, bound, file, key, asker);
-    if shorter.is_some() {
-        return shorter;
+
+    // Returns the bytes and the unit of the first entry that begins with some bytes.
+    fn first_under(&self, bound: &mut Key, start: &[u8]) -> Option<(&'t [u8], UnitId)>
+        requires most { length start.now ≤ 265 }
+        ensures { option_map (λ p. (p.0.now, p.1)) result
+            ≡ first_shown start.now self.now.asker self.now.table.now.entries }
+    {
+        if self.table.is_empty() {
+            return None;
+        }
+        set_bound(bound, start);
+        for (key, holding) in self.table.range(&*bound..) {
+            let key = key.as_slice();
+            let is_another = is_another(&self.asker, holding.unit);
+            if key.starts_with(start) {
+                if is_another {
+                    return Some((key, holding.unit));
+                }
+            } else if start < key {
+                return None;
+            }
+        }
+        None
     }
-    if holder.is_some() {
-        return holder;
+
+    // Returns the owner of the shortest prefix of keys with which bytes begin, other than these
+    // themselves.
+    pub(crate) fn shorter_holder(
+        &self,
+        bound: &mut Key,
+        file: Name8,
+        bytes: &[u8],
+    ) -> Option<UnitId>
+        requires most { length bytes.now ≤ 255 }
+        ensures { result ≡ first_shorter self.now.asker self.now.table.now.entries file bytes.now }
+    {
+        let mut key = file_bytes(PREFIX, file, &[]);
+        for byte in bytes {
+            let holder = self.other_holder(bound, key.as_slice());
+            if holder.is_some() {
+                return holder;
+            }
+            key.push(*byte);
+        }
+        None
     }
-    other_holder(
-        table,
-        bound,
-        file_bytes(PREFIX, file, key).as_slice(),
-        asker,
-    )
+
+    // Returns the owner of the smallest key or prefix of keys that begins with a prefix.
+    pub(crate) fn least_holder(&self, bound: &mut Key, file: Name8, prefix: &[u8]) -> Option<UnitId>
+        requires most { length prefix.now ≤ 255 }
+        ensures { result ≡ least_shown file prefix.now self.now.asker self.now.table.now.entries }
+    {
+        let keys = file_bytes(KEY, file, prefix);
+        let prefixes = file_bytes(PREFIX, file, prefix);
+        let Some(key) = self.first_under(bound, keys.as_slice()) else {
+            return match self.first_under(bound, prefixes.as_slice()) {
+                Some(prefix) => Some(prefix.1),
+                None => None,
+            };
+        };
+        let Some(prefix) = self.first_under(bound, prefixes.as_slice()) else {
+            return Some(key.1);
+        };
+        Some(lesser_holder(key.0, key.1, prefix.0, prefix.1))
+    }
+
+    // Returns the owner of the first resource that conflicts with a key. That is a shorter prefix,
+    // the key, or the prefix with its bytes.
+    pub(crate) fn key_holder(&self, bound: &mut Key, file: Name8, key: &[u8]) -> Option<UnitId>
+        requires most { length key.now ≤ 255 }
+        ensures { result ≡ first_of
+            (first_shorter self.now.asker self.now.table.now.entries file key.now)
+            (first_of
+            (others_unit self.now.asker
+            (lookup (finds (1 ∷ length file ∷ (file ++ key.now))) self.now.table.now.entries))
+            (others_unit self.now.asker
+            (lookup (finds (0 ∷ length file ∷ (file ++ key.now))) self.now.table.now.entries))) }
+    {
+        let holder = self.other_holder(bound, file_bytes(KEY, file, key).as_slice());
+        if !has_prefixes(self.table) {
+            return holder;
+        }
+        let shorter = self.shorter_holder(bound, file, key);
+        if shorter.is_some() {
+            return shorter;
+        }
+        if holder.is_some() {
+            return holder;
+        }
+        self.other_holder(bound, file_bytes(PREFIX, file, key).as_slice())
+    }
 }

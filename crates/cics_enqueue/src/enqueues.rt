@@ -20,7 +20,7 @@ ghost use Rattle.cics_enqueue.specs.Order.{resource_of};
 
 use crate::borrowed::{Kind, ResourceRef};
 use crate::compact::{compact, held, set_resource, set_value};
-use crate::conflicts::{has_prefixes, key_holder, least_holder, other_unit, shorter_holder};
+use crate::conflicts::{Search, has_prefixes, other_unit};
 use crate::keys::Key;
 use crate::owned::{self, Owned};
 use cics_history::{Resource, UnitId};
@@ -299,14 +299,18 @@ impl Enqueues {
             (FilePrefix file (bytes_of prefix.now)) but_not) }
     {
         let mut bound = self.bound.replace(Key::new(self.alloc));
+        let search = Search {
+            table: &self.table,
+            asker: but_not,
+        };
         if has_prefixes(&self.table) {
-            let shorter = shorter_holder(&self.table, &mut bound, file, prefix, &but_not);
+            let shorter = search.shorter_holder(&mut bound, file, prefix);
             if shorter.is_some() {
                 self.bound.set(bound);
                 return shorter;
             }
         }
-        let least = least_holder(&self.table, &mut bound, file, prefix, &but_not);
+        let least = search.least_holder(&mut bound, file, prefix);
         self.bound.set(bound);
         least
     }
@@ -318,7 +322,11 @@ impl Enqueues {
         ensures { result ≡ holder_over (FileKey file (bytes_of key.now)) asker.now self.now }
     {
         let mut bound = self.bound.replace(Key::new(self.alloc));
-        let holder = key_holder(&self.table, &mut bound, file, key, asker);
+        let search = Search {
+            table: &self.table,
+            asker: *asker,
+        };
+        let holder = search.key_holder(&mut bound, file, key);
         self.bound.set(bound);
         holder
     }

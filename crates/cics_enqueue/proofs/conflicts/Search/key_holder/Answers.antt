@@ -3,13 +3,13 @@ use Rattle.std.specs.Map.{lookup}
 use Rattle.cics_enqueue.specs.Kept.{finds, others_unit}
 use Rattle.cics_enqueue.specs.Table.{first_of}
 use Rattle.cics_enqueue.proofs.Seeking.{first_cover-none}
-use Rattle.cics_enqueue.proofs.conflicts.key_holder.Goals as goal
+use Rattle.cics_enqueue.proofs.conflicts.Search.key_holder.Goals as goal
 
 -- where no prefix is held the key alone can be
 pub returns-then-not-has_prefixes : goal.returns-then-not-has_prefixes
 returns-then-not-has_prefixes c =
-    let es = c.args.table.now.entries in
-    let asker = c.args.asker.now in
+    let es = c.args.self.now.table.now.entries in
+    let asker = c.args.self.now.asker in
     let f = c.args.file in
     let k = c.args.key.now in
     let none = c.if-not-has_prefixes.ensures in
