@@ -1,5 +1,5 @@
 -- Task control: an open unit of work is a task's, and stays one's through each step of a region.
-use Rattle.std.specs.Prelude.{◌≡◌, ℕ, Bool, true, false, cond, if◌then◌else◌, ◌&&◌, Option, Some, None, is_some, unwrap_or, IfNone, ◌⊎◌, List, [], ◌∷◌, ◌++◌, length, nat_lt, nat_le, nat_eq, get_or, slice_get, refl}
+use Rattle.std.specs.Prelude.{◌≡◌, ℕ, Bool, true, false, cond, ◌&&◌, Option, Some, None, is_some, unwrap_or, IfNone, ◌⊎◌, List, [], ◌∷◌, ◌++◌, length, nat_lt, nat_le, nat_eq, get_or, slice_get, refl}
 use Rattle.std.proofs.Common.{sym, ap, ◌∙◌, subst, inl, inr, zero, suc, arith}
 use Rattle.std.proofs.lemmas.Bool.{and_parts, and_from, cases_Bool, false_from_ne_true, ltb-true, lt-ltb, eq-eqb, eqb-true}
 use Rattle.std.proofs.lemmas.Option.{slice_get-get_or, slice_get_within}
@@ -226,11 +226,6 @@ ends s outcome closed (Some v) u there = by (nat_eq u v) (slice_get s.outcomes u
     by true None e h = cc
     by true (Some x) e h = absurd (differs (ap (λ o. is_open (unwrap_or o outcome)) h) closed)
     by false g e h = (h, λ same. differs (eq-eqb u v (ap (λ o. unwrap_or o v) (sym same))) e)
-
--- a unit that is committed or backed out isn't open
-pub is_closed : (commits : Bool) → is_open (if commits then Committed else BackedOut) ≡ false
-is_closed true = refl
-is_closed false = refl
 
 module _ (m : Machine) (t : Task) (at : ℕ) (there : slice_get m.tasks at ≡ Some t) (labels : IsOwn own_label m.tasks) (owned : AreUnitsOwned m) where
   -- a task acts in its unit, or in the next one, which begins and is its own

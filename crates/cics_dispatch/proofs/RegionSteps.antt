@@ -1,5 +1,5 @@
 -- Each call of a region leaves what a region keeps.
-use Rattle.std.specs.Prelude.{◌≡◌, ℕ, ◌<◌, IfNone, IfOk, OnOk, IsErr, Result, Ok, Err, if◌then◌else◌, Bool, true, false, Option, Some, None, is_some, slice_get, length, List, [], refl}
+use Rattle.std.specs.Prelude.{◌≡◌, ℕ, ◌<◌, IfNone, IfOk, OnOk, IsErr, Result, Ok, Err, Bool, true, false, Option, Some, None, is_some, slice_get, length, List, [], refl}
 use Rattle.std.proofs.Common.{sym, ap, ◌∙◌, subst, arith, inl, inr, ◌≤◌}
 use Rattle.std.proofs.lemmas.Option.{slice_get_cases, slice_get_within}
 use Rattle.cics_names.specs.Keyed.{Bytes}
@@ -13,9 +13,11 @@ use Rattle.cics_history.specs.declared.ops.Done.TheVariants.{Answered, MustWait}
 use Rattle.cics_history.specs.Headline.{IsHeadline, is_open}
 use Rattle.cics_history.specs.Serial.{IsSerializable}
 use Rattle.cics_history.specs.declared.ops.UnitState.{UnitState}
-use Rattle.cics_history.specs.declared.ops.UnitState.TheVariants.{Committed, BackedOut}
+use Rattle.cics_history.specs.declared.ops.UnitState.TheVariants.{BackedOut}
+use Rattle.cics_dispatch.specs.declared.dispatcher.Ending.{Ending}
+use Rattle.cics_dispatch.specs.declared.dispatcher.Ending.TheVariants.{Commit, Backout}
 use Rattle.std.proofs.lemmas.Bool.{true≢false, false≢true}
-use Rattle.cics_dispatch.specs.Machine.{Machine, Task, Suspended, RegionValue, replaced, is_waiting, not_waiting, units_after, unit_closed, abended, with_unit, with_task, with_units}
+use Rattle.cics_dispatch.specs.Machine.{Machine, Task, Suspended, RegionValue, replaced, is_waiting, not_waiting, units_after, state_after, unit_closed, abended, with_unit, with_task, with_units}
 use Rattle.cics_dispatch.specs.Answers.{IsHeadlineRegion, IsSerializableRegion}
 use Rattle.cics_dispatch.specs.KeptTasks.{AreTasksKept}
 use Rattle.cics_dispatch.specs.OwnedUnits.{AreUnitsOwned}
@@ -82,9 +84,9 @@ none_found None none q = q
 none_found (Some n) none q = absurd (true≢false none)
 
 -- a unit that is committed or backed out isn't open any more
-pub end_shut : (commits : Bool) → is_open (if commits then Committed else BackedOut) ≡ false
-end_shut true = refl
-end_shut false = refl
+pub end_shut : (ending : Ending) → is_open (state_after ending) ≡ false
+end_shut Commit = refl
+end_shut Backout = refl
 
 -- a task that has a unit, which is none but this, has this one
 pub own_unit_is : (t : Task) (unit : ℕ) (o : Option ℕ) → t.unit ≡ o → is_some o ≡ true → ((u : ℕ) → t.unit ≡ Some u → u ≡ unit) → t.unit ≡ Some unit

@@ -11,7 +11,7 @@ use Rattle.cics_history.specs.declared.ops.Op.{Op}
 use Rattle.cics_dispatch.specs.Machine.{Machine, Task, RegionValue, is_waiting, records_in, replaced}
 use Rattle.cics_dispatch.specs.Browses.{read_on, after_read_on}
 use Rattle.cics_dispatch.specs.Checks.{fault_of}
-use Rattle.cics_dispatch.specs.Replies.{cut, read_reply}
+use Rattle.cics_dispatch.specs.Replies.{read_told}
 use Rattle.cics_dispatch.specs.Steps.{Stepped, with_outcome, answered, browsed, by_op, busy_of, made_to_wait, op_of, ts_read}
 use Rattle.cics_dispatch.specs.Waking.{awaited_by}
 use Rattle.cics_dispatch.specs.KeptTasks.{IsReady}
@@ -73,9 +73,8 @@ IsStepOrRefused old at step (Ok outcome) new = IsStepOf old at step outcome new
 IsStepOrRefused old at step (Err e) new = new ≡ old
 
 -- a READ without UPDATE as a step of a task
-abbrev pub reading : Machine → Bool → Bytes → Bytes → Option ℕ → Bool → Bool → Task → Stepped Outcome
-reading m resp file key limit generic gteq t =
-    answered m t resp (cut limit (read_reply (records_in m file) key generic gteq))
+abbrev pub reading : Machine → Bytes → Command → Task → Stepped Outcome
+reading m file c t = answered m t c.resp (read_told (records_in m file) c.verb)
 
 -- READQ TS as a step of a task
 abbrev pub reading_item : Machine → Bool → Bytes → Option ℕ → Option ℕ → Task → Stepped Outcome

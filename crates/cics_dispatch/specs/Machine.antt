@@ -11,8 +11,10 @@ use Rattle.cics_history.specs.Holding.{store_of}
 use Rattle.cics_history.specs.Execution.{after_end}
 use Rattle.cics_history.specs.declared.ops.Op.{Op}
 use Rattle.cics_history.specs.declared.ops.UnitState.{UnitState}
-use Rattle.cics_history.specs.declared.ops.UnitState.TheVariants.{BackedOut}
+use Rattle.cics_history.specs.declared.ops.UnitState.TheVariants.{Committed, BackedOut}
 use Rattle.cics_names.specs.declared.commands.Command.{Command}
+use Rattle.cics_dispatch.specs.declared.dispatcher.Ending.{Ending}
+use Rattle.cics_dispatch.specs.declared.dispatcher.Ending.TheVariants.{Commit, Backout}
 
 -- a task: its label, the seconds that it may wait (0 for no limit), its open unit of work, its
 -- browses by file, and whether it has ended
@@ -97,6 +99,11 @@ with_browses t browses = record t { browses = browses }
 abbrev pub units_after : UnitsState → Option ℕ → UnitState → UnitsState
 units_after s None outcome = s
 units_after s (Some u) outcome = after_end s u outcome
+
+-- the state in which an ending leaves a unit
+abbrev pub state_after : Ending → UnitState
+state_after Commit = Committed
+state_after Backout = BackedOut
 
 -- the end of a task's unit, if it has one, by a commit or a backout; every browse of the task ends
 -- too, and if has_ended the task

@@ -2,9 +2,11 @@
 use Rattle.std.specs.Prelude.{ℕ, Bool, false, ◌||◌, if◌then◌else◌, Option, Some, None, option_map, nat_lt, take, length}
 use Rattle.cics_names.specs.Keyed.{Bytes, Map}
 use Rattle.cics_names.specs.declared.conditions.Condition.{Condition}
-use Rattle.cics_names.specs.declared.conditions.Condition.TheVariants.{Normal, Notfnd, Lengerr}
+use Rattle.cics_names.specs.declared.conditions.Condition.TheVariants.{Normal, Notfnd, Invreq, Lengerr}
 use Rattle.cics_ksds.specs.Files.{first_from}
 use Rattle.cics_browse.specs.Positions.{is_asked_for}
+use Rattle.cics_names.specs.declared.commands.Verb.{Verb}
+use Rattle.cics_names.specs.declared.commands.Verb.TheVariants.{Read}
 use Rattle.cics_dispatch.specs.declared.outcomes.Reply.{Reply}
 
 -- a condition and nothing else
@@ -40,3 +42,8 @@ read_found key generic gteq (Some found) = if gteq || is_asked_for key generic f
 -- the record of the key asked for, with GTEQ the first one not below it, or NOTFND
 abbrev pub read_reply : Map Bytes → Bytes → Bool → Bool → Reply
 read_reply records key generic gteq = read_found key generic gteq (first_from records key false)
+
+-- what READ without UPDATE is told, no more of the record than LENGTH; any other command INVREQ
+abbrev pub read_told : Map Bytes → Verb → Reply
+read_told records (Read f key given n generic gteq update) = cut n (read_reply records key generic gteq)
+read_told records verb = plain Invreq

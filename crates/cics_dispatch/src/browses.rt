@@ -9,10 +9,21 @@ ghost use Rattle.cics_dispatch.specs.BrowseLoans.{LendsBrowse};
 
 use cics_browse::{Browse, Browsed};
 use cics_ksds::File;
-use cics_names::{Name8, NoMemory};
+use cics_names::{Name8, NoMemory, Record};
 use std::alloc::Global;
 use std::collections::BTreeMap;
 use std::marker::Model;
+
+/// The start of a browse that STARTBR or RESETBR asks for.
+#[derive(Drop)]
+pub(crate) struct Start {
+    /// The key, or with GENERIC the first bytes of it.
+    pub(crate) key: Record,
+    /// Whether it has GENERIC.
+    pub(crate) generic: bool,
+    /// Whether it has EQUAL: no greater key will do.
+    pub(crate) equal: bool,
+}
 
 /// The direction in which a browse reads on.
 #[derive(Clone, Copy)]

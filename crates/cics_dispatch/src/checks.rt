@@ -1,17 +1,26 @@
-//! The checks of a command's key, record or item, before its file or queue is touched.
+//! The checks of a command, before it looks at what other units hold.
 
-ghost use Rattle.std.specs.Prelude.{◌≡◌, IsTrue, IfOk, Some, None, if◌then◌else◌};
+ghost use Rattle.std.specs.Prelude.{◌≡◌, Some, None, if◌then◌else◌};
 ghost use Rattle.std.specs.Option.{option_copied};
-ghost use Rattle.cics_dispatch.specs.Lengths.{is_length_given, key_fault, is_within, used_of};
-ghost use Rattle.cics_dispatch.specs.Lengths.{write_fault};
-ghost use Rattle.cics_dispatch.specs.Checks.{resource_fault, read_fault, rewrite_fault};
-ghost use Rattle.cics_dispatch.specs.Checks.{delete_fault, deleted_key_fault, item_fault};
-ghost use Rattle.cics_dispatch.specs.Checks.{startbr_fault, resetbr_fault};
-ghost use Rattle.cics_dispatch.specs.Checks.{browse_fault, back_fault};
+ghost use Rattle.cics_dispatch.specs.Lengths.{fault_unless, is_length_given, key_fault, is_within};
+ghost use Rattle.cics_dispatch.specs.Lengths.{used_of};
+ghost use Rattle.cics_dispatch.specs.Checks.{rewrite_fault, deleted_key_fault, browsing_fault};
+ghost use Rattle.cics_dispatch.specs.Checks.{file_fault, item_fault, resource_fault, value_fault};
 
 use cics_browse::Browse;
 use cics_ksds::FileDef;
-use cics_names::{Condition, NoMemory, Record};
+use cics_names::{Condition, Verb};
+
+// Returns INVREQ unless a check passes.
+fn invreq_unless(passes: bool) -> Option<Condition>
+    ensures { result ≡ fault_unless passes Condition.Invreq }
+{
+    if passes {
+        None
+    } else {
+        Some(Condition::Invreq)
+    }
+}
 
 // Returns whether KEYLENGTH, if it is given, is the length of the key as written.
 fn is_length_given(given: Option<u64>, length: u64) -> bool
@@ -23,9 +32,9 @@ fn is_length_given(given: Option<u64>, length: u64) -> bool
     }
 }
 
-/// Returns INVREQ if KEYLENGTH isn't the key's length, or the key isn't as long as the file's keys.
-/// A GENERIC key may be shorter.
-pub(crate) fn key_fault(
+// Returns INVREQ if KEYLENGTH isn't the key's length, or the key isn't as long as the file's keys. A
+// GENERIC key may be shorter.
+fn key_fault(
     definition: FileDef,
     key: &[u8],
     given: Option<u64>,
@@ -39,11 +48,7 @@ pub(crate) fn key_fault(
     } else {
         length == definition.key_length
     };
-    if is_length_given(given, length) && is_of_file {
-        None
-    } else {
-        Some(Condition::Invreq)
-    }
+    invreq_unless(is_length_given(given, length) && is_of_file)
 }
 
 // Returns the bytes of FROM that LENGTH uses. `None` if LENGTH isn't from 1 to their count.
@@ -63,71 +68,15 @@ fn used(from: &[u8], length: Option<u64>) -> Option<&[u8]>
     }
 }
 
-/// Returns the first fault of a WRITE: INVREQ for the length of its key, then LENGERR for that of
-/// its record. Last is INVREQ if the key in the record is another.
-pub(crate) fn write_fault(
+// Returns the first fault of a record that is to have a key: LENGERR for its length, then INVREQ if
+// the key in it is another. `None` for the key is INVREQ too: no update read of the file is open.
+fn record_fault(
     definition: FileDef,
-    key: &[u8],
-    given: Option<u64>,
+    key: Option<&[u8]>,
     from: &[u8],
     length: Option<u64>,
 ) -> Option<Condition>
-    ensures { result ≡ write_fault definition key.now given from.now length }
-{
-    if let Some(fault) = key_fault(definition, key, given, false) {
-        return Some(fault);
-    }
-    let Some(content) = used(from, length) else {
-        return Some(Condition::Lengerr);
-    };
-    if !definition.fits(content) {
-        return Some(Condition::Lengerr);
-    }
-    if definition.key_in(content).cmp(key).is_eq() {
-        None
-    } else {
-        Some(Condition::Invreq)
-    }
-}
-
-/// Returns the first fault of a READ, which is INVREQ: for UPDATE with GTEQ or GENERIC, and for the
-/// length of its key. Last for UPDATE if the task has an open update read of the file, whose key is
-/// `open_key`.
-pub(crate) fn read_fault(
-    definition: FileDef,
-    open_key: Option<&[u8]>,
-    key: &[u8],
-    given: Option<u64>,
-    generic: bool,
-    gteq: bool,
-    update: bool,
-) -> Option<Condition>
-    ensures { result ≡ read_fault definition (option_copied open_key.entry)
-        key.now given generic gteq update }
-{
-    if update && (gteq || generic) {
-        return Some(Condition::Invreq);
-    }
-    if let Some(fault) = key_fault(definition, key, given, generic) {
-        return Some(fault);
-    }
-    if update && open_key.is_some() {
-        Some(Condition::Invreq)
-    } else {
-        None
-    }
-}
-
-/// Returns the first fault of a REWRITE: LENGERR for the length of its record, then INVREQ if no
-/// update read of the file is open. It is INVREQ too if the key in the record isn't `open_key`, the
-/// key that was read.
-pub(crate) fn rewrite_fault(
-    definition: FileDef,
-    open_key: Option<&[u8]>,
-    from: &[u8],
-    length: Option<u64>,
-) -> Option<Condition>
-    ensures { result ≡ rewrite_fault definition (option_copied open_key.entry) from.now length }
+    ensures { result ≡ rewrite_fault definition (option_copied key.entry) from.now length }
 {
     let Some(content) = used(from, length) else {
         return Some(Condition::Lengerr);
@@ -135,7 +84,7 @@ pub(crate) fn rewrite_fault(
     if !definition.fits(content) {
         return Some(Condition::Lengerr);
     }
-    match open_key {
+    match key {
         Some(key) if definition.key_in(content).cmp(key).is_eq() => None,
         _ => Some(Condition::Invreq),
     }
@@ -151,36 +100,99 @@ fn deleted_key_fault(
 ) -> Option<Condition>
     ensures { result ≡ deleted_key_fault definition key.now given generic }
 {
-    if let Some(fault) = key_fault(definition, key, given, generic) {
-        return Some(fault);
-    }
-    if 1 <= key.len() || !generic {
-        None
-    } else {
-        Some(Condition::Invreq)
+    match key_fault(definition, key, given, generic) {
+        Some(fault) => Some(fault),
+        None => invreq_unless(1 <= key.len() || !generic),
     }
 }
 
-/// Returns the fault of a DELETE. With RIDFLD it is INVREQ for the length of its key, which with
-/// GENERIC is at least one byte. Without RIDFLD it is INVREQ if KEYLENGTH or GENERIC is given, or
-/// the task has no open update read of the file.
-pub(crate) fn delete_fault(
+// Returns the first fault of a command of a browse, and None for every other command.
+fn browsing_fault(definition: FileDef, browse: Option<&Browse>, verb: &Verb) -> Option<Condition>
+    ensures { result ≡ browsing_fault definition (option_copied browse.entry) verb.now }
+{
+    match verb {
+        Verb::StartBr {
+            ridfld,
+            key_length,
+            generic,
+            ..
+        } => match key_fault(definition, ridfld.bytes(), *key_length, *generic) {
+            Some(fault) => Some(fault),
+            None => invreq_unless(browse.is_none()),
+        },
+        Verb::ResetBr {
+            ridfld,
+            key_length,
+            generic,
+            ..
+        } => match key_fault(definition, ridfld.bytes(), *key_length, *generic) {
+            Some(fault) => Some(fault),
+            None => invreq_unless(browse.is_some()),
+        },
+        Verb::ReadNext { .. } | Verb::EndBr { .. } => invreq_unless(browse.is_some()),
+        Verb::ReadPrev { .. } => match browse {
+            Some(browse) => invreq_unless(!browse.is_generic()),
+            None => Some(Condition::Invreq),
+        },
+        _ => None,
+    }
+}
+
+/// Returns the first fault of a command on a file that is defined, and `None` for every other
+/// command.
+///
+/// `open_key` is the key of the task's open update read of the file, and `browse` its browse of it,
+/// each `None` if there is none.
+///
+/// The faults come in this order: INVREQ for the options and the length of the key, then LENGERR
+/// for the length of FROM. Then comes INVREQ for the open update read and the browse, and last
+/// INVREQ if the key in the record is another.
+pub(crate) fn file_fault(
     definition: FileDef,
     open_key: Option<&[u8]>,
-    ridfld: Option<&Record>,
-    given: Option<u64>,
-    generic: bool,
+    browse: Option<&Browse>,
+    verb: &Verb,
 ) -> Option<Condition>
-    ensures { result ≡ delete_fault definition (option_copied open_key.entry)
-        (option_copied ridfld.entry) given generic }
+    ensures { result ≡ file_fault definition (option_copied open_key.entry)
+        (option_copied browse.entry) verb.now }
 {
-    if let Some(key) = ridfld {
-        return deleted_key_fault(definition, key.bytes(), given, generic);
-    }
-    if given.is_none() && !generic && open_key.is_some() {
-        None
-    } else {
-        Some(Condition::Invreq)
+    match verb {
+        Verb::Read {
+            ridfld,
+            key_length,
+            generic,
+            gteq,
+            update,
+            ..
+        } => {
+            if *update && (*gteq || *generic || open_key.is_some()) {
+                return Some(Condition::Invreq);
+            }
+            key_fault(definition, ridfld.bytes(), *key_length, *generic)
+        }
+        Verb::Write {
+            ridfld,
+            key_length,
+            from,
+            length,
+            ..
+        } => match key_fault(definition, ridfld.bytes(), *key_length, false) {
+            Some(fault) => Some(fault),
+            None => record_fault(definition, Some(ridfld.bytes()), from.bytes(), *length),
+        },
+        Verb::Rewrite { from, length, .. } => {
+            record_fault(definition, open_key, from.bytes(), *length)
+        }
+        Verb::Delete {
+            ridfld,
+            key_length,
+            generic,
+            ..
+        } => match ridfld {
+            Some(key) => deleted_key_fault(definition, key.bytes(), *key_length, *generic),
+            None => invreq_unless(key_length.is_none() && !*generic && open_key.is_some()),
+        },
+        _ => browsing_fault(definition, browse, verb),
     }
 }
 
@@ -195,9 +207,9 @@ pub(crate) fn item_fault(from: &[u8], length: Option<u64>) -> Option<Condition>
     }
 }
 
-/// Returns LENGERR for an ENQ or DEQ if LENGTH isn't from 1 to 255, or is above the length of its
-/// value as written.
-pub(crate) fn resource_fault(value: &[u8], length: u64) -> Option<Condition>
+// Returns LENGERR for an ENQ or DEQ if LENGTH isn't from 1 to 255, or is above the length of its
+// value as written.
+fn resource_fault(value: &[u8], length: u64) -> Option<Condition>
     ensures { result ≡ resource_fault value.now length }
 {
     if 1 <= length && length <= 255 && length <= value.len() as u64 {
@@ -207,77 +219,18 @@ pub(crate) fn resource_fault(value: &[u8], length: u64) -> Option<Condition>
     }
 }
 
-/// Returns the first fault of a STARTBR: INVREQ for the length of its key, or if a browse of the
-/// file is open.
-///
-/// Here and below `browse` is the task's browse of the file, `None` if there is none.
-pub(crate) fn startbr_fault(
-    definition: FileDef,
-    browse: Option<&Browse>,
-    key: &[u8],
-    given: Option<u64>,
-    generic: bool,
-) -> Option<Condition>
-    ensures { result ≡ startbr_fault definition (option_copied browse.entry)
-        key.now given generic }
+/// Returns the fault of ENQ or DEQ: LENGERR for the length of its value. `None` for every other
+/// command.
+pub(crate) fn value_fault(verb: &Verb) -> Option<Condition>
+    ensures { result ≡ value_fault verb.now }
 {
-    if let Some(fault) = key_fault(definition, key, given, generic) {
-        return Some(fault);
-    }
-    if browse.is_none() {
-        None
-    } else {
-        Some(Condition::Invreq)
-    }
-}
-
-/// Returns the first fault of a RESETBR: INVREQ for the length of its key, or if no browse of the
-/// file is open.
-pub(crate) fn resetbr_fault(
-    definition: FileDef,
-    browse: Option<&Browse>,
-    key: &[u8],
-    given: Option<u64>,
-    generic: bool,
-) -> Option<Condition>
-    ensures { result ≡ resetbr_fault definition (option_copied browse.entry)
-        key.now given generic }
-{
-    if let Some(fault) = key_fault(definition, key, given, generic) {
-        return Some(fault);
-    }
-    browse_fault(browse)
-}
-
-/// Returns INVREQ for a READNEXT or ENDBR if no browse of the file is open.
-pub(crate) fn browse_fault(browse: Option<&Browse>) -> Option<Condition>
-    ensures { result ≡ browse_fault (option_copied browse.entry) }
-{
-    if browse.is_some() {
-        None
-    } else {
-        Some(Condition::Invreq)
-    }
-}
-
-/// Returns INVREQ for a READPREV if no browse of the file is open, or the browse is generic.
-pub(crate) fn back_fault(browse: Option<&Browse>) -> Option<Condition>
-    ensures { result ≡ back_fault (option_copied browse.entry) }
-{
-    match browse {
-        Some(browse) if !browse.is_generic() => None,
-        _ => Some(Condition::Invreq),
-    }
-}
-
-/// Returns the bytes of FROM that LENGTH uses. Without LENGTH they are FROM itself, which takes no
-/// memory.
-pub(crate) fn used_record(from: Record, length: Option<u64>) -> Result<Record, NoMemory>
-    requires { IsTrue (is_within from length) }
-    ensures { IfOk result (λ content. content ≡ used_of from length) }
-{
-    match length {
-        None => Ok(from),
-        Some(length) => from.part(0, length as usize),
+    match verb {
+        Verb::Enq {
+            resource,
+            length,
+            ..
+        }
+        | Verb::Deq { resource, length } => resource_fault(resource.bytes(), *length),
+        _ => None,
     }
 }

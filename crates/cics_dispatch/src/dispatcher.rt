@@ -10,12 +10,11 @@ mod shutdown;
 mod waking;
 
 ghost use Rattle.std.specs.Prelude.{◌≡◌, ◌<◌, ◌≤◌, true, false, Option, Some, None, length, IfOk, slice_get};
-ghost use Rattle.std.specs.Prelude.{IfErr, IfSome, IfNone, if◌then◌else◌, Result, Ok, Err};
+ghost use Rattle.std.specs.Prelude.{IfErr, IfSome, IfNone, Result, Ok, Err};
 ghost use Rattle.std.specs.Option.{option_copied};
-ghost use Rattle.cics_history.specs.declared.ops.UnitState.TheVariants.{Committed, BackedOut};
 ghost use Rattle.cics_dispatch.specs.Machine.{units_after, definition_of};
 ghost use Rattle.cics_dispatch.specs.Machine.{RegionValue, beginning_region, task_at, abended, is_waiting};
-ghost use Rattle.cics_dispatch.specs.Machine.{unit_closed};
+ghost use Rattle.cics_dispatch.specs.Machine.{unit_closed, state_after};
 ghost use Rattle.cics_dispatch.specs.Checks.{fault_of};
 ghost use Rattle.cics_history.specs.Execution.{IsOpenUnit, IsOpenOrNone};
 ghost use Rattle.cics_history.specs.Headline.{IsHeadline};
@@ -36,7 +35,7 @@ ghost use Rattle.cics_dispatch.specs.Emptied.{whole, AreToldAlike};
 ghost use Rattle.cics_names.specs.declared.commands.Verb.{Verb as VerbValue};
 ghost use Rattle.cics_history.specs.Openings.{is_key};
 
-use crate::faults::file_fault;
+use crate::checks::file_fault;
 use crate::outcomes::{Attempt, Outcome, Refused, Reply};
 use crate::reads::plain_reply;
 use crate::replies::reply_of_answer;
@@ -88,23 +87,30 @@ fn busy_condition(verb: &Verb) -> Option<Condition>
     }
 }
 
-// Commits a unit or backs it out, if there is one.
-fn end_unit(units: &mut Units, unit: Option<UnitId>, commits: bool)
+/// How a unit of work ends.
+#[derive(Clone, Copy)]
+pub(crate) enum Ending {
+    /// It is committed.
+    Commit,
+    /// It is backed out.
+    Backout,
+}
+
+// Ends a unit, if there is one.
+fn end_unit(units: &mut Units, unit: Option<UnitId>, ending: Ending)
     requires is_open { IsOpenOrNone units.old.state unit }
     requires headline { IsHeadline units.old }
     requires serializable { IsSerializable units.old }
-    ensures state { units.new.state
-        ≡ units_after units.old.state unit (if commits then Committed else BackedOut) }
+    ensures state { units.new.state ≡ units_after units.old.state unit (state_after ending) }
     ensures headline { IsHeadline units.new }
     ensures serializable { IsSerializable units.new }
 {
     let Some(unit) = unit else {
         return;
     };
-    if commits {
-        units.commit(unit);
-    } else {
-        units.back_out(unit);
+    match ending {
+        Ending::Commit => units.commit(unit),
+        Ending::Backout => units.back_out(unit),
     }
 }
 
@@ -282,17 +288,16 @@ impl Dispatcher {
     }
 
     // Ends the unit of the task at an index and its browses, and if `has_ended` the task too.
-    fn close(&mut self, at: usize, commits: bool, has_ended: bool)
+    fn close(&mut self, at: usize, ending: Ending, has_ended: bool)
         requires within { at < length self.old.machine.tasks }
         requires awake { IsAwake self.old.machine at }
         ensures machine { OfTask self.old.machine.tasks at
             (λ t. self.new.machine
-            ≡ unit_closed self.old.machine t
-            (if commits then Committed else BackedOut) has_ended) }
+            ≡ unit_closed self.old.machine t (state_after ending) has_ended) }
         ensures kept { KeepsRegion self.old self.new }
     {
         let unit = self.tasks.close_unit(at, has_ended);
-        end_unit(&mut self.units, unit, commits);
+        end_unit(&mut self.units, unit, ending);
     }
 
     // Abends the task at an index: its unit is backed out, its wait ends, and so does the task.
@@ -304,7 +309,7 @@ impl Dispatcher {
     {
         let label = self.tasks.get(at).label();
         let unit = self.tasks.close_unit(at, true);
-        end_unit(&mut self.units, unit, false);
+        end_unit(&mut self.units, unit, Ending::Backout);
         self.waits.remove(&label);
     }
 

@@ -8,7 +8,6 @@
 mod browses;
 mod checks;
 mod dispatcher;
-mod faults;
 mod findings;
 mod outcomes;
 mod reads;

@@ -3,11 +3,11 @@
 ghost use Rattle.std.specs.Prelude.{◌≡◌, IsTrue, IfOk, false};
 ghost use Rattle.cics_browse.specs.Positions.{is_asked_for};
 ghost use Rattle.cics_ksds.specs.Files.{key_of, fits_file};
-ghost use Rattle.cics_dispatch.specs.Replies.{read_reply, plain, giving, cut};
+ghost use Rattle.cics_dispatch.specs.Replies.{read_told, plain, giving, cut};
 
 use crate::outcomes::Reply;
 use cics_ksds::{File, FileDef};
-use cics_names::{Condition, NoMemory, Record};
+use cics_names::{Condition, NoMemory, Record, Verb};
 
 /// Returns a reply of a condition alone.
 pub(crate) fn plain_reply(condition: Condition) -> Reply
@@ -53,22 +53,27 @@ fn reply_giving(found: &Record, length: Option<u64>) -> Result<Reply, NoMemory>
     })
 }
 
-/// Returns the reply to a READ without UPDATE. Only the copy of the record found takes memory.
-pub(crate) fn read_plain(
-    file: &File,
-    key: &[u8],
-    length: Option<u64>,
-    generic: bool,
-    gteq: bool,
-) -> Result<Reply, NoMemory>
-    ensures { IfOk result (λ reply. reply
-        ≡ cut length (read_reply file.now.records key.now generic gteq)) }
+/// Returns the reply to a READ without UPDATE, INVREQ to any other command. Only the copy of the
+/// record found takes memory.
+pub(crate) fn read_plain(file: &File, verb: &Verb) -> Result<Reply, NoMemory>
+    ensures { IfOk result (λ reply. reply ≡ read_told file.now.records verb.now) }
 {
+    let Verb::Read {
+        ridfld,
+        length,
+        generic,
+        gteq,
+        ..
+    } = verb
+    else {
+        return Ok(plain_reply(Condition::Invreq));
+    };
+    let key = ridfld.bytes();
     let Some(found) = file.first_from(key, false) else {
         return Ok(plain_reply(Condition::Notfnd));
     };
-    if gteq || is_wanted(file.definition(), found, key, generic) {
-        reply_giving(found, length)
+    if *gteq || is_wanted(file.definition(), found, key, *generic) {
+        reply_giving(found, *length)
     } else {
         Ok(plain_reply(Condition::Notfnd))
     }

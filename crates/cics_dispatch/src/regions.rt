@@ -1,6 +1,6 @@
 //! A region: tasks that share files and queues, their waits, and their units of work.
 
-ghost use Rattle.std.specs.Prelude.{◌≡◌, ◌&&◌, not, if◌then◌else◌, None, true, false, ℕ, length};
+ghost use Rattle.std.specs.Prelude.{◌≡◌, ◌&&◌, if◌then◌else◌, None, true, false, ℕ, length};
 ghost use Rattle.std.specs.Prelude.{IfOk, IfErr, IfSome, OnOk};
 ghost use Rattle.std.specs.Bool.{OnTrue};
 ghost use Rattle.cics_history.specs.Events.{is_live};
@@ -93,14 +93,6 @@ fn giving_up(keeps: bool, outcome: &Outcome, unit: Option<UnitId>) -> Option<Uni
     }
 }
 
-// Returns whether what was settled stays settled after a command: it released nothing that another
-// waits for, and doesn't wait.
-fn stays_settled(is_settled: bool, was_blocker: bool, waits: bool) -> bool
-    ensures { result ≡ is_settled && (not was_blocker && not waits) }
-{
-    is_settled && !was_blocker && !waits
-}
-
 impl Region {
     /// Returns the region of an opening, without a task, its clock at 0. It copies the files and
     /// queues. If memory is refused, returns the opening.
@@ -191,7 +183,8 @@ impl Region {
         let outcome = self.dispatcher.issue(at, label, command)?;
         let was_blocker = self.notes.forget(giving_up(keeps, &outcome, unit));
         let waits = self.dispatcher.is_waiting(&label);
-        self.is_settled = stays_settled(self.is_settled, was_blocker, waits);
+        // It stays so if the command released nothing that another waits for, and doesn't wait.
+        self.is_settled = self.is_settled && !was_blocker && !waits;
         Ok(outcome)
     }
 

@@ -1,6 +1,7 @@
 //! Plain READ, UNLOCK and browses of the tasks of a region.
 
 ghost use Rattle.std.specs.Prelude.{◌≡◌, ◌<◌, true, is_some, length};
+ghost use Rattle.cics_names.specs.Commands.{length_of};
 ghost use Rattle.cics_names.specs.Keyed.{value_at};
 ghost use Rattle.cics_names.specs.declared.conditions.Condition.TheVariants.{Normal};
 ghost use Rattle.cics_history.specs.Execution.{IsOpenOrNone};
@@ -12,14 +13,14 @@ ghost use Rattle.cics_dispatch.specs.Steps.{answered, unlocked, started, reset, 
 ghost use Rattle.cics_dispatch.specs.Calls.{IsAwake, HasBrowse, IsStepOf};
 ghost use Rattle.cics_dispatch.specs.Calls.{IsStepOrRefused, reading, reading_on};
 
-use crate::browses::{Direction, read_on};
+use crate::browses::{Direction, Start, read_on};
 use crate::dispatcher::Dispatcher;
 use crate::outcomes::Outcome;
 use crate::reads::{plain_reply, read_plain};
 use crate::replies::reply_of_browsed;
 use cics_browse::Browse;
 use cics_history::UnitId;
-use cics_names::{Condition, Name8, NoMemory, Record};
+use cics_names::{Command, Condition, Name8, NoMemory};
 use cics_units::Units;
 
 // Ends a unit's update read of a file, if there is a unit.
@@ -43,23 +44,19 @@ impl Dispatcher {
     pub(super) fn read(
         &mut self,
         at: usize,
-        resp: bool,
         name: &Name8,
-        key: &[u8],
-        limit: Option<u64>,
-        generic: bool,
-        gteq: bool,
+        command: &Command,
     ) -> Result<Outcome, NoMemory>
         requires within { at < length self.old.machine.tasks }
         requires there { is_some (definition_of self.old.machine name.now) ≡ true }
         ensures step { IsStepOrRefused self.old at
-            (reading self.old.machine resp name.now key.now limit generic gteq) result self.new }
+            (reading self.old.machine name.now command.now) result self.new }
     {
         let Some(file) = self.units.file(name) else {
             unreachable!();
         };
-        let reply = read_plain(file, key, limit, generic, gteq)?;
-        Ok(self.answer(at, resp, reply))
+        let reply = read_plain(file, &command.verb)?;
+        Ok(self.answer(at, command.resp, reply))
     }
 
     // Executes UNLOCK.
@@ -81,19 +78,23 @@ impl Dispatcher {
         at: usize,
         resp: bool,
         name: Name8,
-        key: Record,
-        generic: bool,
-        equal: bool,
+        start: Start,
     ) -> Result<Outcome, NoMemory>
         requires within { at < length self.old.machine.tasks }
         requires awake { IsAwake self.old.machine at }
         requires there { is_some (definition_of self.old.machine name) ≡ true }
         ensures step { IsStepOrRefused self.old at
-            (λ t. started self.old.machine t resp name key generic equal) result self.new }
+            (λ t. started self.old.machine t resp name start.key start.generic start.equal)
+            result self.new }
     {
         let Some(file) = self.units.file(&name) else {
             unreachable!();
         };
+        let Start {
+            key,
+            generic,
+            equal,
+        } = start;
         let Some(browse) = Browse::start(file, key, generic, equal) else {
             return Ok(self.answer(at, resp, plain_reply(Condition::Notfnd)));
         };
@@ -107,16 +108,14 @@ impl Dispatcher {
         at: usize,
         resp: bool,
         name: &Name8,
-        key: Record,
-        generic: bool,
-        equal: bool,
+        start: Start,
     ) -> Outcome
         requires within { at < length self.old.machine.tasks }
         requires awake { IsAwake self.old.machine at }
         requires there { is_some (definition_of self.old.machine name.now) ≡ true }
         requires browsing { HasBrowse self.old.machine at name.now }
         ensures step { IsStepOf self.old at
-            (λ t. reset self.old.machine t resp name.now key generic equal
+            (λ t. reset self.old.machine t resp name.now start.key start.generic start.equal
             (value_at name.now t.browses)) result self.new }
     {
         let Some(file) = self.units.file(name) else {
@@ -125,6 +124,11 @@ impl Dispatcher {
         let Some(browse) = self.tasks.browses_mut(at).get_mut(name) else {
             unreachable!();
         };
+        let Start {
+            key,
+            generic,
+            equal,
+        } = start;
         let condition = browse.reset(file, key, generic, equal);
         self.answer(at, resp, plain_reply(condition))
     }
@@ -133,26 +137,27 @@ impl Dispatcher {
     pub(super) fn read_on(
         &mut self,
         at: usize,
-        resp: bool,
-        name: &Name8,
-        limit: Option<u64>,
+        name: Name8,
+        command: &Command,
         direction: Direction,
     ) -> Result<Outcome, NoMemory>
         requires within { at < length self.old.machine.tasks }
         requires awake { IsAwake self.old.machine at }
-        requires there { is_some (definition_of self.old.machine name.now) ≡ true }
-        requires browsing { HasBrowse self.old.machine at name.now }
+        requires there { is_some (definition_of self.old.machine name) ≡ true }
+        requires browsing { HasBrowse self.old.machine at name }
         ensures step { IsStepOrRefused self.old at
-            (reading_on self.old.machine resp name.now limit direction) result self.new }
+            (reading_on self.old.machine command.now.resp name (length_of command.now.verb)
+            direction) result self.new }
     {
-        let Some(file) = self.units.file(name) else {
+        let limit = command.verb.length();
+        let Some(file) = self.units.file(&name) else {
             unreachable!();
         };
-        let Some(browse) = self.tasks.browses_mut(at).get_mut(name) else {
+        let Some(browse) = self.tasks.browses_mut(at).get_mut(&name) else {
             unreachable!();
         };
         let browsed = read_on(browse, file, direction)?;
-        Ok(self.answer(at, resp, reply_of_browsed(browsed, limit)))
+        Ok(self.answer(at, command.resp, reply_of_browsed(browsed, limit)))
     }
 
     // Executes ENDBR.

@@ -1,21 +1,20 @@
 //! The commands of the tasks of a region, from the look at what other units hold.
 
-ghost use Rattle.std.specs.Prelude.{◌≡◌, ◌<◌, true, false, None, is_some, length, if◌then◌else◌, slice_get};
+ghost use Rattle.std.specs.Prelude.{◌≡◌, ◌<◌, true, false, None, is_some, length, slice_get};
 ghost use Rattle.std.specs.Prelude.{IsTrue, OnErr};
 ghost use Rattle.cics_names.specs.Commands.{file_named};
-ghost use Rattle.cics_dispatch.specs.Machine.{task_at, unit_closed};
+ghost use Rattle.cics_dispatch.specs.Machine.{task_at, unit_closed, state_after};
 ghost use Rattle.cics_dispatch.specs.Steps.{op_of, code_of, performed, issued};
 ghost use Rattle.cics_dispatch.specs.Answers.{is_growing, may_want, IsStep};
 ghost use Rattle.cics_dispatch.specs.Replies.{plain};
 ghost use Rattle.cics_names.specs.declared.conditions.Condition.TheVariants.{Normal};
 ghost use Rattle.cics_dispatch.specs.declared.outcomes.Outcome.TheVariants.{Replied};
-ghost use Rattle.cics_history.specs.declared.ops.UnitState.TheVariants.{Committed, BackedOut};
 ghost use Rattle.cics_dispatch.specs.Calls.{OfTask, IsAwake, MayPerform, KeepsRegion};
 ghost use Rattle.cics_dispatch.specs.Calls.{IsStepOrRefused, going_on, reads_or_unlocks};
 ghost use Rattle.cics_dispatch.specs.Emptied.{whole};
 
-use crate::browses::Direction;
-use crate::dispatcher::Dispatcher;
+use crate::browses::{Direction, Start};
+use crate::dispatcher::{Dispatcher, Ending};
 use crate::outcomes::{Outcome, Refused};
 use crate::reads::plain_reply;
 use crate::updates::{take, take_op};
@@ -63,14 +62,7 @@ impl Dispatcher {
     {
         let resp = command.resp;
         match &command.verb {
-            Verb::Read {
-                file,
-                ridfld: key,
-                length,
-                generic,
-                gteq,
-                ..
-            } => self.read(at, resp, file, key.bytes(), *length, *generic, *gteq),
+            Verb::Read { file, .. } => self.read(at, file, &command),
             Verb::Unlock { file } => Ok(self.unlock(at, resp, file)),
             _ => self.perform_on_browse(at, command),
         }
@@ -97,20 +89,30 @@ impl Dispatcher {
                 generic,
                 equal,
                 ..
-            } => self.start_browse(at, resp, *file, take(alloc, key), *generic, *equal),
+            } => {
+                let start = Start {
+                    key: take(alloc, key),
+                    generic: *generic,
+                    equal: *equal,
+                };
+                self.start_browse(at, resp, *file, start)
+            }
             Verb::ResetBr {
                 file,
                 ridfld: key,
                 generic,
                 equal,
                 ..
-            } => Ok(self.reset_browse(at, resp, file, take(alloc, key), *generic, *equal)),
-            Verb::ReadNext { file, length } => {
-                self.read_on(at, resp, file, *length, Direction::Forward)
+            } => {
+                let start = Start {
+                    key: take(alloc, key),
+                    generic: *generic,
+                    equal: *equal,
+                };
+                Ok(self.reset_browse(at, resp, file, start))
             }
-            Verb::ReadPrev { file, length } => {
-                self.read_on(at, resp, file, *length, Direction::Back)
-            }
+            Verb::ReadNext { file, .. } => self.read_on(at, *file, &command, Direction::Forward),
+            Verb::ReadPrev { file, .. } => self.read_on(at, *file, &command, Direction::Back),
             Verb::EndBr { file } => Ok(self.end_browse(at, resp, file)),
             _ => Ok(self.answer(at, resp, plain_reply(Condition::Invreq))),
         }
@@ -131,18 +133,14 @@ impl Dispatcher {
         }
         let resp = command.resp;
         match &command.verb {
-            Verb::ReadqTs {
-                queue,
-                length,
-                item,
-            } => self.read_item(at, resp, queue, *length, *item),
+            Verb::ReadqTs { queue, item, .. } => self.read_item(at, queue, &command, *item),
             Verb::Deq { resource, length } => {
                 Ok(self.dequeue(at, resp, &resource.bytes()[..*length as usize]))
             }
-            Verb::Syncpoint => Ok(self.end_of_unit(at, true)),
-            Verb::Rollback => Ok(self.end_of_unit(at, false)),
+            Verb::Syncpoint => Ok(self.end_of_unit(at, Ending::Commit)),
+            Verb::Rollback => Ok(self.end_of_unit(at, Ending::Backout)),
             Verb::Return => {
-                self.close(at, true, true);
+                self.close(at, Ending::Commit, true);
                 Ok(Outcome::Ended)
             }
             Verb::Abend { code } => {
@@ -153,18 +151,16 @@ impl Dispatcher {
         }
     }
 
-    // Executes SYNCPOINT: with ROLLBACK unless `commits`.
-    fn end_of_unit(&mut self, at: usize, commits: bool) -> Outcome
+    // Executes SYNCPOINT, with or without ROLLBACK.
+    fn end_of_unit(&mut self, at: usize, ending: Ending) -> Outcome
         requires within { at < length self.old.machine.tasks }
         requires awake { IsAwake self.old.machine at }
         ensures outcome { result ≡ Replied (plain Normal) }
         ensures machine { OfTask self.old.machine.tasks at
-            (λ t. self.new.machine
-            ≡ unit_closed self.old.machine t
-            (if commits then Committed else BackedOut) false) }
+            (λ t. self.new.machine ≡ unit_closed self.old.machine t (state_after ending) false) }
         ensures kept { KeepsRegion self.old self.new }
     {
-        self.close(at, commits, false);
+        self.close(at, ending, false);
         Outcome::Replied(plain_reply(Condition::Normal))
     }
 

@@ -1,15 +1,15 @@
 //! Temporary storage and transient data of the tasks of a region: their checks, and READQ TS.
 
 ghost use Rattle.std.specs.Prelude.{◌≡◌, ◌<◌, length};
+ghost use Rattle.cics_names.specs.Commands.{length_of};
 ghost use Rattle.cics_dispatch.specs.Checks.{queue_fault, other_fault};
 ghost use Rattle.cics_dispatch.specs.Calls.{IsAwake, IsStepOrRefused, reading_item};
 
-use crate::checks::item_fault;
+use crate::checks::{item_fault, value_fault};
 use crate::dispatcher::Dispatcher;
-use crate::faults::value_fault;
 use crate::outcomes::Outcome;
 use crate::replies::reply_of_item;
-use cics_names::{Condition, Name4, Name8, NoMemory, Verb};
+use cics_names::{Command, Condition, Name4, Name8, NoMemory, Verb};
 
 impl Dispatcher {
     // Returns QIDERR if a transient data queue isn't defined.
@@ -45,17 +45,18 @@ impl Dispatcher {
     pub(super) fn read_item(
         &mut self,
         at: usize,
-        resp: bool,
         queue: &Name8,
-        limit: Option<u64>,
+        command: &Command,
         item: Option<u64>,
     ) -> Result<Outcome, NoMemory>
         requires within { at < length self.old.machine.tasks }
         requires awake { IsAwake self.old.machine at }
         ensures step { IsStepOrRefused self.old at
-            (reading_item self.old.machine resp queue.now limit item) result self.new }
+            (reading_item self.old.machine command.now.resp queue.now
+            (length_of command.now.verb) item) result self.new }
     {
+        let limit = command.verb.length();
         let answer = self.units.read_ts(queue, item)?;
-        Ok(self.answer(at, resp, reply_of_item(answer, limit)))
+        Ok(self.answer(at, command.resp, reply_of_item(answer, limit)))
     }
 }

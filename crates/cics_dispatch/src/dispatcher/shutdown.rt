@@ -7,7 +7,7 @@ ghost use Rattle.cics_dispatch.specs.Steps.{with_outcome};
 ghost use Rattle.cics_dispatch.specs.Shutdown.{units_of, all_ended, shut_down};
 ghost use Rattle.cics_dispatch.specs.Calls.{KeepsRegion};
 
-use crate::dispatcher::Dispatcher;
+use crate::dispatcher::{Dispatcher, Ending};
 use crate::waits::Waits;
 
 impl Dispatcher {
@@ -26,7 +26,7 @@ impl Dispatcher {
             if self.tasks.get(at).unit().is_some() {
                 count += 1;
             }
-            self.close(at, false, true);
+            self.close(at, Ending::Backout, true);
         }
         count
     }

@@ -192,40 +192,40 @@ impl Dispatcher {
         ensures { IsLooked self.now.machine notes.old notes.new at (is_ok result) }
     {
         if let Some(line) = note.line {
-            return self.file_in(notes, at, note, line, unit);
+            return self.file_in(notes, (at, *note), line, unit);
         }
         let Some(resource) = self.need(&note.label) else {
             return notes.set_alone(at, note, unit);
         };
         match notes.line_of(resource) {
-            Ok(line) => self.file_in(notes, at, note, line, unit),
+            Ok(line) => self.file_in(notes, (at, *note), line, unit),
             Err(refused) => Err(refused),
         }
     }
 
-    // Does the same for a command that uses the resource of a wait group and nothing else.
+    // Does the same for a command that uses the resource of a wait group and nothing else. `found`
+    // is the index of its note and the note.
     fn file_in(
         &self,
         notes: &mut Notes,
-        at: usize,
-        note: &Note,
+        found: (usize, Note),
         line: usize,
         unit: UnitId,
     ) -> Result<(), NoMemory>
-        requires first { IsFirstOpen notes.old at note.now }
+        requires first { IsFirstOpen notes.old found.0 found.1 }
         requires kept { AreTasksKept self.now.machine }
         requires noted { AreNotedNow self.now.machine notes.old }
-        requires blocked { OfWait self.now.machine.waiting note.now.label
+        requires blocked { OfWait self.now.machine.waiting found.1.label
             (IsBlocked self.now.machine unit) }
         requires within { line < length notes.old.blockers }
-        requires only { IfSome note.now.line (λ g. g ≡ line) }
-        requires uses { UseOf self.now.machine notes.old.resources note.now line }
-        ensures { IsLooked self.now.machine notes.old notes.new at (is_ok result) }
+        requires only { IfSome found.1.line (λ g. g ≡ line) }
+        requires uses { UseOf self.now.machine notes.old.resources found.1 line }
+        ensures { IsLooked self.now.machine notes.old notes.new found.0 (is_ok result) }
     {
         if self.may_close(notes, line, unit) {
-            notes.close(at, note, line, unit)
+            notes.close(found.0, &found.1, line, unit)
         } else {
-            notes.set_alone(at, note, unit)
+            notes.set_alone(found.0, &found.1, unit)
         }
     }
 

@@ -1,8 +1,6 @@
 use Rattle.std.proofs.Common.{◌∙◌, sym, ap, subst}
-use Rattle.std.specs.Prelude.{if◌then◌else◌}
 use Rattle.cics_history.specs.Execution.{IsOpenOrNone}
-use Rattle.cics_history.specs.declared.ops.UnitState.TheVariants.{Committed, BackedOut}
-use Rattle.cics_dispatch.specs.Machine.{units_after}
+use Rattle.cics_dispatch.specs.Machine.{units_after, state_after}
 use Rattle.cics_dispatch.specs.Regions.{region_of}
 use Rattle.cics_dispatch.proofs.KeptTasks.{acting_or_none}
 use Rattle.cics_dispatch.proofs.RegionSteps.{seen_task, seen_awake, closed_kept, end_shut}
@@ -19,16 +17,16 @@ pub invariant_of-self : goal.invariant_of-self
 invariant_of-self c =
     let u = c.self.inside in
     seen_task c.args.at c.self.view_is c.requires.within (λ t there.
-    closed_kept c.self.invariant c.end_unit.new.units c.close_unit-unit.new.self c.args.at t (if c.args.commits then Committed else BackedOut) c.args.has_ended there
+    closed_kept c.self.invariant c.end_unit.new.units c.close_unit-unit.new.self c.args.at t (state_after c.args.ending) c.args.has_ended there
     (seen_awake c.args.at c.self.view_is c.requires.awake t there)
-    (end_shut c.args.commits) (c.end_unit.ensures.state ∙ ap (λ o. units_after u.units.state o (if c.args.commits then Committed else BackedOut)) (c.close_unit-unit.ensures.unit t there))
+    (end_shut c.args.ending) (c.end_unit.ensures.state ∙ ap (λ o. units_after u.units.state o (state_after c.args.ending)) (c.close_unit-unit.ensures.unit t there))
     (c.close_unit-unit.ensures.task t there) c.end_unit.ensures.headline c.end_unit.ensures.serializable)
 
 pub returns-clause-kept : goal.returns-clause-kept
 returns-clause-kept c = λ was.
     let u = c.self.inside in
     seen_task c.args.at c.self.view_is c.requires.within (λ t there.
-    closed_kept c.self.invariant c.end_unit.new.units c.close_unit-unit.new.self c.args.at t (if c.args.commits then Committed else BackedOut) c.args.has_ended there
+    closed_kept c.self.invariant c.end_unit.new.units c.close_unit-unit.new.self c.args.at t (state_after c.args.ending) c.args.has_ended there
     (seen_awake c.args.at c.self.view_is c.requires.awake t there)
-    (end_shut c.args.commits) (c.end_unit.ensures.state ∙ ap (λ o. units_after u.units.state o (if c.args.commits then Committed else BackedOut)) (c.close_unit-unit.ensures.unit t there))
+    (end_shut c.args.ending) (c.end_unit.ensures.state ∙ ap (λ o. units_after u.units.state o (state_after c.args.ending)) (c.close_unit-unit.ensures.unit t there))
     (c.close_unit-unit.ensures.task t there) c.end_unit.ensures.headline c.end_unit.ensures.serializable)

@@ -1,5 +1,6 @@
 use Rattle.std.proofs.Common.{◌∙◌, ap}
 use Rattle.std.specs.Prelude.{option_map}
+use Rattle.cics_names.specs.Commands.{length_of}
 use Rattle.cics_history.specs.Execution.{item_asked}
 use Rattle.cics_dispatch.specs.Calls.{reading_item}
 use Rattle.cics_dispatch.specs.Regions.{region_of}
@@ -25,11 +26,12 @@ returns c =
     let asked = item_asked u.units.state q c.args.item in
     record {
       step = seen_task c.args.at c.self.view_is c.requires.within (λ t there.
-          let told = c.reply_of_item.ensures ∙ ap (λ a. reply_with c.args.limit (option_map (λ k. Item k) a.number) a) c.in_ok-answer.ensures.answer in
+          let told = c.reply_of_item.ensures ∙ ap (λ n. reply_with n (option_map (λ k. Item k) c.in_ok-answer.answer.number) c.in_ok-answer.answer) c.length-limit.ensures
+          ∙ ap (λ a. reply_with (length_of c.args.command.now.verb) (option_map (λ k. Item k) a.number) a) c.in_ok-answer.ensures.answer in
           let machine = item_read_machine c.self.invariant c.args.at t there q asked c.read_ts.new.self c.in_ok-answer.ensures.state in
-          seen_step c.args.at (λ k. reading_item k c.args.resp q c.args.limit c.args.item) c.self.view_is
-          (then_told c.args.at t t c.args.resp c.reply_of_item.result (reading_item m c.args.resp q c.args.limit c.args.item) there there
+          seen_step c.args.at (λ k. reading_item k c.args.command.now.resp q (length_of c.args.command.now.verb) c.args.item) c.self.view_is
+          (then_told c.args.at t t c.args.command.now.resp c.reply_of_item.result (reading_item m c.args.command.now.resp q (length_of c.args.command.now.verb) c.args.item) there there
           (item_read_kept c.self.invariant c.args.at t there q asked c.read_ts.new.self c.in_ok-answer.ensures.state
           (seen_awake c.args.at c.self.view_is c.requires.awake t there) c.in_ok-answer.ensures.headline c.in_ok-answer.ensures.serializable)
-          (λ i. answered (machine i) t c.args.resp (told i)) c.answer.ensures.step));
+          (λ i. answered (machine i) t c.args.command.now.resp (told i)) c.answer.ensures.step));
     }

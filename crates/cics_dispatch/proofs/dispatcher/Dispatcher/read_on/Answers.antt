@@ -1,5 +1,6 @@
 use Rattle.std.proofs.Common.{◌∙◌, ap, sym}
 use Rattle.std.specs.Option.{option_copied_mut}
+use Rattle.cics_names.specs.Commands.{length_of}
 use Rattle.cics_names.specs.Keyed.{value_at}
 use Rattle.cics_dispatch.specs.Calls.{reading_on}
 use Rattle.cics_dispatch.specs.Replies.{cut}
@@ -10,8 +11,8 @@ use Rattle.cics_dispatch.proofs.dispatcher.Dispatcher.read_on.Goals as goal
 
 pub unreachable-requires-in_default-get_mut : goal.unreachable-requires-in_default-get_mut
 unreachable-requires-in_default-get_mut c = seen_task c.args.at c.self.view_is c.requires.within (λ t there.
-    never_none (value_at c.args.name.now t.browses) (seen_browse c.args.at c.args.name.now c.self.view_is c.requires.browsing t there)
-    (sym (ap option_copied_mut c.in_default-get_mut.is) ∙ c.get_mut.ensures.browse ∙ ap (value_at c.args.name.now) (c.browses_mut.ensures.browses t there)))
+    never_none (value_at c.args.name t.browses) (seen_browse c.args.at c.args.name c.self.view_is c.requires.browsing t there)
+    (sym (ap option_copied_mut c.in_default-get_mut.is) ∙ c.get_mut.ensures.browse ∙ ap (value_at c.args.name) (c.browses_mut.ensures.browses t there)))
 
 pub invariant_of-self : goal.invariant_of-self
 invariant_of-self c = seen_task c.args.at c.self.view_is c.requires.within (λ t there.
@@ -21,9 +22,9 @@ pub returns-in_err-browsed : goal.returns-in_err-browsed
 returns-in_err-browsed c = record {
   step = seen_task c.args.at c.self.view_is c.requires.within (λ t there.
       let left = c.get_mut.follows.lender c.read_on.new.browse in
-      let browse = lent t c.args.name.now c.browses_mut.result.now c.in-Some-get_mut.browse.now c.read_on.new.browse left (c.browses_mut.ensures.browses t there)
+      let browse = lent t c.args.name c.browses_mut.result.now c.in-Some-get_mut.browse.now c.read_on.new.browse left (c.browses_mut.ensures.browses t there)
       c.in-Some-get_mut.ensures.browse (c.get_mut.follows.holds c.read_on.new.browse) in
-      refused_as_was c.args.self.now _ c.from_residual.result c.args.at (reading_on c.args.self.now.machine c.args.resp c.args.name.now c.args.limit c.args.direction) c.from_residual.ensures.0
+      refused_as_was c.args.self.now _ c.from_residual.result c.args.at (reading_on c.args.self.now.machine c.args.command.now.resp c.args.name (length_of c.args.command.now.verb) c.args.direction) c.from_residual.ensures.0
       (same_browses c.self.invariant c.args.at t there left (browse.same c.in_err-browsed.ensures.err) ∙ c.self.view_is));
 }
 
@@ -38,13 +39,13 @@ answer-requires c = record {
 
 pub returns : goal.returns
 returns c = record {
-  step = seen_step c.args.at (λ m. reading_on m c.args.resp c.args.name.now c.args.limit c.args.direction) c.self.view_is (seen_task c.args.at c.self.view_is c.requires.within (λ t there.
+  step = seen_step c.args.at (λ m. reading_on m c.args.command.now.resp c.args.name (length_of c.args.command.now.verb) c.args.direction) c.self.view_is (seen_task c.args.at c.self.view_is c.requires.within (λ t there.
       let left = c.get_mut.follows.lender c.read_on.new.browse in
       let records = c.in-Some.file.now.records in
-      let browse = lent t c.args.name.now c.browses_mut.result.now c.in-Some-get_mut.browse.now c.read_on.new.browse left (c.browses_mut.ensures.browses t there)
+      let browse = lent t c.args.name c.browses_mut.result.now c.in-Some-get_mut.browse.now c.read_on.new.browse left (c.browses_mut.ensures.browses t there)
       c.in-Some-get_mut.ensures.browse (c.get_mut.follows.holds c.read_on.new.browse) in
-      then_told_so c.self.invariant c.args.at t there left c.args.resp c.reply_of_browsed.result (cut c.args.limit (browse_reply c.in_ok-browsed.browsed)) _
-      (seen_awake c.args.at c.self.view_is c.requires.awake t there) c.reply_of_browsed.ensures
-      (read_answered c.self.invariant c.args.at t there c.args.resp c.args.name.now browse records (own_records c.self.invariant c.args.at t there c.args.name.now records c.in-Some.ensures.records)
-      c.args.limit c.args.direction c.in_ok-browsed.browsed c.in_ok-browsed.ensures.reply c.in_ok-browsed.ensures.position) c.answer.ensures.step));
+      then_told_so c.self.invariant c.args.at t there left c.args.command.now.resp c.reply_of_browsed.result (cut (length_of c.args.command.now.verb) (browse_reply c.in_ok-browsed.browsed)) _
+      (seen_awake c.args.at c.self.view_is c.requires.awake t there) (c.reply_of_browsed.ensures ∙ ap (λ n. cut n (browse_reply c.in_ok-browsed.browsed)) c.length-limit.ensures)
+      (read_answered c.self.invariant c.args.at t there c.args.command.now.resp c.args.name browse records (own_records c.self.invariant c.args.at t there c.args.name records c.in-Some.ensures.records)
+      (length_of c.args.command.now.verb) c.args.direction c.in_ok-browsed.browsed c.in_ok-browsed.ensures.reply c.in_ok-browsed.ensures.position) c.answer.ensures.step));
 }

@@ -23,7 +23,7 @@ answer-requires c = record {
 
 pub returns : goal.returns
 returns c = record {
-  step = seen_step c.args.at (λ m s. reset m s c.args.resp c.args.name.now c.args.key c.args.generic c.args.equal (value_at c.args.name.now s.browses)) c.self.view_is
+  step = seen_step c.args.at (λ m s. reset m s c.args.resp c.args.name.now c.args.start.key c.args.start.generic c.args.start.equal (value_at c.args.name.now s.browses)) c.self.view_is
       (seen_task c.args.at c.self.view_is c.requires.within (λ t there.
       let left = c.get_mut.follows.lender c.reset-condition.new.self in
       let records = c.in-Some.file.now.records in
@@ -32,5 +32,5 @@ returns c = record {
       then_told_so c.self.invariant c.args.at t there left c.args.resp c.plain_reply.result (plain c.reset-condition.result) _ (seen_awake c.args.at c.self.view_is c.requires.awake t there)
       c.plain_reply.ensures
       (reset_answered c.self.invariant c.args.at t there c.args.resp c.args.name.now browse records (own_records c.self.invariant c.args.at t there c.args.name.now records c.in-Some.ensures.records)
-      c.args.key c.args.generic c.args.equal c.reset-condition.result c.reset-condition.ensures.condition c.reset-condition.ensures.position) c.answer.ensures.step));
+      c.args.start.key c.args.start.generic c.args.start.equal c.reset-condition.result c.reset-condition.ensures.condition c.reset-condition.ensures.position) c.answer.ensures.step));
 }

@@ -14,9 +14,9 @@ returns-in_default-start c =
     let m = (region_of u.units u.tasks u.waits u.clock u.is_down).machine in
     let records = c.in-Some.file.now.records in
     record {
-      step = seen_step c.args.at (λ k s. started k s c.args.resp c.args.name c.args.key c.args.generic c.args.equal) c.self.view_is
-          (told_as c.args.at (λ s. answered m s c.args.resp c.plain_reply.result) (λ s. started m s c.args.resp c.args.name c.args.key c.args.generic c.args.equal)
-          (λ t there. ap (answered m t c.args.resp) c.plain_reply.ensures ∙ not_started c.self.invariant c.args.at t there c.args.resp c.args.name c.args.key c.args.generic c.args.equal records
+      step = seen_step c.args.at (λ k s. started k s c.args.resp c.args.name c.args.start.key c.args.start.generic c.args.start.equal) c.self.view_is
+          (told_as c.args.at (λ s. answered m s c.args.resp c.plain_reply.result) (λ s. started m s c.args.resp c.args.name c.args.start.key c.args.start.generic c.args.start.equal)
+          (λ t there. ap (answered m t c.args.resp) c.plain_reply.ensures ∙ not_started c.self.invariant c.args.at t there c.args.resp c.args.name c.args.start.key c.args.start.generic c.args.start.equal records
           (own_records c.self.invariant c.args.at t there c.args.name records c.in-Some.ensures.records) (sym c.in_default-start.is ∙ c.start.ensures))
           (seen_step c.args.at (λ k s. answered k s c.args.resp c.plain_reply.result) (sym c.self.view_is) c.answer.ensures.step));
     }
@@ -28,7 +28,7 @@ invariant_of-self c = seen_task c.args.at c.self.view_is c.requires.within (λ t
 pub returns-in_err-put : goal.returns-in_err-put
 returns-in_err-put c = record {
   step = seen_task c.args.at c.self.view_is c.requires.within (λ t there.
-      refused_as_was c.args.self.now _ c.from_residual.result c.args.at (λ s. started c.args.self.now.machine s c.args.resp c.args.name c.args.key c.args.generic c.args.equal)
+      refused_as_was c.args.self.now _ c.from_residual.result c.args.at (λ s. started c.args.self.now.machine s c.args.resp c.args.name c.args.start.key c.args.start.generic c.args.start.equal)
       c.from_residual.ensures.0
       (same_browses c.self.invariant c.args.at t there c.put.new.self (c.in_err-put.ensures.err ∙ c.browses_mut.ensures.browses t there) ∙ c.self.view_is));
 }
@@ -44,12 +44,12 @@ answer-requires-2 c = record {
 
 pub returns : goal.returns
 returns c = record {
-  step = seen_step c.args.at (λ m s. started m s c.args.resp c.args.name c.args.key c.args.generic c.args.equal) c.self.view_is (seen_task c.args.at c.self.view_is c.requires.within (λ t there.
+  step = seen_step c.args.at (λ m s. started m s c.args.resp c.args.name c.args.start.key c.args.start.generic c.args.start.equal) c.self.view_is (seen_task c.args.at c.self.view_is c.requires.within (λ t there.
       let browse = c.in-Some-start.browse in
       let records = c.in-Some.file.now.records in
       then_told_so c.self.invariant c.args.at t there c.put.new.self c.args.resp c.plain_reply-2.result (plain Normal) _ (seen_awake c.args.at c.self.view_is c.requires.awake t there)
       c.plain_reply-2.ensures
-      (started_there c.self.invariant c.args.at t there c.args.resp c.args.name c.args.key c.args.generic c.args.equal records
+      (started_there c.self.invariant c.args.at t there c.args.resp c.args.name c.args.start.key c.args.start.generic c.args.start.equal records
       (own_records c.self.invariant c.args.at t there c.args.name records c.in-Some.ensures.records) browse c.put.new.self (sym c.in-Some-start.is ∙ c.start.ensures)
       (c.in_ok-put.ensures.ok ∙ ap (with_value c.args.name browse) (c.browses_mut.ensures.browses t there))) c.answer-2.ensures.step));
 }

@@ -1,5 +1,5 @@
 use Rattle.std.proofs.Common.{◌∙◌, ap, subst, refl, Ok, Err}
-use Rattle.std.specs.Prelude.{◌&&◌, if◌then◌else◌, None}
+use Rattle.std.specs.Prelude.{◌&&◌, not, if◌then◌else◌, None}
 use Rattle.cics_dispatch.specs.Steps.{issued_by, issued}
 use Rattle.cics_dispatch.specs.Answers.{may_want}
 use Rattle.cics_dispatch.specs.Shutdown.{IsRegionStep}
@@ -35,7 +35,7 @@ invariant_of-self-2 c =
     let forgot = c.forget-was_blocker in (
       c.in_ok-outcome.ensures.kept c.self.invariant.0,
       remembered_issued u.dispatcher.machine c.issue.new.self.machine c.args.label c.args.command outcome u.notes forgot.new.self u.is_settled u.is_in_time
-          forgot.result c.is_waiting-waits.result c.stays_settled-self-inside.result c.unit_at-unit.result c.giving_up.result c.self.invariant.0.tasks c.self.invariant.1 (λ t there. c.unit_at-unit.ensures.unit t (c.in-Some.ensures.task ∙ there))
+          forgot.result c.is_waiting-waits.result (u.is_settled && (not forgot.result && not c.is_waiting-waits.result)) c.unit_at-unit.result c.giving_up.result c.self.invariant.0.tasks c.self.invariant.1 (λ t there. c.unit_at-unit.ensures.unit t (c.in-Some.ensures.task ∙ there))
           c.in_ok-outcome.ensures.step.0 c.in_ok-outcome.ensures.step.1 (c.giving_up.ensures ∙ (λ i. if c.is_keeping-keeps.ensures i && goes_on outcome then None else c.unit_at-unit.result))
-          forgot.ensures.rows forgot.ensures.blockers forgot.ensures.none forgot.ensures.resources forgot.ensures.deadlines c.is_waiting-waits.ensures c.stays_settled-self-inside.ensures,
+          forgot.ensures.rows forgot.ensures.blockers forgot.ensures.none forgot.ensures.resources forgot.ensures.deadlines c.is_waiting-waits.ensures refl,
     )
