@@ -1,5 +1,5 @@
--- Task control: a command of a task leaves the waiting commands of the other tasks as they are, and the open units of the
--- other tasks with what they hold.
+-- Task control: a command of a task leaves the waiting commands of the other tasks as they are, and
+-- the open units of the other tasks with what they own.
 use Rattle.std.specs.Prelude.{◌≡◌, ◌≢◌, ℕ, Bool, true, false, if◌then◌else◌, ◌&&◌, nat_le, nat_lt, Option, Some, None, [], ◌∷◌, ◌++◌, length, take, refl}
 use Rattle.std.proofs.Common.{◌⊎◌, inl, inr, sym, ap, ◌∙◌, subst}
 use Rattle.cics_names.specs.Keyed.{Bytes, value_at, without}
@@ -40,9 +40,9 @@ use Rattle.cics_dispatch.proofs.OthersHold.{LeavesHeld, held_all, entered_held, 
 use Rattle.cics_dispatch.proofs.Starved.{LeavesStarved, starved_all, entered_starved, counted_starved, dequeued_starved, unlocked_starved, item_read_starved, closed_starved}
 use Rattle.cics_dispatch.proofs.RegionSteps.{acts_in}
 
--- a step of the task of a label, in a unit or without one, leaves the clock, how many tasks there are, the tasks of other
--- labels, and the other open units with their update reads and what they hold; where its unit is open, it leaves the queues
--- without a record that had none for a reader
+-- a step of the task of a label, in a unit or without one, leaves the clock, how many tasks there
+-- are, the tasks of other labels, and the other open units with their update reads and what they
+-- own; if its unit is open, it leaves the queues without a record that had none for a reader
 pub record LeavesTasks (label : Bytes) (u : Option ℕ) (m n : Machine) : Type 0 where
   pub clock : n.clock ≡ m.clock
   pub count : length n.tasks ≡ length m.tasks
@@ -55,7 +55,8 @@ pub record LeavesTasks (label : Bytes) (u : Option ℕ) (m n : Machine) : Type 0
 pub record ActsIn (m : Machine) (u v : Option ℕ) : Type 0 where
   pub other : (n : ℕ) → is_live m.units n ≡ true → (u ≡ Some n → ⊥) → v ≡ Some n → ⊥
 
--- the waits after a step of a task: as they were, or with one of the task that begins now, or without the task's
+-- the waits after a step of a task: as they were, or with one of the task that begins now, or
+-- without the task's
 abbrev pub Waits : Bytes → Machine → Machine → Type 0
 Waits label m n =
     (n.waiting ≡ m.waiting)
@@ -135,7 +136,8 @@ abended_leaves m t = record {
   starved = λ active. record { starved = λ own h q live is. closed_starved m.units t.unit BackedOut active own h q is };
 }
 
--- a task is answered after a step that leaves the waits, or abended; where its unit was open before the step it is so after it
+-- a task is answered after a step that leaves the waits, or abended; if its unit was open before
+-- the step it is so after it
 module _ (label : Bytes) (u : Option ℕ) (m n : Machine) (t : Task) (is_label : t.label ≡ label) (first : LeavesTasks label u m n) (acts : ActsIn m u t.unit) (waits : n.waiting ≡ m.waiting)
     (active : may_act m.units u ≡ true → may_act n.units t.unit ≡ true) where
   told : ActsAlone label u m n
@@ -223,7 +225,7 @@ module _ (m : Machine) (t : Task) where
       (leaves_units t.label m (after_ts_reading m.units q item) t.unit (item_read_leaves m.units t.unit q item) (item_read_held m.units t.unit q item) (item_read_starved m.units q item))
       (acts_own m t.unit) refl (active_yet m.units (after_ts_reading m.units q item) t.unit (item_read_is (λ n. n.outcomes ≡ m.units.outcomes) m.units q item refl refl)) resp r
 
-  -- ENQ that takes its value takes it for the task's own unit, or for the one that begins
+  -- ENQ that acquires its value acquires it for the task's own unit, or for the one that begins
   pub taken_in : (value : Bytes) (unit : ℕ) (w : Option ℕ) → enq_of m.units t.unit value w ≡ Taken unit → unit_or_next t.unit m.units.outcomes ≡ unit
   taken_in value unit (Some holder) is = cc
   taken_in value unit None is = full (nat_le most_count (count_at m.units.counts (unit_or_next t.unit m.units.outcomes) value)) is
@@ -321,7 +323,7 @@ module _ (m : Machine) (t : Task) where
     by_op_alone None = other_alone c.verb
     by_op_alone (Some o) = executed_alone o
 
-    -- from the look at what other units hold on
+    -- from the look at what other units own on
     pub performed_alone : ActsAlone t.label t.unit m (performed m t c).machine
     performed_alone = by_op_alone (op_of m t c.verb)
 

@@ -1,4 +1,4 @@
--- Waiting commands that are blocked: what is awaited blocks, and what is blocked may not go on.
+-- Waiting commands that are blocked: what is awaited blocks, and what is blocked may not resume.
 use Rattle.std.specs.Prelude.{◌≡◌, ℕ, Bool, true, false, cond, ◌&&◌, if◌then◌else◌, Option, Some, None, is_none, List, [], ◌∷◌, All, take, length, refl}
 use Rattle.std.specs.List.{list_any}
 use Rattle.std.proofs.Common.{◌⊎◌, inl, inr, sym, ap, ◌∙◌}
@@ -31,7 +31,7 @@ use Rattle.cics_dispatch.proofs.Starved.{held_first, starved_waits, is_starved}
 pub task_acts : (m : Machine) (label : Bytes) (t : Task) → AreTasksKept m → task_at m.tasks label ≡ Some t → may_act m.units t.unit ≡ true
 task_acts m label t kept is = let place = place_of_task m.tasks label t is in acts m place.0 t kept place.1
 
--- ---- A unit that is found holds what was asked for, or has written what would be read
+-- ---- A unit that is found owns what was asked for, or has written what would be read
 
 -- one of two
 either_some : {X : Type 0} (x y : Option X) (h : X) → first_some x y ≡ Some h → (x ≡ Some h) ⊎ ((x ≡ None) × (y ≡ Some h))
@@ -47,7 +47,8 @@ found_among s u h (r ∷ rs) is =
       | inr later ↦ let found = found_among s u h rs later.1 in (found.0, or_right _ _ found.1)
     ]
 
--- a command waits for a unit that holds nothing of what it uses: it is READQ TD, and the unit has written to its queue
+-- a command waits for a unit that owns nothing of what it uses: it is READQ TD, and the unit has
+-- written to its queue
 found_writer : (s : UnitsState) (u : Option ℕ) (h : ℕ) (o : Op) → (reads_queue (Some o) ≡ true → IsSound s) → may_act s u ≡ true → blocker_among (owned s) u (uses_of s.opening o) ≡ None →
     writer_awaited s u o ≡ Some h → (is_other u h ≡ true) × Starves s u h (Some o)
 found_writer s u h (TdRead q) sound acts free is = by (queue_logical s.opening q) refl (is_nothing (committed_for s u q)) refl is
@@ -91,7 +92,7 @@ blocked_by m w t h kept sound of_task ready is_open is =
       keeps = found.1;
     }
 
--- a unit that a command has to wait for, which isn't READQ TD, holds what the command uses
+-- a unit that a command has to wait for, which isn't READQ TD, owns what the command uses
 pub held_back : (m : Machine) (u : ℕ) (w : Suspended) → IsBlocked m u w → reads_queue w.op ≡ false → holds_back m.units u w.command.verb w.op ≡ true
 held_back m u w is no_reader = elim is.keeps [ inl holds ↦ holds | inr starves ↦ absurd (never m.units is.task.unit u w.op no_reader starves) ]
   where
@@ -100,7 +101,7 @@ held_back m u w is no_reader = elim is.keeps [ inl holds ↦ holds | inr starves
     never s own h (Some o) no_reader starves = starves
     never s own h None no_reader starves = starves
 
--- ---- What is blocked may not go on
+-- ---- What is blocked may not resume
 
 held_among : (s : UnitsState) (u : Option ℕ) (h : ℕ) (rs : List Resource) → is_live s h ≡ true → is_other u h ≡ true → holds_one s h rs ≡ true →
     blocker_among (owned s) u rs ≡ None → ⊥

@@ -46,12 +46,12 @@ number_found ts label (Some at) own task within none = task_there ts at within (
 -- ---- Whom a task has to wait for
 
 module _ (m : Machine) (label : Bytes) where
-  -- nobody where no command of it waits
+  -- nobody if no command of it waits
   pub nobody_waits : wait_of m.waiting label ≡ None → awaited_at m label ≡ None
   nobody_waits none = ap (λ w. awaited_of m w (task_at m.tasks label)) none
 
   module _ (w : Suspended) (waits : wait_of m.waiting label ≡ Some w) where
-    -- nor where it is no task's label
+    -- nor if it is no task's label
     pub no_task_waits : task_at m.tasks label ≡ None → awaited_at m label ≡ None
     no_task_waits none = ap (λ w. awaited_of m w (task_at m.tasks label)) waits ∙ ap (awaited_of m (Some w)) none
 
@@ -59,7 +59,7 @@ module _ (m : Machine) (label : Bytes) where
     pub task_waits : (t : Task) → task_at m.tasks label ≡ Some t → awaited_at m label ≡ awaited_by m.units t.unit w.command.verb w.op
     task_waits t of_label = ap (λ w. awaited_of m w (task_at m.tasks label)) waits ∙ ap (awaited_of m (Some w)) of_label
 
-  -- where it is an open unit, that is a task's
+  -- if it is an open unit, that is a task's
   pub owner_found : (u : ℕ) (r : Option Bytes) → AreUnitsOwned m → awaited_at m label ≡ Some u → IsOpenUnit m.units u →
       unwrap_or r [] ≡ label_of m.tasks u → IfNone r (HasNoOwner m.tasks u) → r ≡ blocker_of m label
   owner_found u None owned awaits open_unit is none = absurd (owned.owned u (and_from _ _ (lt-ltb u (length m.units.outcomes) open_unit.0) open_unit.1) none)

@@ -1,5 +1,5 @@
--- The deadlines of waiting commands: the first key below the clock is that of the first task that has waited too long, and
--- what a command that begins to wait or waits no more makes of the keys.
+-- The deadlines of waiting commands: the first key below the clock is that of the first task that
+-- has waited too long, and what a command that begins to wait or waits no more makes of the keys.
 use Rattle.std.specs.Prelude.{◌≡◌, ◌≢◌, ℕ, ◌+◌, ◌-◌, ◌<◌, ◌≤◌, min, Bool, true, false, not, cond, ◌&&◌, Option, Some, None, is_some, nat_lt, nat_le, List, [], ◌∷◌, ◌++◌, All, length, map, drop, slice_get, slice_set, refl}
 use Rattle.std.proofs.Common.{zero, suc, sym, ap, ◌∙◌, subst, arith}
 use Rattle.std.proofs.lemmas.Bool.{false≢true, true≢false, false_from_ne_true, ltb-true, lt-ltb, le-ltb, leb-true, leb-false}
@@ -22,7 +22,7 @@ use Rattle.cics_dispatch.proofs.TaskPlaces.{place_of_task}
 
 -- ---- A deadline beside the clock
 
--- a task has waited too long where the clock is past its deadline, and only there
+-- a task has waited too long if the clock is past its deadline, and only then
 late_by_key : (m : Machine) (w : Suspended) (t : Task) → m.clock ≤ never → is_late m w (Some t) ≡ nat_lt (deadline_of t w.since) m.clock
 late_by_key m w t clock =
     elim (nat_lt 0 t.dtimout) as (λ b. nat_lt 0 t.dtimout ≡ b → (b && nat_le t.dtimout (m.clock - w.since)) ≡ nat_lt (cond b (min (w.since + (t.dtimout - 1)) never) never) m.clock) [
@@ -70,7 +70,7 @@ none_more label o ns here rest zero n there own = let same : o ≡ Some n = cc i
 none_more label o ns here rest (suc i) n there own = rest i n there own
 
 module _ (m : Machine) (clock : m.clock ≤ never) where
-  -- a command's task has waited too long where its key is below the clock, and only there
+  -- a command's task has waited too long if its key is below the clock, and only then
   late_due : (n : Note) (w : Suspended) (k : ℕ) → IsDue m.tasks n w k → is_late m w (task_at m.tasks w.label) ≡ nat_lt k m.clock
   late_due n w k due = ap (is_late m w) due.of_task ∙ late_by_key m w due.task clock ∙ ap (λ d. nat_lt d m.clock) (sym due.deadline)
 
@@ -108,7 +108,8 @@ module _ (m : Machine) (clock : m.clock ≤ never) where
       let early : m.clock ≤ k = first.before 0 k (omega arith) refl in
       record { note = later.note; there = later.there; wait = later.wait; own = later.own; late = later.late; first = passed n w ws k are.0 early ∙ later.first }
 
-  -- where no key is below the clock the first task that has waited too long is one whose command has no note yet
+  -- if no key is below the clock the first task that has waited too long is one whose command has
+  -- no note yet
   pub none_late_noted : (ns : List (Option Note)) (ws : List Suspended) (ks : List ℕ) → AreDue m.tasks ns ws ks → All (λ k. m.clock ≤ k) ks → first_late m ws ≡ first_late m (drop (count ns) ws)
   none_late_noted [] ws [] are early = refl
   none_late_noted [] ws (k ∷ ks) are early = absurd are
@@ -134,7 +135,7 @@ module _ (m : Machine) (clock : m.clock ≤ never) where
       let one : w.label ≡ t.label = sym are.0.label ∙ ap (λ y. y.label) same ∙ own in
       true≢false (sym (late_waits m t ws rest) ∙ ap (is_waiting ws) (sym one) ∙ apart.0)) (late_unnoted ns ws ks t apart.1 are.1 (All-tail (λ k. m.clock ≤ k) k ks early) rest)
 
-  -- and where each command has its note no task has waited too long
+  -- and if each command has its note no task has waited too long
   pub none_late_at_all : (ns : List (Option Note)) (ws : List Suspended) (ks : List ℕ) → AreDue m.tasks ns ws ks → All (λ k. m.clock ≤ k) ks → count ns ≡ length ws → first_late m ws ≡ None
   none_late_at_all ns ws ks are early all = none_late_noted ns ws ks are early ∙ ap (first_late m) (ap (λ i. drop i ws) all ∙ drop_all ws)
     where
@@ -303,7 +304,7 @@ due_within ts (Some x ∷ ns) (w ∷ ws) [] at n are there = absurd are
 due_within ts (Some x ∷ ns) (w ∷ ws) (k ∷ ks) zero n are there = omega arith
 due_within ts (Some x ∷ ns) (w ∷ ws) (k ∷ ks) (suc at) n are there = let rest = due_within ts ns ws ks at n are.1 there in omega (arith, rest)
 
--- after a step of a task of which none of these commands waits, whatever its unit gave up
+-- after a step of a task of which none of these commands waits, whatever its unit released
 pub due_given : (m n : Machine) (t : Task) (unit : Option ℕ) → LeavesTasks t.label t.unit m n → (ns : List (Option Note)) (ws : List Suspended) (ks : List ℕ) → is_waiting ws t.label ≡ false →
     AreDue m.tasks ns ws ks → AreDue n.tasks (map (forgotten unit) ns) ws ks
 due_given m n t unit others ns ws ks awake are =
@@ -332,7 +333,8 @@ due_new m k rest w key kept behind given = by (task_at m.tasks w.label) refl (fi
     by None none there = absurd (false≢true there)
     by (Some t) is there = record { task = t; label = refl; of_task = is; deadline = given t is }
 
--- the task of the label that the note of a place tells has waited too long: it is there, it is the first, and that is its note
+-- the task of the label that the note of a place tells has waited too long: it is there, it is the
+-- first, and that is its note
 module _ (m : Machine) (ns : List (Option Note)) (ws : List Suspended) (at : ℕ) (label : Bytes) (is : IsLateAt m ns ws at) (told : (n : Note) → slice_get ns at ≡ Some (Some n) → label ≡ n.label) where
   late_label : label ≡ is.wait.label
   late_label = told is.note is.there ∙ is.own

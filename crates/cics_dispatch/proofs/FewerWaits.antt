@@ -1,4 +1,5 @@
--- Waking a command and abending a task for its time take a command out of the waiting ones, and add none.
+-- Waking a command and abending a task for its time take a command out of the waiting ones, and add
+-- none.
 use Rattle.std.specs.Prelude.{◌≡◌, ℕ, ◌<◌, ◌≤◌, Bool, true, false, not, cond, if◌then◌else◌, List, [], ◌∷◌, length, take, nat_le, Option, Some, None, is_none, refl}
 use Rattle.std.proofs.Common.{arith, sym, ap, ◌∙◌}
 use Rattle.cics_names.specs.Keyed.{Bytes, value_at, without, is_same}
@@ -53,7 +54,7 @@ fewer (w ∷ ws) label waits =
 waits_too : (v : Suspended) (ws : List Suspended) (label : Bytes) → is_waiting ws label ≡ true → is_waiting (v ∷ ws) label ≡ true
 waits_too v ws label waits = elim (is_same v.label label) as (λ b. cond b true (is_waiting ws label) ≡ true) [ true ↦ refl | false ↦ waits ]
 
--- the first command that may go on waits
+-- the first command that may resume waits
 free_waits : (m : Machine) (w : Suspended) (ws : List Suspended) → first_free m ws ≡ Some w → is_waiting ws w.label ≡ true
 free_waits m w [] is = cc
 free_waits m w (v ∷ ws) is =
@@ -164,7 +165,7 @@ none_awaited : (o : Option ℕ) → is_none o ≡ true → o ≡ None
 none_awaited None none = refl
 none_awaited (Some u) none = cc
 
--- the first command that may go on needn't wait
+-- the first command that may resume needn't wait
 free_goes : (m : Machine) (w : Suspended) (ws : List Suspended) → first_free m ws ≡ Some w → may_go_on m w (task_at m.tasks w.label) ≡ true
 free_goes m w [] is = cc
 free_goes m w (v ∷ ws) is =
@@ -173,7 +174,7 @@ free_goes m w (v ∷ ws) is =
       | false ↦ λ waits is. free_goes m w ws is
     ] refl is
 
--- where a command goes on, fewer wait
+-- if a command resumes, fewer wait
 pub woken_fewer : (m : Machine) (k : Woken) → (woken m).outcome ≡ Some k → length (woken m).machine.waiting < length m.waiting
 woken_fewer m k = by (first_free m m.waiting) refl
   where
@@ -189,7 +190,7 @@ woken_fewer m k = by (first_free m m.waiting) refl
     by None is told = cc
     by (Some w) is told = task w is (task_at m.tasks w.label) (free_goes m w m.waiting is) told
 
--- where no command goes on, nothing has changed
+-- if no command resumes, nothing has changed
 pub woken_none : (m : Machine) → (woken m).outcome ≡ None → (woken m).machine ≡ m
 woken_none m = by (first_free m m.waiting)
   where
@@ -201,7 +202,7 @@ woken_none m = by (first_free m m.waiting)
     by None told = refl
     by (Some w) told = task w (task_at m.tasks w.label) told
 
--- where a task is abended for its time, fewer wait
+-- if a task is abended for its time, fewer wait
 pub expired_fewer : (m : Machine) (k : Expired) → (expired m).outcome ≡ Some k → length (expired m).machine.waiting < length m.waiting
 expired_fewer m k = by (first_late m m.waiting) refl
   where
@@ -209,7 +210,7 @@ expired_fewer m k = by (first_late m m.waiting) refl
     by None is told = cc
     by (Some t) is told = fewer m.waiting t.label (late_waits m t m.waiting is)
 
--- where none is, nothing has changed
+-- if none is, nothing has changed
 pub expired_none : (m : Machine) → (expired m).outcome ≡ None → (expired m).machine ≡ m
 expired_none m = by (first_late m m.waiting)
   where

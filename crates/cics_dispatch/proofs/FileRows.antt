@@ -1,4 +1,5 @@
--- Worked examples of files: units backed out and committed, waiting for a record, update reads, browses.
+-- Worked examples of files: units backed out and committed, waiting for a record, update reads,
+-- browses.
 use Rattle.std.specs.Prelude.{◌≡◌, ℕ, true, false, Some, None, List, [], ◌∷◌, ◌++◌, refl}
 use Rattle.cics_names.specs.Keyed.{Bytes, Map}
 use Rattle.cics_names.specs.declared.conditions.Condition.TheVariants.{Normal, Dsiderr, Notfnd, Duprec, Invreq, Endfile, Lengerr}
@@ -104,7 +105,8 @@ waiting_listed = refl
 one_of_two : (left two_accounts (does t1 (read_update acct key_1) ∷ does t2 (read_update acct key_2) ∷ does t1 (Rewrite acct record_1z None) ∷ does t2 (Rewrite acct record_2x None) ∷ does t1 Rollback ∷ does t2 Syncpoint ∷ [])).files ≡ files_with ((key_1, record_1) ∷ (key_2, record_2x) ∷ []) []
 one_of_two = refl
 
--- three tasks want a key: the second has it once the first has committed its delete, the third once the second is rolled back
+-- three tasks want a key: the second has it once the first has committed its delete, the third once
+-- the second is rolled back
 abbrev three_want : List Event
 three_want =
     attaches t3 0 ∷ does t1 (delete acct key_1) ∷ does t2 (write acct key_1 record_1z) ∷ does t3 (write acct key_1 record_1z)
@@ -122,7 +124,8 @@ uncommitted = refl
 
 -- ---- Update reads
 
--- UNLOCK ends the update read of a recoverable file, and its record stays held until the unit's end
+-- UNLOCK ends the update read of a recoverable file, and its record stays owned until the unit's
+-- end
 abbrev unlocked : List Event
 unlocked = does t1 (read_update acct key_1) ∷ does t1 (Unlock acct) ∷ does t2 (read_update acct key_1) ∷ does t1 Syncpoint ∷ []
 
@@ -152,11 +155,11 @@ delete_read : journal both_files (asks t1 (Delete acct None None false) ∷ does
     ∷ told t1 (replied Invreq) ∷ told t1 normal ∷ told t1 (replied Notfnd) ∷ []
 delete_read = refl
 
--- a READ UPDATE that finds no record opens nothing and holds nothing
+-- a READ UPDATE that finds no record opens nothing and acquires nothing
 not_found : journal both_files (asks t1 (read_update acct key_2) ∷ does t1 (read_update acct key_1) ∷ does t2 (write acct key_2 record_2) ∷ []) ≡ told t1 (replied Notfnd) ∷ told t1 (gives record_1) ∷ told t2 normal ∷ []
 not_found = refl
 
--- LENGERR of a READ UPDATE counts as read: the record is held
+-- LENGERR of a READ UPDATE counts as read: the record is owned
 cut_update : journal both_files (asks t1 (Read acct key_1 None (Some 4) false false true) ∷ does t2 (delete acct key_1) ∷ []) ≡ told t1 (Replied (record { condition = Lengerr; key = None; content = Some key_1; number = None })) ∷ told t2 (Waiting t1) ∷ []
 cut_update = refl
 
@@ -189,7 +192,8 @@ next = asks t1 (ReadNext acct None)
 abbrev prev : Event
 prev = asks t1 (ReadPrev acct None)
 
--- from the file's end back, and on in both directions: a change of direction gives the same record again
+-- from the file's end back, and on in both directions: a change of direction gives the same record
+-- again
 from_the_end : journal two_accounts (
     does t1 (StartBr acct (255 ∷ 255 ∷ 255 ∷ 255 ∷ []) None false false) ∷ prev ∷ next ∷ next ∷ prev ∷ prev
     ∷ does t1 (ResetBr acct key_2 None false false) ∷ next ∷ does t1 (EndBr acct) ∷ next ∷ []
@@ -215,7 +219,8 @@ under_change : journal (with_record two_accounts acct record_3) (
     ) ≡ told t1 normal ∷ told t1 (given key_1 record_1) ∷ told t2 normal ∷ told t1 (given key_3 record_3) ∷ told t2 normal ∷ told t1 (given key_3 record_3) ∷ told t1 (given key_2 record_2) ∷ []
 under_change = refl
 
--- a browse is one for each task and file, STARTBR that finds nothing opens none, and any SYNCPOINT ends it
+-- a browse is one for each task and file, STARTBR that finds nothing opens none, and any SYNCPOINT
+-- ends it
 browse_ends : journal both_files (
     asks t1 (StartBr acct key_2 None false true) ∷ next ∷ does t1 (StartBr acct key_1 None false true) ∷ asks t1 (StartBr acct key_1 None false true)
     ∷ does t1 Syncpoint ∷ next ∷ []
@@ -252,7 +257,8 @@ order_of_checks = refl
 no_unit : tasks_listed (at_end both_files (asks t1 (write acct key_1 record_2) ∷ asks t2 (delete acct key_2) ∷ [])) ≡ (t1, Idle) ∷ (t2, HasUnit) ∷ []
 no_unit = refl
 
--- a check comes before the wait: the record is held by the other unit, and LENGERR is told all the same
+-- a check comes before the wait: the record is owned by the other unit, and LENGERR is told all the
+-- same
 check_before_wait : journal both_files (does t1 (delete acct key_1) ∷ asks t2 (write acct key_1 []) ∷ does t2 (write acct key_1 record_1) ∷ []) ≡ told t1 normal ∷ told t2 (replied Lengerr) ∷ told t2 (Waiting t1) ∷ []
 check_before_wait = refl
 
@@ -278,7 +284,8 @@ other_key = 0xF9 ∷ zeros
 abbrev record_9 : Bytes
 record_9 = key_9 ++ 0x95 ∷ []
 
--- it holds every key that begins with its prefix, present or not, and a backout brings the records back
+-- it acquires every key that begins with its prefix, present or not, and a backout brings the
+-- records back
 abbrev prefix_held : List Event
 prefix_held = does t1 (delete_generic zeros) ∷ does t2 (write acct key_9 record_9) ∷ does t1 Rollback ∷ []
 
@@ -288,7 +295,7 @@ prefix_held_journal = refl
 prefix_held_left : (left both_files prefix_held).files ≡ files_with ((key_1, record_1) ∷ (key_9, record_9) ∷ []) []
 prefix_held_left = refl
 
--- where no key begins with it it is NOTFND, and holds nothing; a prefix of no byte is INVREQ
+-- if no key begins with it it is NOTFND, and acquires nothing; a prefix of no byte is INVREQ
 prefix_absent : journal both_files (asks t1 (delete_generic (0xF9 ∷ [])) ∷ does t2 (write acct other_key other_key) ∷ asks t1 (delete_generic []) ∷ []) ≡ told t1 (replied Notfnd) ∷ told t2 normal ∷ told t1 (replied Invreq) ∷ []
 prefix_absent = refl
 
@@ -296,7 +303,7 @@ prefix_absent = refl
 generic_alone : journal both_files (does t1 (read_update acct key_1) ∷ asks t1 (Delete acct None None true) ∷ []) ≡ told t1 (gives record_1) ∷ told t1 (replied Invreq) ∷ []
 generic_alone = refl
 
--- it waits for a unit that holds a key of the prefix, and deletes once that unit was backed out
+-- it waits for a unit that owns a key of the prefix, and deletes once that unit was backed out
 prefix_waits : journal two_accounts (does t1 (delete acct key_2) ∷ does t2 (delete_generic zeros) ∷ does t1 Rollback ∷ []) ≡ told t1 normal ∷ told t2 (Waiting t1) ∷ told t1 normal ∷ woke t2 (deleted 2) ∷ []
 prefix_waits = refl
 

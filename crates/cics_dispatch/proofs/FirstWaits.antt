@@ -1,4 +1,4 @@
--- The first of the waiting commands: the one that goes on, and the one whose task's time is over.
+-- The first of the waiting commands: the one that resumes, and the one whose task's time is over.
 use Rattle.std.specs.Prelude.{◌≡◌, Bool, true, false, cond, ◌||◌, Option, Some, None, Result, Ok, Err, IfOk, IsErr, List, [], ◌∷◌, refl}
 use Rattle.std.specs.List.{list_any}
 use Rattle.std.proofs.Common.{sym, ap, subst, ◌∙◌}
@@ -51,7 +51,7 @@ module _ (m : Machine) where
         | false ↦ λ passed found. one_more late w ws t.label passed (first_ends t ws found)
       ] refl is
 
--- the command that goes on is the first that may
+-- the command that resumes is the first that may
 pub first_woken : (m n : Machine) (e : Woken) → with_outcome (Some e) n ≡ woken m → IsFirstToGoOn m e.label
 first_woken m n e step = by (first_free m m.waiting) refl (ap (λ s. s.outcome) step)
   where

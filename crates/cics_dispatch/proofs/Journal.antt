@@ -1,5 +1,5 @@
--- Worked examples as a script and its journal: the events one after the other, and after each the wake-ups and time-outs
--- that it brings.
+-- Worked examples as a script and its journal: the events one after the other, and after each the
+-- wake-ups and time-outs that it brings.
 use Rattle.std.specs.Prelude.{ℕ, zero, suc, true, false, Some, None, Result, Ok, Err, List, [], ◌∷◌, ◌++◌}
 use Rattle.cics_names.specs.Keyed.{Bytes}
 use Rattle.cics_names.specs.declared.conditions.AbendCode.{AbendCode}
@@ -14,7 +14,8 @@ use Rattle.cics_dispatch.specs.declared.outcomes.Outcome.{Outcome}
 use Rattle.cics_dispatch.specs.declared.outcomes.Refused.{Refused}
 use Rattle.cics_dispatch.proofs.Examples.{t1, t2}
 
--- a task is attached with its DTIMOUT; a command without RESP; one with RESP; the clock is set; the region is shut down
+-- a task is attached with its DTIMOUT; a command without RESP; one with RESP; the clock is set; the
+-- region is shut down
 pub data Event : Type 0 where
   attaches : Bytes → ℕ → Event
   does : Bytes → Verb → Event
@@ -22,8 +23,8 @@ pub data Event : Type 0 where
   clock : ℕ → Event
   shuts : Event
 
--- a task is attached; what a command came to; a refused event; the clock; a refused event without a task; the units that a
--- shutdown backed out; what a woken command came to; a time-out
+-- a task is attached; what a command came to; a refused event; the clock; a refused event without a
+-- task; the units that a shutdown backed out; what a woken command came to; a time-out
 pub data Line : Type 0 where
   began : Bytes → Line
   told : Bytes → Outcome → Line
@@ -91,7 +92,7 @@ run m (e ∷ es) =
 abbrev pub two_tasks : OpeningState → Machine
 two_tasks o = (run (beginning_region o) (attaches t1 5 ∷ attaches t2 5 ∷ [])).machine
 
--- what a script prints after its two ATTACH lines, where it ends, and the store then
+-- what a script prints after its two ATTACH lines, what it ends with, and the store then
 abbrev pub journal : OpeningState → List Event → List Line
 journal o es = (run (two_tasks o) es).lines
 

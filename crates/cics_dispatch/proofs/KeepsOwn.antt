@@ -1,4 +1,4 @@
--- Recovery: a command that gives up nothing leaves its own unit what it holds, and perhaps more.
+-- Recovery: a command that releases nothing leaves its own unit what it owns, and perhaps more.
 use Rattle.std.specs.Prelude.{◌≡◌, ℕ, ◌+◌, ◌==◌, Bool, true, false, not, cond, if◌then◌else◌, ◌&&◌, Option, List, [], ◌∷◌, ◌++◌, filter, flat_map, refl}
 use Rattle.std.specs.List.{list_any}
 use Rattle.std.proofs.Common.{inl, inr, sym, ap, ◌∙◌, subst}
@@ -25,7 +25,7 @@ use Rattle.cics_history.proofs.Waiting.{any_flat_map}
 use Rattle.cics_history.proofs.Holders.{any_if}
 use Rattle.cics_dispatch.proofs.OtherUnits.{lives_with, item_read_is}
 
--- an open unit is open yet, and what it holds passes a test yet
+-- an open unit is open yet, and what it owns passes a test yet
 pub record Keeps (old new : UnitsState) (v : ℕ) : Type 0 where
   pub live : is_live old v ≡ true → is_live new v ≡ true
   pub held : (p : Resource → Bool) → list_any p (held_by old v) ≡ true → list_any p (held_by new v) ≡ true
@@ -92,16 +92,16 @@ more_read f p r (x ∷ xs) has =
       | false ↦ more_head f p x xs (with_read r xs) (more_read f p r xs) has
     ]
 
--- ---- What a command gives up
+-- ---- What a command releases
 
--- a command ends update reads of recoverable files alone, which hold nothing
+-- a command ends update reads of recoverable files alone, by which nothing is owned
 abbrev pub gives_up_nothing : OpeningState → Op → Bool
 gives_up_nothing o (Rewrite f k d) = file_recoverable o f
 gives_up_nothing o (Delete f k) = file_recoverable o f
 gives_up_nothing o (DeleteGeneric f p) = file_recoverable o f
 gives_up_nothing o _ = true
 
--- an update read of a recoverable file holds nothing
+-- by an update read of a recoverable file nothing is owned
 read_recoverable : (o : OpeningState) (v : ℕ) (r : UpdateRead) (f : Bytes) → is_same r.file f ≡ true → file_recoverable o f ≡ true → held_by_read o v r ≡ []
 read_recoverable o v r f same recoverable = by (r.unit == v) (ap (file_recoverable o) (is_same-eq r.file f same) ∙ recoverable)
   where
@@ -190,7 +190,7 @@ entered_keeps s u v op a keeps =
     (λ p. more_last (held_by_entry s.opening v) p (record { unit = unit_or_next u s.outcomes; op = op; answer = a }) s.trace)
     (λ p. reads_kept s.opening (unit_or_next u s.outcomes) v op a.condition p s.reads keeps) (λ p has. has)
 
--- ENQ that takes its value
+-- ENQ that acquires its value
 pub counted_keeps : (s : UnitsState) (u : Option ℕ) (v : ℕ) (value : Bytes) → Keeps s (with_counts s (outcomes_with u s.outcomes) (counted s.counts (unit_or_next u s.outcomes) value)) v
 counted_keeps s u v value =
     has_yet s (with_counts s (outcomes_with u s.outcomes) (counted s.counts (unit_or_next u s.outcomes) value)) v (lives_with u s.outcomes v) (outcome_of-with u s.outcomes v) (λ p has. has) (λ p has. has)

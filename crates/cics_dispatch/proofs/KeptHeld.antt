@@ -1,4 +1,5 @@
--- Task control: a command that gives up nothing leaves its task's unit what it holds, where the task isn't abended.
+-- Task control: a command that releases nothing leaves its task's unit what it owns, if the task
+-- isn't abended.
 use Rattle.std.specs.Prelude.{◌≡◌, ℕ, Bool, true, false, if◌then◌else◌, Option, Some, None, option_map, take, refl}
 use Rattle.std.proofs.Common.{sym, subst}
 use Rattle.std.proofs.lemmas.Bool.{false≢true}
@@ -43,14 +44,14 @@ told_same n t false r goes = by (default_abend_of r.condition) goes
     by None goes = refl
     by (Some code) goes = absurd (false≢true goes)
 
--- so its unit holds what it holds there
+-- so its unit owns what it owns there
 told_keeps : (m n : Machine) (t : Task) (v : ℕ) (resp : Bool) (r : Reply) → Keeps m.units n.units v → goes_on (answered n t resp r).outcome ≡ true →
     Keeps m.units (answered n t resp r).machine.units v
 told_keeps m n t v resp r keeps goes = subst (λ x. Keeps m.units x.units v) (sym (told_same n t resp r goes)) keeps
 
 -- ---- The updating command that is asked for
 
--- it gives up nothing either
+-- it releases nothing either
 keeping_op : (m : Machine) (t : Task) (o : OpeningState) (verb : Verb) (c : Op) → is_keeping o verb ≡ true → op_of m t verb ≡ Some c → gives_up_nothing o c ≡ true
 keeping_op m t o (Read f key given n generic gteq false) c keeps is = cc
 keeping_op m t o (Read f key given n generic gteq true) c keeps is = let e : op.ReadUpdate f key ≡ c = cc in subst (λ c. gives_up_nothing o c ≡ true) e refl
@@ -169,7 +170,7 @@ module _ (m : Machine) (t : Task) (v : ℕ) where
     by_op_keeps None is keeps goes = other_keeps c.verb keeps goes
     by_op_keeps (Some o) is keeps goes = executed_keeps o (keeping_op m t m.units.opening c.verb o keeps is) (execution m.units t.unit o) goes
 
-    -- a command that gives up nothing, after which its task goes on
+    -- a command that releases nothing, after which its task goes on
     pub checked_keeps : is_keeping m.units.opening c.verb ≡ true → goes_on (checked m t c (fault_of m t c.verb)).outcome ≡ true → Keeps m.units (checked m t c (fault_of m t c.verb)).machine.units v
     checked_keeps keeps = by (fault_of m t c.verb)
       where

@@ -1,4 +1,5 @@
--- Task control: each step of a region keeps what holds between its tasks, its waiting commands and its units.
+-- Task control: each step of a region keeps what holds between its tasks, its waiting commands and
+-- its units.
 use Rattle.std.specs.Prelude.{◌≡◌, ◌≢◌, ℕ, ◌<◌, Bool, true, false, not, cond, if◌then◌else◌, nat_le, Option, Some, None, is_some, List, [], ◌∷◌, ◌++◌, All, length, slice_get, slice_set, refl}
 use Rattle.std.proofs.Common.{◌⊎◌, inl, inr, sym, ap, ◌∙◌, subst, arith}
 use Rattle.std.proofs.lemmas.Bool.{false≢true, and_parts}
@@ -64,7 +65,8 @@ no_owner_next m kept = record {
 
 -- ---- What is ready stays ready
 
--- whether an updating command is ready is told by the opening and the update reads that are open for the task's unit
+-- whether an updating command is ready is told by the opening and the update reads that are open
+-- for the task's unit
 ready_kept : (s n : UnitsState) (u : Option ℕ) (o : Op) → n.opening ≡ s.opening → ((f : Bytes) → has_read n u f ≡ has_read s u f) →
     is_ready_op n u o ≡ is_ready_op s u o
 ready_kept s n u (Write f k r) opening reads = rw opening refl
@@ -87,8 +89,8 @@ ready_yet s n u verb None opening reads is = absurd is
 
 -- ---- A step of one task
 
--- a task that no command waits for acts, and is put in its place: the other tasks keep their open units and their update
--- reads, and its own unit is open, and was its own or no task's
+-- a task that no command waits for acts, and is put in its place: the other tasks keep their open
+-- units and their update reads, and its own unit is open, and was its own or no task's
 module _ (m n : Machine) (t owner : Task) (at : ℕ) (kept : AreTasksKept m) (placed : slice_get m.tasks at ≡ Some t) (free : is_waiting m.waiting t.label ≡ false)
     (label : owner.label ≡ t.label) (tasks : n.tasks ≡ replaced m.tasks owner) (waiting : n.waiting ≡ m.waiting) (others : LeavesOthers m.units n.units t.unit)
     (owner_live : (u : ℕ) → owner.unit ≡ Some u → is_live n.units u ≡ true)
@@ -219,7 +221,7 @@ kept_attached m label dtimout kept none = record {
         All-cons (IsWaitKept (with_new_task m label dtimout)) w ws (wait_yet w (All-head (IsWaitKept m) w ws all))
         (waits_all ws (All-tail (IsWaitKept m) w ws all))
 
--- what a waiting command goes on with is told by the tasks and the units
+-- what a waiting command resumes with is told by the tasks and the units
 waiting_now : (m : Machine) (waiting : List Suspended) (clock : ℕ) → AreTasksKept m → All (IsWaitKept m) waiting →
     AreTasksKept (record m { waiting = waiting; clock = clock })
 waiting_now m waiting clock kept waits = record {
@@ -338,7 +340,7 @@ module _ (m : Machine) (at : ℕ) (t : Task) (kept : AreTasksKept m) (placed : s
           kept_in_unit _ unit same (entered_leaves m.units t.unit o (apply (store_of m.units) o).answer)
           (subst (λ v. is_live (state_of m.units t.unit o None) v ≡ true) same (acting_lives m.units t.unit (acts m at t kept placed)))
 
-  -- ENQ takes its value
+  -- ENQ acquires its value
   pub kept_enqueued : (value : Bytes) (unit : ℕ) → enqueue m.units t.unit value ≡ Taken unit →
       AreTasksKept (with_task (with_units m (after_enqueue m.units t.unit value)) (with_unit t unit))
   kept_enqueued value unit is =
@@ -403,7 +405,7 @@ module _ (m : Machine) (at : ℕ) (t : Task) (kept : AreTasksKept m) (placed : s
       let leaves = item_read_leaves m.units t.unit q item in
       kept_units (after_ts_reading m.units q item) leaves (λ u own. item_read_live m.units q item u (kept.open_units at t u placed own))
 
--- an abend, also where a command of the task waits
+-- an abend, also if a command of the task waits
 pub kept_abended : (m : Machine) (at : ℕ) (t : Task) → AreTasksKept m → slice_get m.tasks at ≡ Some t → AreTasksKept (abended m t)
 kept_abended m at t kept placed =
     kept_closed (with_waiting m (not_waiting m.waiting t.label)) at t (kept_not_waiting m t.label kept) placed (not_waiting_then m.waiting t.label) BackedOut true

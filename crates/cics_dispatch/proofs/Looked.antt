@@ -1,4 +1,5 @@
--- Waiting commands that were looked at: their notes are right, and the command and all before it needn't be looked at again.
+-- Waiting commands that were looked at: their notes are right, and the command and all before it
+-- needn't be looked at again.
 use Rattle.std.specs.Prelude.{◌≡◌, ℕ, ◌+◌, ◌<◌, ◌≤◌, ◌==◌, Bool, true, false, not, Option, Some, None, is_some, take, if◌then◌else◌, List, [], ◌∷◌, All, length, slice_get, slice_set, refl}
 use Rattle.std.specs.List.{list_any}
 use Rattle.std.proofs.Common.{◌⊎◌, zero, suc, inl, inr, sym, ap, ◌∙◌, subst, arith}
@@ -25,7 +26,7 @@ use Rattle.cics_dispatch.proofs.Looks.{waits_at}
 
 -- ---- The notes once a command was looked at
 
--- the notes stay right where there are more lines
+-- the notes stay right if there are more lines
 pub noted_more : (m : Machine) (rs qs : List Resource) (bs cs : List (Option ℕ)) (ns : List (Option Note)) (ws : List Suspended) → KeepsResources rs qs → KeepsBlockers bs cs → AreNoted m rs bs ns ws → AreNoted m qs cs ns ws
 noted_more m rs qs bs cs ns ws more kept = noted_each m m rs qs bs cs (λ k w is. record {
   label = is.label;
@@ -45,7 +46,8 @@ noted_alone m rs bs k w u blocked is = record {
   use_of = λ g own. cc;
 }
 
--- a unit that one command has to wait for keeps each waiting that uses the same and isn't of the unit's own task
+-- a unit that one command has to wait for keeps each waiting that uses the same and isn't of the
+-- unit's own task
 module _ (m : Machine) (rs : List Resource) (u g : ℕ) (v : Suspended) (blocked : IsBlocked m u v) (own : IsUse m.units.opening rs v g) (elsewhere : OwnerIsElsewhere m rs g u) where
   -- the command at a place
   blocked_too : (i : ℕ) (w : Suspended) → slice_get m.waiting i ≡ Some w → is_some (task_at m.tasks w.label) ≡ true → IsUse m.units.opening rs w g → IsBlocked m u w
@@ -141,7 +143,7 @@ closed_next bs (j ∷ ns) zero k n there known closed = (known, tt)
 closed_next bs (None ∷ ns) (suc i) k n there known closed = closed_next bs ns i k n there known closed
 closed_next bs (Some j ∷ ns) (suc i) k n there known closed = (closed.0, closed_next bs ns i k n there known closed.1)
 
--- where memory was refused
+-- if memory was refused
 looked_not : (m : Machine) (a : NotesValue) (at : ℕ) → AreNotedNow m a → IsLooked m a a at false
 looked_not m a at noted = record { noted = noted; closed = λ e. absurd (false≢true e); count_is = refl; long = refl }
 
@@ -194,7 +196,7 @@ module _ (m : Machine) (a : NotesValue) (at u : ℕ) (n : Note) (kept : AreTasks
     looked_line b false rows resources blockers deadlines =
         subst (λ v. IsLooked m a v at false) (λ i. record { rows = sym rows i; resources = sym resources i; blockers = sym blockers i; deadlines = sym deadlines i }) (looked_not m a at noted)
 
--- the first command that has to be looked at waits, and where it may go on it is the first that may
+-- the first command that has to be looked at waits, and if it may resume it is the first that may
 pub looked_waits : (m : Machine) (a : NotesValue) (at : ℕ) (n : Note) → AreTasksKept m → AreNotedNow m a → IsFirstOpen a at n → is_waiting m.waiting n.label ≡ true
 looked_waits m a at n kept noted first =
     let here = first_at m a.resources a.blockers a.rows m.waiting at n kept noted.noted first.there first.before in

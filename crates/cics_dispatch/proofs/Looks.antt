@@ -33,7 +33,7 @@ use Rattle.cics_dispatch.proofs.RegionWaking.{first_free-goes, free_aside, woken
 
 -- ---- The wait of a label
 
--- where a label has one number, it has one wait
+-- if a label has one number, it has one wait
 pub apart_rows : (es : Rows) → AreOnce es → AreApart (values_of es)
 apart_rows [] once = tt
 apart_rows (e ∷ es) once = (is_waiting-number es e.1.label ∙ ap is_some once.0, apart_rows es once.1)
@@ -65,7 +65,7 @@ waits_at (v ∷ ws) zero w is =
 waits_at (v ∷ ws) (suc i) w is =
     elim (is_same v.label w.label) as (λ b. cond b true (is_waiting ws w.label) ≡ true) [ true ↦ refl | false ↦ waits_at ws i w is ]
 
--- and where no two are of one label, it is that label's
+-- and if no two are of one label, it is that label's
 pub wait_at : (ws : List Suspended) (i : ℕ) (w : Suspended) → AreApart ws → slice_get ws i ≡ Some w → wait_of ws w.label ≡ Some w
 wait_at [] i w apart is = cc
 wait_at (v ∷ ws) zero w apart is =
@@ -87,13 +87,13 @@ of_wait P x ws label apart is holds = λ i w there own.
     let same : x ≡ w = cc in
     subst P same holds
 
--- and where none is found, none has the label
+-- and if none is found, none has the label
 pub no_wait : (P : Suspended → Type 0) (ws : List Suspended) (label : Bytes) → AreApart ws → None ≡ wait_of ws label → OfWait ws label P
 no_wait P ws label apart is = λ i w there own.
     let both : None ≡ Some w = one_wait None ws label i w apart is there own in
     cc
 
--- but where one waits it is found, and its task is there
+-- but if one waits it is found, and its task is there
 pub wait_there : (ws : List Suspended) (label : Bytes) → is_waiting ws label ≡ true → None ≡ wait_of ws label → ⊥
 wait_there [] label waits none = false≢true waits
 wait_there (w ∷ ws) label waits none =
@@ -106,7 +106,7 @@ pub wait_has_task : (m : Machine) (x : Suspended) (label : Bytes) → All (IsWai
 wait_has_task m x label kept found none =
     false≢true (sym (ap is_some (ap (task_at m.tasks) (wait_of_label x m.waiting label (sym found)) ∙ none)) ∙ (wait_of_has (IsWaitKept m) x m.waiting label kept (sym found)).of_task)
 
--- ---- The first that may go on
+-- ---- The first that may resume
 
 -- it stands at a place
 first_free_at : (m : Machine) (w : Suspended) (ws : List Suspended) → first_free m ws ≡ Some w → (i : ℕ) × (slice_get ws i ≡ Some w)
@@ -141,7 +141,7 @@ first_aside m a ws label aside same is = record {
   own = is.own;
 }
 
--- what has gone on has its label
+-- what has resumed has its label
 woken_label : (m n : Machine) (ws : List Suspended) (label : Bytes) (k : Woken) → IsFirstFreeOf m ws label →
     with_outcome (Some k) n ≡ woken_first m (first_free m ws) → k.label ≡ label
 woken_label m n ws label k is step = by (task_at m.tasks is.wait.label) (step ∙ ap (woken_first m) is.first) ∙ is.own
@@ -154,7 +154,7 @@ woken_label m n ws label k is step = by (task_at m.tasks is.wait.label) (step �
         let one : k ≡ record { label = is.wait.label; outcome = s.outcome } = cc in
         ap (λ w. w.label) one
 
--- and where it has gone on, its wait is taken out of those that come back
+-- and if it has resumed, its wait is taken out of those that come back
 pub went_back : (m a n : Machine) (w : Woken) (label : Bytes) (ws back : List Suspended) → All (IsWaitKept m) m.waiting → a ≡ with_waiting m [] → ws ≡ m.waiting →
     IsFirstFree m label → with_outcome (Some w) n ≡ woken_first a (first_free a ws) → back ≡ not_waiting ws label →
     with_outcome (Some w) (with_waiting n back) ≡ woken m

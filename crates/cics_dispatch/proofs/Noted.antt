@@ -84,7 +84,7 @@ noted_as m v rs bs ns ks resources blockers rows deadlines noted due =
     subst (λ x. AreNotedNow m x) (λ i. record { rows = sym rows i; resources = sym resources i; blockers = sym blockers i; deadlines = sym deadlines i })
     (record { noted = noted; due = due })
 
--- where no note is made yet they are right
+-- if no note is made yet they are right
 pub noted_empty : (m : Machine) (v : NotesValue) → v.rows ≡ [] → v.deadlines ≡ [] → AreNotedNow m v
 noted_empty m v none timeless = noted_as m v v.resources v.blockers [] [] refl refl none timeless tt tt
 
@@ -142,7 +142,7 @@ first_at m rs bs (Some k ∷ ns) (w ∷ ws) (suc i) n kept is there closed =
     let later = first_at m rs bs ns ws i n kept is.1 there closed.1 in
     record { wait = later.wait; place = suc later.place; there = later.there; noted = later.noted; first = λ goes. passed m rs bs k w ws kept is.0 closed.0 ∙ later.first goes }
 
--- where each waiting command is blocked none goes on
+-- if each waiting command is blocked none resumes
 pub none_free : (m : Machine) (rs : List Resource) (bs : List (Option ℕ)) (ns : List (Option Note)) (ws : List Suspended) → AreTasksKept m → AreNoted m rs bs ns ws → AreClosed bs ns → count ns ≡ length ws → first_free m ws ≡ None
 none_free m rs bs [] [] kept is closed all = refl
 none_free m rs bs [] (w ∷ ws) kept is closed all = cc
@@ -233,7 +233,7 @@ module _ (unit : Option ℕ) (bs : List (Option ℕ)) where
       by None = refl
       by (Some g) = of_line_given unit bs g
 
--- where no unit is forgotten all stays
+-- if no unit is forgotten all stays
 pub given_none : (bs : List (Option ℕ)) → map (given_up None) bs ≡ bs
 given_none [] = refl
 given_none (b ∷ bs) = ap (λ r. b ∷ r) (given_none bs)
@@ -302,7 +302,8 @@ waits_last : (ws : List Suspended) (w : Suspended) → is_waiting (ws ++ w ∷ [
 waits_last [] w = ap (λ b. cond b true false) (is_same-self w.label)
 waits_last (v ∷ ws) w = elim (is_same v.label w.label) as (λ b. cond b true (is_waiting (ws ++ w ∷ []) w.label) ≡ true) [ true ↦ refl | false ↦ waits_last ws w ]
 
--- after a step of a task of which no command waited the others wait, and none of it does, or one behind them
+-- after a step of a task of which no command waited the others wait, and none of it does, or one
+-- behind them
 pub waits_then : (m n : Machine) (label : Bytes) → Waits label m n → is_waiting m.waiting label ≡ false → (more : List Suspended) × (n.waiting ≡ m.waiting ++ more) × (is_waiting n.waiting label ≡ false → n.waiting ≡ m.waiting)
 waits_then m n label waits awake = elim waits [
   | inl same ↦ as_before same

@@ -1,4 +1,5 @@
--- Recovery: what a step of a unit of work leaves to the other open units: they stay open, with their update reads.
+-- Recovery: what a step of a unit of work leaves to the other open units: they stay open, with
+-- their update reads.
 use Rattle.std.specs.Prelude.{◌≡◌, ◌≢◌, ℕ, ◌<◌, ◌==◌, Bool, true, false, not, cond, ◌&&◌, Option, Some, None, List, [], ◌∷◌, ◌++◌, length, filter, nat_lt, refl}
 use Rattle.std.proofs.Common.{length-append, sym, ap, ◌∙◌, arith}
 use Rattle.std.proofs.lemmas.Bool.{false≢true, and_parts, and_from, ltb-true, lt-ltb, eqb-true, ne_eqb, false_from_ne_true}
@@ -22,7 +23,8 @@ use Rattle.cics_history.proofs.Outcomes.{outcome_of-push, outcome_of-set}
 use Rattle.cics_history.proofs.States.{acting_open}
 use Rattle.cics_dispatch.specs.Machine.{units_after}
 
--- a step of a unit, or of a task without one, leaves the opening, and every other open unit with its update reads
+-- a step of a unit, or of a task without one, leaves the opening, and every other open unit with
+-- its update reads
 pub record LeavesOthers (old new : UnitsState) (u : Option ℕ) : Type 0 where
   pub opening : new.opening ≡ old.opening
   pub live : (v : ℕ) → (u ≡ Some v → ⊥) → is_live old v ≡ true → is_live new v ≡ true
@@ -125,7 +127,7 @@ entered_leaves s u op a = record {
   reads = λ v f other live. read_at-reads_after (unit_or_next u s.outcomes) v f op a.condition s.reads (acting_other s u v other live);
 }
 
--- ENQ that takes its value
+-- ENQ that acquires its value
 pub counted_leaves : (s : UnitsState) (u : Option ℕ) (counts : List EnqCount) → LeavesOthers s (with_counts s (outcomes_with u s.outcomes) counts) u
 counted_leaves s u counts = record {
   opening = refl;
@@ -147,7 +149,7 @@ unlocked_leaves s u f = record {
       (λ r own. ap (λ b. not (b && is_same r.file f)) (other_unit u v r.unit (λ e. other (ap Some e)) own)) s.reads;
 }
 
--- READQ TS moves the NEXT place of a queue alone
+-- READQ TS moves the NEXT cursor of a queue alone
 pub item_read_is : (P : UnitsState → Type 0) (s : UnitsState) (q : Bytes) (item : ℕ) → P s →
     P (record { opening = s.opening; trace = s.trace; outcomes = s.outcomes; commits = s.commits; reads = s.reads; counts = s.counts; next = with_value q item s.next }) → P (after_ts_reading s q item)
 item_read_is P s q item stays moved =

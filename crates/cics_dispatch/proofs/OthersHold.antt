@@ -1,4 +1,4 @@
--- Recovery: what a step of a unit of work leaves to the other open units: they hold what they held.
+-- Recovery: what a step of a unit of work leaves to the other open units: they own what they owned.
 use Rattle.std.specs.Prelude.{◌≡◌, ◌≢◌, ℕ, ◌-◌, ◌+◌, ◌==◌, Bool, true, false, not, cond, ◌&&◌, Option, Some, None, List, [], ◌∷◌, ◌++◌, filter, flat_map, nat_lt, refl}
 use Rattle.std.proofs.Common.{sym, ap, ◌∙◌}
 use Rattle.std.proofs.lemmas.Bool.{and_parts, eqb-true, ne_eqb}
@@ -22,7 +22,7 @@ use Rattle.cics_history.proofs.Outcomes.{outcome_of-with, outcome_of-set}
 use Rattle.cics_dispatch.specs.Machine.{units_after}
 use Rattle.cics_dispatch.proofs.OtherUnits.{acting_other, item_read_is}
 
--- a step of a unit, or of a task without one, leaves every other open unit what it holds
+-- a step of a unit, or of a task without one, leaves every other open unit what it owns
 pub record LeavesHeld (old new : UnitsState) (u : Option ℕ) : Type 0 where
   pub held : (v : ℕ) → (u ≡ Some v → ⊥) → is_live old v ≡ true → held_by new v ≡ held_by old v
 
@@ -139,7 +139,7 @@ counts_uncounted u v value apart (c ∷ cs) =
 
 -- ---- The steps
 
--- a unit that is as open as it was, and has what it had, holds what it held
+-- a unit that is as open as it was, and has what it had, owns what it owned
 holds_yet : (old new : UnitsState) (v : ℕ) → outcome_of new.outcomes v ≡ outcome_of old.outcomes v →
     flat_map (held_by_entry new.opening v) new.trace ≡ flat_map (held_by_entry old.opening v) old.trace →
     flat_map (held_by_read new.opening v) new.reads ≡ flat_map (held_by_read old.opening v) old.reads →
@@ -161,7 +161,7 @@ entered_held s u op a = record {
       (reads_entered s.opening (unit_or_next u s.outcomes) v op a.condition s.reads apart) refl;
 }
 
--- ENQ that takes its value
+-- ENQ that acquires its value
 pub counted_held : (s : UnitsState) (u : Option ℕ) (value : Bytes) → LeavesHeld s (with_counts s (outcomes_with u s.outcomes) (counted s.counts (unit_or_next u s.outcomes) value)) u
 counted_held s u value = record {
   held = λ v other live.

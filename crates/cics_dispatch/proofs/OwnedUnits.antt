@@ -41,7 +41,7 @@ open_alone Open e = refl
 open_alone Committed e = cc
 open_alone BackedOut e = cc
 
--- a unit is open where its outcome is there, and is the one of an open unit
+-- a unit is open if its outcome is there, and is the one of an open unit
 live_there : (s : UnitsState) (u : ℕ) → is_live s u ≡ true → slice_get s.outcomes u ≡ Some Open
 live_there s u live =
     let parts = and_parts (nat_lt u (length s.outcomes)) (is_open (outcome_of s.outcomes u)) live in
@@ -72,7 +72,7 @@ owner_found m u ts (Some x) owned live view none = refl
 -- ---- A task in the place of another
 
 module _ (t owner : Task) (label : owner.label ≡ t.label) where
-  -- where no other task has its label, it stands at the place of the other
+  -- if no other task has its label, it stands at the place of the other
   replaced_at : (ts : List Task) (at : ℕ) → slice_get ts at ≡ Some t → ((j : ℕ) → had_at own_label ts j ≡ Some owner.label → j ≡ at) →
       slice_get (replaced ts owner) at ≡ Some owner
   replaced_at [] at there one = cc
@@ -126,7 +126,7 @@ module _ (owner : Task) where
 
 -- ---- What a step keeps
 
--- where the tasks and the outcomes of units stay, so does whose they are
+-- if the tasks and the outcomes of units stay, so does whose they are
 pub owned_same : (m n : Machine) → n.tasks ≡ m.tasks → n.units.outcomes ≡ m.units.outcomes → AreUnitsOwned m → AreUnitsOwned n
 owned_same m n tasks outcomes owned = record {
   owned = λ u live none. owned.owned u (there_live m.units u (ap (λ o. slice_get o u) (sym outcomes) ∙ live_there n.units u live)) (subst (λ ts. HasNoOwner ts u) tasks none);
@@ -201,8 +201,8 @@ owned_suspended m ws owned = owned_same m (with_waiting m ws) refl refl owned
 pub owned_clock : (m : Machine) (now : ℕ) → AreUnitsOwned m → AreUnitsOwned (record m { clock = now })
 owned_clock m now owned = owned_same m (record m { clock = now }) refl refl owned
 
--- a unit is open once a task acts in its unit, or in the next one, which begins: it was and is another's, or it is that
--- unit
+-- a unit is open once a task acts in its unit, or in the next one, which begins: it was and is
+-- another's, or it is that unit
 acts : (outcomes : List UnitState) (o : Option ℕ) (u : ℕ) → slice_get (outcomes_with o outcomes) u ≡ Some Open →
     ((slice_get outcomes u ≡ Some Open) × (o ≡ Some u → ⊥)) ⊎ (unit_or_next o outcomes ≡ u)
 acts outcomes None u there = by (nat_eq u (length outcomes)) refl (sym (get-pushed outcomes Open u) ∙ there)
@@ -253,7 +253,7 @@ module _ (m : Machine) (t : Task) (at : ℕ) (there : slice_get m.tasks at ≡ S
           let is : unit_or_next t.unit m.units.outcomes ≡ unit = cc in
           owned_acts (state_of m.units t.unit o None) unit is refl
 
-  -- ENQ takes its value
+  -- ENQ acquires its value
   pub owned_enqueued : (value : Bytes) (unit : ℕ) → enqueue m.units t.unit value ≡ Taken unit →
       AreUnitsOwned (with_task (with_units m (after_enqueue m.units t.unit value)) (with_unit t unit))
   owned_enqueued value unit taken =

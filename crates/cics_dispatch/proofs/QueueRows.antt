@@ -1,4 +1,5 @@
--- Worked examples of queues: temporary storage with its NEXT places, and both ends of a transient data queue.
+-- Worked examples of queues: temporary storage with its NEXT cursors, and both ends of a transient
+-- data queue.
 use Rattle.std.specs.Prelude.{◌≡◌, ℕ, true, false, Option, Some, None, List, [], ◌∷◌, refl}
 use Rattle.cics_names.specs.Keyed.{Bytes}
 use Rattle.cics_names.specs.declared.conditions.Condition.{Condition}
@@ -46,7 +47,7 @@ next q = ReadqTs q None None
 abbrev item : Condition → ℕ → Option Bytes → Outcome
 item condition n content = Replied (record { condition = condition; key = None; content = content; number = Some (Item n) })
 
--- a rollback takes the queue away that its unit made, and its NEXT place is 0 then
+-- a rollback takes the queue away that its unit made, and its NEXT cursor is 0 then
 abbrev taken_away : List Event
 taken_away =
     does t1 (write_ts rq one) ∷ does t1 (write_ts rq two) ∷ does t1 (next rq) ∷ does t2 (next rq) ∷ does t1 Rollback
@@ -62,7 +63,7 @@ taken_away_left = refl
 taken_away_tasks : tasks_listed (at_end files_and_queues taken_away) ≡ (t1, Idle) ∷ (t2, HasUnit) ∷ []
 taken_away_tasks = refl
 
--- a rollback brings a queue back, and not its NEXT place: it stays at the item that was read last
+-- a rollback brings a queue back, and not its NEXT cursor: it stays at the item that was read last
 abbrev brought_back : List Event
 brought_back =
     does t1 (write_ts rq one) ∷ does t1 Syncpoint ∷ does t1 (rewrite_ts rq fresh 1) ∷ asks t1 (rewrite_ts rq two 2) ∷ does t1 (DeleteqTs rq)
@@ -79,13 +80,14 @@ brought_back_left = refl
 not_recoverable : (left files_and_queues (does t1 (write_ts acct one) ∷ does t1 (write_ts acct two) ∷ does t1 Rollback ∷ [])).ts ≡ (acct, one ∷ two ∷ []) ∷ []
 not_recoverable = refl
 
--- the name of a recoverable queue is held until the unit's end, that of another queue isn't
+-- the name of a recoverable queue is owned until the unit's end, that of another queue isn't
 name_held : journal files_and_queues (does t1 (write_ts rq one) ∷ does t1 (write_ts acct one) ∷ does t2 (write_ts acct two) ∷ does t2 (DeleteqTs rq)
     ∷ does t1 Syncpoint ∷ []) ≡ told t1 (item Normal 1 None) ∷ told t1 (item Normal 1 None) ∷ told t2 (item Normal 2 None) ∷ told t2 (Waiting t1)
     ∷ told t1 normal ∷ woke t2 normal ∷ []
 name_held = refl
 
--- LENGERR moves the NEXT place, ITEM(n) too; a length that is wrong comes before a queue that is absent
+-- LENGERR moves the NEXT cursor, ITEM(n) too; a length that is wrong comes before a queue that is
+-- absent
 places : journal files_and_queues (
     asks t1 (rewrite_ts rq [] 1) ∷ asks t1 (rewrite_ts rq one 1) ∷ does t1 (write_ts rq one) ∷ does t1 (write_ts rq two)
     ∷ asks t2 (ReadqTs rq (Some 1) None) ∷ does t2 (next rq) ∷ does t2 (ReadqTs rq None (Some 1)) ∷ does t2 (next rq) ∷ asks t2 (ReadqTs rq None (Some 0)) ∷ []
@@ -123,7 +125,8 @@ gives content = Replied (giving content)
 abbrev first_three : Reply
 first_three = record { condition = Lengerr; key = None; content = Some (0xF1 ∷ 0xF2 ∷ 0xF3 ∷ []); number = None }
 
--- a reader doesn't see the record of an open unit: it waits, or with NOSUSPEND it is QBUSY, which never abends
+-- a reader doesn't see the record of an open unit: it waits, or with NOSUSPEND it is QBUSY, which
+-- never abends
 uncommitted : journal files_and_queues (does t1 (put r1) ∷ does t2 (ReadqTd tdq1 None true) ∷ asks t2 get ∷ does t1 Rollback ∷ []) ≡ told t1 normal ∷ told t2 (replied Qbusy) ∷ told t2 (Waiting t1) ∷ told t1 normal ∷ woke t2 (replied Qzero) ∷ []
 uncommitted = refl
 
@@ -163,7 +166,7 @@ writer_last = refl
 both_kept : (left with_r1 (does t1 get ∷ does t2 (put r2) ∷ does t1 Syncpoint ∷ does t2 Syncpoint ∷ [])).td ≡ (tdq1, r2 ∷ []) ∷ []
 both_kept = refl
 
--- DELETEQ TD holds both ends, also where the writer is the same unit
+-- DELETEQ TD acquires both ends, also if the writer is the same unit
 abbrev emptied : List Event
 emptied = does t1 (put r2) ∷ does t1 (DeleteqTd tdq1) ∷ does t2 (put r3) ∷ does t1 Rollback ∷ []
 
@@ -173,7 +176,8 @@ emptied_journal = refl
 emptied_left : (left with_r1 emptied).td ≡ (tdq1, r1 ∷ r3 ∷ []) ∷ []
 emptied_left = refl
 
--- a short LENGTH is LENGERR, and the record counts as read; unhandled it abends, and the record comes back
+-- a short LENGTH is LENGERR, and the record counts as read; unhandled it abends, and the record
+-- comes back
 abbrev with_seven : OpeningState
 with_seven = with_td_record files_and_queues tdq1 seven
 

@@ -1,5 +1,5 @@
--- A command whose checks have passed asks for an updating command that is ready to be executed, with a key of no more bytes
--- than a key may have.
+-- A command whose checks have passed asks for an updating command that is ready to be executed,
+-- with a key of no more bytes than a key may have.
 use Rattle.std.specs.Prelude.{◌<◌, IfSome, ◌≡◌, ℕ, ◌+◌, ◌≤◌, Bool, true, false, if◌then◌else◌, not, ◌&&◌, ◌||◌, Option, Some, None, is_some, nat_le, option_map, length, [], ◌∷◌, refl}
 use Rattle.std.proofs.Common.{sym, subst, arith}
 use Rattle.std.proofs.lemmas.Bool.{false≢true, leb-true, le-leb, eqb-true}
@@ -28,7 +28,7 @@ use Rattle.cics_dispatch.proofs.RegionSteps.{task_there}
 
 -- ---- Checks that have passed
 
--- where no fault is the first, each check has passed
+-- if no fault is the first, each check has passed
 two_pass : (a b : Option Condition) → first_fault (a ∷ b ∷ []) ≡ None → (a ≡ None) × (b ≡ None)
 two_pass None None e = (refl, refl)
 two_pass None (Some c) e = cc
@@ -207,7 +207,7 @@ ready_of m t (DeleteqTd q) c passes is short =
     subst (λ c. is_ready_op m.units t.unit c ≡ true) e (queue_there m q passes)
 ready_of m t verb c passes is short = cc
 
--- the key that was read, where the command takes it over
+-- the key that was read, if the command takes it over
 of_read : (make : Bytes → Op) (o : Option Bytes) (c : Op) → ((k : Bytes) → key_of (make k) ≡ k) → ((k : Bytes) → o ≡ Some k → length k ≤ 255) →
     option_map make o ≡ Some c → length (key_of c) ≤ 255
 of_read make None c same were_short is = cc
@@ -219,7 +219,8 @@ of_read make (Some k) c same were_short is =
 no_key : (c o : Op) → o ≡ c → length (key_of o) ≡ 0 → length (key_of c) ≤ 255
 no_key c o same none = subst (λ c. length (key_of c) ≤ 255) same (omega (arith, none))
 
--- its key has no more bytes than a key may have, where the definition of its file is lawful and so is the key that was read
+-- its key has no more bytes than a key may have, if the definition of its file is lawful and so is
+-- the key that was read
 pub named_key_short : (m : Machine) (t : Task) (verb : Verb) →
     ((f : Bytes) (d : FileDef) → file_named verb ≡ Some f → definition_of m f ≡ Some d → is_key d ≡ true) →
     ((k : Bytes) → key_read m t (file_named verb) ≡ Some k → length k ≤ 255) →
@@ -304,7 +305,7 @@ only_enq m at verb within other ready = task_there m.tasks at within (λ t there
     by t (Enq value n nosuspend) is ready = other value n nosuspend is
     by t v is ready = ready
 
--- a command that is an ENQ is ready where the task may perform it
+-- a command that is an ENQ is ready if the task may perform it
 pub ready_enq : (m : Machine) (at : ℕ) (verb : Verb) → is_enq verb ≡ true → MayPerform m at verb → HasReady m at verb None
 ready_enq m at verb enq may = λ t there. by t verb enq (may.passed t there)
   where

@@ -30,7 +30,8 @@ pub never_none : {X : Type 0} (o : Option X) → is_some o ≡ true → None ≡
 never_none None some none = false≢true some
 never_none (Some x) some none = cc
 
--- the browse of a file, lent from these browses of a task, was moved from one position to another, and leaves other browses
+-- the browse of a file, lent from these browses of a task, was moved from one position to another,
+-- and leaves other browses
 pub record IsLent (f : Bytes) (browses : Map Position) (p q : Position) (left : Map Position) : Type 0 where
   pub open_at : value_at f browses ≡ Some p
   pub left_is : left ≡ with_value f q browses

@@ -26,7 +26,7 @@ use Rattle.cics_dispatch.proofs.KeptTasks.{with_task_placed, kept_enqueued, kept
 use Rattle.cics_dispatch.proofs.OwnedUnits.{owned_enqueued, owned_dequeued}
 use Rattle.cics_dispatch.proofs.RegionSteps.{kept_as, same_region}
 
--- the first bytes of a value, as many as LENGTH says, where its checks have passed
+-- the first bytes of a value, as many as LENGTH says, if its checks have passed
 pub first_fit : (n : ℕ) (value bytes : Bytes) → bytes ≡ value → (1 ≤ n) × (n ≤ 255) × (n ≤ length value) → (n ≡ length (take n bytes)) × (length (take n bytes) ≤ 255)
 first_fit n value bytes own fits =
     let first : length (take n bytes) ≡ n = length-take-le n bytes (subst (λ b. n ≤ length b) (sym own) fits.2) in
@@ -52,7 +52,7 @@ module _ {units : UnitsValue} {tasks : List Task} {waiting : List Suspended} {cl
 
 -- ---- ENQ
 
--- an ENQ takes its value for its task's unit, or for the next one
+-- an ENQ acquires its value for its task's unit, or for the next one
 takes_for : (s : UnitsState) (u : Option ℕ) (value : Bytes) (unit : ℕ) → enqueue s u value ≡ Taken unit → unit_or_next u s.outcomes ≡ unit
 takes_for s u value unit = by (value_holder s u value)
   where
@@ -64,7 +64,7 @@ takes_for s u value unit = by (value_holder s u value)
     by (Some holder) is = cc
     by None is = full _ is
 
--- an ENQ that has to wait waits for the unit that holds its value
+-- an ENQ that has to wait waits for the unit that owns its value
 pub enq_awaited : (s : UnitsState) (u : Option ℕ) (value : Bytes) (holder : ℕ) → enqueue s u value ≡ EnqMustWait holder → value_holder s u value ≡ Some holder
 enq_awaited s u value holder = by (value_holder s u value)
   where
@@ -107,7 +107,7 @@ module _ {units : UnitsValue} {tasks : List Task} {waiting : List Suspended} {cl
   pub waits_same : (holder : ℕ) → done ≡ EnqMustWait holder → region_of after tasks waiting clock is_down ≡ region_of units tasks waiting clock is_down
   waits_same holder is = same_region kept after (tried.state ∙ ap (after_enqueued units.state t.unit value) (tried.comes_to ∙ is)) headline
 
-  -- and so does one of a value that the unit holds the most times, which is told so
+  -- and so does one of a value that the unit owns the most times, which is told so
   module _ (full : done ≡ CountFull) where
     full_machine : (region_of after tasks waiting clock is_down).machine ≡ m
     full_machine = ap (with_units m) (tried.state ∙ ap (after_enqueued units.state t.unit value) (tried.comes_to ∙ full))
@@ -119,7 +119,7 @@ module _ {units : UnitsValue} {tasks : List Task} {waiting : List Suspended} {cl
         answered (region_of after tasks waiting clock is_down).machine t c.resp r ≡ enqueued m t c value (enqueue units.state t.unit value)
     full_step c r told = (λ i. answered (full_machine i) t c.resp (told i)) ∙ ap (enqueued m t c value) (sym (tried.comes_to ∙ full))
 
-  -- one that takes its value makes its unit the task's
+  -- one that acquires its value makes its unit the task's
   module _ (unit : ℕ) (taken : done ≡ Taken unit) where
     -- no other task has the unit that begins
     pub owner_free : t.unit ≡ None → HasNoOwner tasks unit

@@ -28,7 +28,7 @@ use Rattle.cics_dispatch.proofs.RegionEnqueuing.{first_fit}
 
 -- ---- The updating command that is asked for
 
--- there is something behind a reference just where there is one
+-- there is something behind a reference just if there is one
 pub copied_some : {X : Type 0} (o : Option (Bor X)) → is_some (option_copied o) ≡ is_some o
 copied_some None = refl
 copied_some (Some x) = refl
@@ -77,7 +77,7 @@ module _ (m : Machine) (label : Bytes) (c : Command) (t : Task) (is : task_at m.
       ap (issued_by m c) is
       ∙ (λ i. refused_or m ((sym (ap (issue_refusal m) is) ∙ refusal false false has waiting) i) (checked m t c (checks i)))
 
-  -- and it may want memory where it takes some and its checks have passed
+  -- and it may want memory if it takes some and its checks have passed
   pub wants_memory : t.has_ended ≡ false → is_waiting m.waiting label ≡ false → fault_of m t c.verb ≡ None → is_growing c.verb ≡ true → may_want m label c ≡ true
   wants_memory has waiting passes grows =
       (λ i. is_none (refusal false false has waiting i) && grows i && (ap (passes_checks m c.verb) is ∙ ap is_none passes) i)
@@ -98,7 +98,7 @@ issued_to now label at t waits seen found there goes_on waiting = subst (λ v. I
   waiting = waiting;
 })
 
--- it is awake where it doesn't wait
+-- it is awake if it doesn't wait
 pub issued_awake : (m : Machine) (label : Bytes) (at : ℕ) (t : Task) → IsIssuedTo m label at t false → IsAwake m at
 issued_awake m label at t to = λ s here.
     ap (λ x. is_waiting m.waiting x.label) (one_task m.tasks at here to.there) ∙ ap (is_waiting m.waiting) (place_of_task m.tasks label t to.of_label).2 ∙ to.waiting
@@ -162,7 +162,8 @@ browse_there m t verb f named moves passes = by (definition_of m f) (subst (λ o
     by None e = cc
     by (Some d) e = moving d verb (value_at f t.browses) moves e
 
--- what its checks have told of the task at a place that may perform a command: its file is defined, and its browse is open
+-- what its checks have told of the task at a place that may perform a command: its file is defined,
+-- and its browse is open
 module _ (m : Machine) (at : ℕ) (verb : Verb) (f : Bytes) where
   pub file_of : at < length m.tasks → MayPerform m at verb → file_named verb ≡ Some f → is_some (definition_of m f) ≡ true
   file_of within may named = task_there m.tasks at within (λ t there. file_there m t verb f named (may.passed t there))

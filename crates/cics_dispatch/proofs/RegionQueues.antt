@@ -16,7 +16,7 @@ module _ {units : UnitsValue} {tasks : List Task} {waiting : List Suspended} {cl
   abbrev m : Machine
   m = (region_of units tasks waiting clock is_down).machine
 
-  -- the NEXT place moves, and nothing else
+  -- the NEXT cursor moves, and nothing else
   pub item_read_machine : (region_of after tasks waiting clock is_down).machine ≡ with_units m (after_ts_reading units.state q item)
   item_read_machine = λ i. record { units = state i; tasks = tasks; waiting = waiting; clock = clock; is_down = is_down }
 

@@ -1,4 +1,5 @@
--- Task control: what a region remembers of its last looks at the waiting commands, after each of its calls.
+-- Task control: what a region remembers of its last looks at the waiting commands, after each of
+-- its calls.
 use Rattle.std.specs.Prelude.{◌≡◌, ℕ, ◌+◌, ◌≤◌, Bool, true, false, not, if◌then◌else◌, ◌&&◌, cond, Option, Some, None, Result, Ok, Err, List, [], ◌∷◌, All, map, length, slice_set, IfSome, refl}
 use Rattle.std.proofs.Common.{inl, inr, sym, ap, ◌∙◌, subst, arith}
 use Rattle.std.proofs.lemmas.Bool.{false≢true, and_parts}
@@ -79,7 +80,7 @@ remembered_clock m now v is_settled is_in_time is = record {
     }
     by (Some refusal) noted = noted
 
--- the same where the time isn't looked at
+-- the same if the time isn't looked at
 pub remembered_late : (m : Machine) (v : NotesValue) (is_settled is_in_time : Bool) → IsRemembered m v is_settled is_in_time → IsRemembered m v is_settled false
 remembered_late m v is_settled is_in_time is = record { noted = is.noted; settled = is.settled; in_time = λ set. absurd (false≢true set) }
 
@@ -93,7 +94,8 @@ forgot_of m c outcome unit = if is_keeping m.units.opening c.verb && goes_on out
 abbrev AreBoth : Machine → List Resource → List (Option ℕ) → List (Option Note) → List ℕ → List Suspended → Type 0
 AreBoth m rs bs ns ds ws = AreNoted m rs bs ns ws × AreDue m.tasks ns ws ds
 
--- after a command of a task the notes are right once that is forgotten, and where it doesn't wait the same commands wait
+-- after a command of a task the notes are right once that is forgotten, and if it doesn't wait the
+-- same commands wait
 abbrev noted_then : Machine → Machine → Bytes → List Resource → List (Option ℕ) → List (Option Note) → List ℕ → Type 0
 noted_then m n label rs bs ns ds = AreBoth n rs bs ns ds n.waiting × (is_waiting n.waiting label ≡ false → n.waiting ≡ m.waiting)
 
@@ -150,7 +152,7 @@ module _ (m : Machine) (c : Command) (rs : List Resource) (bs : List (Option ℕ
       by None is told = cc
       by (Some t) is told = by_refusal t (place_of_task m.tasks label t is).2 is (issue_refusal m (Some t)) refl told
 
--- ---- Commands that go on
+-- ---- Commands that resume
 
 -- waits that stand aside make no difference to the notes
 noted_aside : (m : Machine) (rs : List Resource) (bs : List (Option ℕ)) (ns : List (Option Note)) (ws vs : List Suspended) → AreNoted m rs bs ns vs → AreNoted (with_waiting m ws) rs bs ns vs
@@ -222,7 +224,7 @@ expired_noted m rs bs ns ds t unit kept noted first own =
 
 -- ---- What is remembered
 
--- where no command waits all is settled, and nobody has waited too long
+-- if no command waits all is settled, and nobody has waited too long
 pub remembered_alone : (m : Machine) (v : NotesValue) → v.rows ≡ [] → v.deadlines ≡ [] → m.waiting ≡ [] → IsRemembered m v true true
 remembered_alone m v nothing timeless none = record {
   noted = noted_empty m v nothing timeless;
@@ -230,14 +232,14 @@ remembered_alone m v nothing timeless none = record {
   in_time = λ set. subst (All (IsInTime m)) (sym none) (All-nil (IsInTime m));
 }
 
--- where all is settled none goes on
+-- if all is settled none resumes
 pub settled_free : (m : Machine) (v : NotesValue) → AreTasksKept m → AreNotedNow m v → AreSettled m v → woken m ≡ record { outcome = None; machine = m }
 settled_free m v kept noted settled = ap (woken_first m) (none_free m v.resources v.blockers v.rows m.waiting kept noted.noted settled.closed settled.all)
 
 pub woken_settled : (m : Machine) (v : NotesValue) (is_settled is_in_time : Bool) → AreTasksKept m → IsRemembered m v is_settled is_in_time → is_settled ≡ true → woken m ≡ record { outcome = None; machine = m }
 woken_settled m v is_settled is_in_time kept is set = settled_free m v kept is.noted (is.settled set)
 
--- where no task has waited too long none is abended
+-- if no task has waited too long none is abended
 pub expired_in_time : (m : Machine) (v : NotesValue) (is_settled is_in_time : Bool) → IsRemembered m v is_settled is_in_time → is_in_time ≡ true → expired m ≡ record { outcome = None; machine = m }
 expired_in_time m v is_settled is_in_time is set = ap (expired_task m) (none_late m m.waiting (is.in_time set))
 
@@ -278,7 +280,7 @@ remembered_issued m n label c outcome v new is_settled is_in_time was waits sett
 
 -- ---- Waking and time-out
 
--- where all may have to be looked at
+-- if all may have to be looked at
 pub remembered_open : (m : Machine) (v new : NotesValue) (is_settled is_in_time : Bool) → is_settled ≡ false → AreNotedNow m new → IsRemembered m v is_settled is_in_time → IsRemembered m new is_settled is_in_time
 remembered_open m v new is_settled is_in_time open_yet noted is = record {
   noted = noted;
@@ -286,11 +288,11 @@ remembered_open m v new is_settled is_in_time open_yet noted is = record {
   in_time = is.in_time;
 }
 
--- where none may go on
+-- if none may resume
 pub remembered_settled : (m : Machine) (v new : NotesValue) (is_settled is_in_time : Bool) → AreNotedNow m new → AreSettled m new → IsRemembered m v is_settled is_in_time → IsRemembered m new true is_in_time
 remembered_settled m v new is_settled is_in_time noted settled is = record { noted = noted; settled = λ set. settled; in_time = is.in_time }
 
--- where a command has gone on
+-- if a command has resumed
 pub remembered_woken : (m n : Machine) (v mid new : NotesValue) (at : ℕ) (label : Bytes) (unit : Option ℕ) (is_settled is_in_time : Bool) → AreTasksKept m → AreApart m.waiting → AreNotedNow m v → IsFreeAt m v at label →
     ((t : Task) → task_at m.tasks label ≡ Some t → unit ≡ t.unit) → n ≡ (woken m).machine → mid.rows ≡ slice_set v.rows at None → mid.blockers ≡ v.blockers → mid.resources ≡ v.resources →
     mid.deadlines ≡ slice_set v.deadlines at never → new.rows ≡ map (forgotten unit) mid.rows → new.blockers ≡ map (given_up unit) mid.blockers → new.resources ≡ mid.resources → new.deadlines ≡ mid.deadlines → is_settled ≡ false →
@@ -315,7 +317,7 @@ remembered_woken m n v mid new at label unit is_settled is_in_time kept apart no
           due_without m.tasks v.rows m.waiting v.deadlines at free.note apart noted.due free.there,
         )) free.first own
 
--- where a task has been abended for its time
+-- if a task has been abended for its time
 pub remembered_expired : (m n : Machine) (v new : NotesValue) (ns : List (Option Note)) (ds : List ℕ) (is_in_time : Bool) (t : Task) (unit : Option ℕ) → AreTasksKept m →
     AreNoted m v.resources v.blockers ns (not_waiting m.waiting t.label) → AreDue m.tasks ns (not_waiting m.waiting t.label) ds → first_late m m.waiting ≡ Some t → unit ≡ t.unit → n ≡ (expired m).machine →
     new.rows ≡ map (forgotten unit) ns → new.blockers ≡ map (given_up unit) v.blockers → new.resources ≡ v.resources → new.deadlines ≡ ds → is_in_time ≡ false → IsRemembered n new false is_in_time
@@ -333,6 +335,6 @@ pub note_at : (m : Machine) (v : NotesValue) (label : Bytes) (at : Option ℕ) �
 note_at m v label None noted place = tt
 note_at m v label (Some i) noted place = record { note = place.0; there = place.1; timed = due_within m.tasks v.rows m.waiting v.deadlines i place.0 noted.due place.1 }
 
--- where no task has waited too long
+-- if no task has waited too long
 pub remembered_early : (m : Machine) (v : NotesValue) (is_settled is_in_time : Bool) → IsRemembered m v is_settled is_in_time → first_late m m.waiting ≡ None → IsRemembered m v is_settled true
 remembered_early m v is_settled is_in_time is none = record { noted = is.noted; settled = is.settled; in_time = λ set. all_in_time m m.waiting none }

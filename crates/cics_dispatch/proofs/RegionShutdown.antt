@@ -1,4 +1,5 @@
--- A region that is shut down: its tasks end one after the other, and no unit is open then; a step of one that isn't.
+-- A region that is shut down: its tasks end one after the other, and no unit is open then; a step
+-- of one that isn't.
 use Rattle.std.specs.Prelude.{◌≡◌, ℕ, ◌+◌, ◌<◌, suc, zero, Bool, true, false, not, ◌&&◌, if◌then◌else◌, Option, Some, None, is_some, Result, Err, List, [], ◌∷◌, drop, slice_get, slice_set, length, refl}
 use Rattle.std.proofs.Common.{◌∙◌, sym, ap, subst, arith, inl, inr}
 use Rattle.std.proofs.lemmas.Bool.{true≢false, false_from_ne_true}
@@ -30,7 +31,7 @@ left_there [] at t there = cc
 left_there (s ∷ ts) zero t there = let same : s ≡ t = cc in ap (λ x. x ∷ ts) same
 left_there (s ∷ ts) (suc at) t there = left_there ts at t there
 
--- what is left behind a place stays where another task is put there
+-- what is left behind a place stays if another task is put there
 left_set : (ts : List Task) (at : ℕ) (owner : Task) → drop (suc at) (slice_set ts at owner) ≡ drop (suc at) ts
 left_set [] at owner = refl
 left_set (s ∷ ts) zero owner = refl

@@ -70,7 +70,7 @@ module _ {units : UnitsValue} {tasks : List Task} {waiting : List Suspended} {cl
       kept_as (region_of after ts ws clock is_down) (abended machine t) (λ i. record { units = state i; tasks = is i; waiting = gone i; clock = clock; is_down = is_down })
       (kept_abended machine at t kept.tasks there) (owned_abended machine t at there kept.tasks.labels kept.owned) (record { headline = headline }) (record { serializable = serializable })
 
--- a task that stands at its place stays where it is put in its own place
+-- a task that stands at its place stays if it is put in its own place
 pub replaced_same : (ts : List Task) (at : ℕ) (t : Task) → IsOwn own_label ts → slice_get ts at ≡ Some t → replaced ts t ≡ ts
 replaced_same ts at t labels there = replaced-set ts at t t labels there refl ∙ set_same ts at t there
 
@@ -78,7 +78,7 @@ replaced_same ts at t labels there = replaced-set ts at t t labels there refl �
 pub has_own_unit : (t : Task) (u : ℕ) → t.unit ≡ Some u → with_unit t u ≡ t
 has_own_unit t u own = λ i. record t { unit = sym own i }
 
--- where none is found, no task has the label
+-- if none is found, no task has the label
 pub none_found : {Q : Type 0} (o : Option ℕ) → is_some o ≡ false → IfNone o Q → Q
 none_found None none q = q
 none_found (Some n) none q = absurd (true≢false none)
@@ -163,7 +163,8 @@ module _ {units : UnitsValue} {tasks : List Task} {waiting : List Suspended} {cl
       pub acted_step : (c : Command) (r : Reply) → r ≡ reply_of c.verb a → answered (region_of after ts waiting clock is_down).machine (with_unit t unit) c.resp r ≡ by_op m t c (Some o)
       acted_step c r told = (λ i. answered (acted_machine i) (with_unit t unit) c.resp (told i)) ∙ ap (executed m t c o) (sym (tried.comes_to ∙ acts))
 
--- a command that has to wait for a unit is executed by no other step than its wait, or its answer with NOSUSPEND
+-- a command that has to wait for a unit is executed by no other step than its wait, or its answer
+-- with NOSUSPEND
 pub waits_for : (m : Machine) (t : Task) (c : Command) (o : Op) (holder : ℕ) → awaited m.units t.unit o ≡ Some holder →
     waiting_for m c (Some o) holder t ≡ by_op m t c (Some o)
 waits_for m t c o holder waits = ap (λ w. executed m t c o (done_of m.units t.unit o w)) (sym waits)
@@ -212,7 +213,7 @@ then_told {old} at t owner resp r f there here kept is step =
 pub told_as : {old new : RegionValue} {x : Outcome} (at : ℕ) (f g : Task → Stepped Outcome) → OfTask old.machine.tasks at (λ t. f t ≡ g t) → IsStepOf old at f x new → IsStepOf old at g x new
 told_as at f g same step = (λ t there. step.0 t there ∙ same t there, step.1)
 
--- and so it is where a call may be refused
+-- and so it is if a call may be refused
 pub may_told_as : (old new : RegionValue) (r : Result Outcome NoMemory) (at : ℕ) (f g : Task → Stepped Outcome) → OfTask old.machine.tasks at (λ t. f t ≡ g t) →
     IsStepOrRefused old at f r new → IsStepOrRefused old at g r new
 may_told_as old new (Ok x) at f g same step = told_as {old = old} {new = new} at f g same step

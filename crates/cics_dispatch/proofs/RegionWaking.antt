@@ -1,4 +1,4 @@
--- Waiting commands: the first that may go on, and the first whose time is over.
+-- Waiting commands: the first that may resume, and the first whose time is over.
 use Rattle.std.specs.Prelude.{◌≡◌, ℕ, Bool, true, false, not, cond, if◌then◌else◌, List, [], ◌∷◌, All, Option, Some, None, is_none, nat_le, take, slice_get, refl}
 use Rattle.std.proofs.Common.{◌∙◌, sym, ap, subst}
 use Rattle.std.proofs.lemmas.List.Elements.{All-head, All-tail}
@@ -32,7 +32,7 @@ use Rattle.cics_dispatch.specs.declared.outcomes.Woken.{Woken}
 use Rattle.cics_dispatch.proofs.TaskPlaces.{place_of_task}
 use Rattle.cics_dispatch.proofs.KeptTasks.{kept_abended, kept_suspended, kept_executed, kept_enqueued, with_task_placed, kept_not_waiting, not_waiting_then}
 
--- ---- The first that may go on
+-- ---- The first that may resume
 
 -- one that may not is passed
 pub first_free-passed : (m : Machine) (all ws rest : List Suspended) (w : Suspended) → first_free m ws ≡ first_free m all → ws ≡ w ∷ rest →
@@ -40,7 +40,7 @@ pub first_free-passed : (m : Machine) (all ws rest : List Suspended) (w : Suspen
 first_free-passed m all ws rest w passed steps free =
     sym (ap (λ b. cond b (Some w) (first_free m rest)) free) ∙ sym (ap (first_free m) steps) ∙ passed
 
--- what holds of each waiting command holds of the first one that may go on
+-- what holds of each waiting command holds of the first one that may resume
 pub first_free_has : (P : Suspended → Type 0) (m : Machine) (w : Suspended) (ws : List Suspended) → All P ws → first_free m ws ≡ Some w → P w
 first_free_has P m w [] all is = cc
 first_free_has P m w (v ∷ ws) all is =
@@ -68,7 +68,7 @@ pub first_free_awaits : (m : Machine) (w : Suspended) (ws : List Suspended) (t :
 first_free_awaits m w ws t is there =
     none_awaited (awaited_by m.units t.unit w.command.verb w.op) (ap (may_go_on m w) (sym there) ∙ first_free-goes m w ws is)
 
--- ---- A command that goes on, while the waits stand aside
+-- ---- A command that resumes, while the waits stand aside
 
 -- without a label's wait, the others stay
 pub not_waiting_twice : (ws : List Suspended) (label : Bytes) → not_waiting (not_waiting ws label) label ≡ not_waiting ws label
@@ -132,7 +132,7 @@ module _ (m : Machine) (t : Task) (c : Command) (ws : List Suspended) (others : 
       by (Enq value n nosuspend) ready free = enqueued_beside (take n value) free
       by verb ready free = absurd ready
 
--- whether a command may go on, the other waits make no difference to
+-- whether a command may resume, the other waits make no difference to
 may_aside : (m : Machine) (w : Suspended) (o : Option Task) → may_go_on (with_waiting m []) w o ≡ may_go_on m w o
 may_aside m w None = refl
 may_aside m w (Some t) = refl
@@ -141,7 +141,7 @@ pub free_aside : (m : Machine) (ws : List Suspended) → first_free (with_waitin
 free_aside m [] = refl
 free_aside m (w ∷ ws) = λ i. cond (may_aside m w (task_at m.tasks w.label) i) (Some w) (free_aside m ws i)
 
--- a waiting command goes on where no command waits
+-- a waiting command resumes if no command waits
 pub went_alone : (m : Machine) (w : Suspended) (t : Task) (x : Outcome) (n : Machine) → m.waiting ≡ [] → with_outcome x n ≡ by_op m t w.command w.op →
     with_outcome (Some (record { label = w.label; outcome = x })) n ≡ went_on m w (Some t)
 went_alone m w t x n none told =
@@ -150,12 +150,13 @@ went_alone m w t x n none told =
     same : m ≡ with_waiting m (not_waiting m.waiting w.label)
     same = λ i. with_waiting m ((none ∙ sym (ap (λ ws. not_waiting ws w.label) none)) i)
 
--- the waits once a command has gone on, if one has
+-- the waits once a command has resumed, if one has
 abbrev pub left_waiting : List Suspended → Option Woken → List Suspended
 left_waiting ws None = ws
 left_waiting ws (Some k) = not_waiting ws k.label
 
--- what comes of waking is what comes of it while the waits stand aside, with the other waits beside it
+-- what comes of waking is what comes of it while the waits stand aside, with the other waits beside
+-- it
 pub woken_aside : (m : Machine) (s : Stepped (Option Woken)) → All (IsWaitKept m) m.waiting →
     s ≡ woken_first (with_waiting m []) (first_free (with_waiting m []) m.waiting) →
     with_outcome s.outcome (with_waiting s.machine (left_waiting m.waiting s.outcome)) ≡ woken m
@@ -180,7 +181,7 @@ woken_aside m s kept is =
     by None first = refl
     by (Some w) first = task w first (task_at m.tasks w.label) refl
 
--- and where a command has gone on, its wait is taken out of those that come back
+-- and if a command has resumed, its wait is taken out of those that come back
 pub woken_back : (m a n : Machine) (w : Woken) (x : Option Woken) (ws back : List Suspended) → All (IsWaitKept m) m.waiting → a ≡ with_waiting m [] → ws ≡ m.waiting →
     x ≡ Some w → with_outcome x n ≡ woken_first a (first_free a ws) → back ≡ not_waiting ws w.label → with_outcome (Some w) (with_waiting n back) ≡ woken m
 woken_back m a n w x ws back kept aside same is step gone =

@@ -1,4 +1,5 @@
--- Task control: what is remembered of the last looks at the waiting commands stays true over a step.
+-- Task control: what is remembered of the last looks at the waiting commands stays true over a
+-- step.
 use Rattle.std.specs.Prelude.{◌≡◌, ◌≢◌, ℕ, ◌==◌, ◌-◌, ◌<◌, ◌≤◌, Bool, true, false, not, cond, if◌then◌else◌, ◌&&◌, nat_lt, nat_le, Option, Some, None, is_some, Result, Err, List, [], ◌∷◌, ◌++◌, All, refl}
 use Rattle.std.specs.List.{list_any}
 use Rattle.std.proofs.Common.{◌⊎◌, inl, inr, sym, ap, ◌∙◌, subst, arith}
@@ -46,7 +47,7 @@ refused_leaves wants old new s ClockBack step = step.1
 
 -- ---- A waiting command of another task
 
--- a unit that holds what it held and more holds a command back yet
+-- a unit that owns what it owned and more holds a command back yet
 holds_yet : (s n : UnitsState) (h : ℕ) (verb : Verb) (o : Option Op) → n.opening ≡ s.opening →
     ((p : Resource → Bool) → list_any p (held_by s h) ≡ true → list_any p (held_by n h) ≡ true) → holds_back s h verb o ≡ true → holds_back n h verb o ≡ true
 holds_yet s n h verb o opening holds is =
@@ -59,7 +60,7 @@ starves_yet s n own h (Some (TdRead q)) leaves live is = leaves.starved own h q 
 starves_yet s n own h (Some o) leaves live is = absurd is
 starves_yet s n own h None leaves live is = absurd is
 
--- an open task acts whose unit is another than the blocker, or holds what it held
+-- an open task acts whose unit is another than the blocker, or owns what it owned
 module _ (m n : Machine) (t : Task) (h : ℕ) (others : LeavesTasks t.label t.unit m n) (active : may_act m.units t.unit ≡ true)
     (free : (v : ℕ) → t.unit ≡ Some v → (v ≢ h) ⊎ Keeps m.units n.units v) (w : Suspended) (other : t.label ≢ w.label) (is : IsBlocked m h w) where
   -- the blocker is open, and keeps the command waiting yet
@@ -174,9 +175,9 @@ module _ (m : Machine) (c : Command) (all : All (IsInTime m) m.waiting) where
       by None = all
       by (Some t) = by_refusal t (issue_refusal m (Some t)) refl
 
--- ---- Commands that go on
+-- ---- Commands that resume
 
--- and none has after a waiting command has gone on
+-- and none has after a waiting command has resumed
 pub woken_in_time : (m : Machine) (label : Bytes) → IsFirstFree m label → All (IsInTime m) m.waiting → All (IsInTime (woken m).machine) (woken m).machine.waiting
 woken_in_time m label free all =
     subst (λ o. All (IsInTime (woken_first m o).machine) (woken_first m o).machine.waiting) (sym free.first) (by (task_at m.tasks w.label) refl)

@@ -1,4 +1,5 @@
--- Recovery: a queue that has nothing to read until its writer commits stays so over a step of a unit of work.
+-- Recovery: a queue that has nothing to read until its writer commits stays so over a step of a
+-- unit of work.
 use Rattle.std.specs.Prelude.{◌≡◌, ℕ, ◌<◌, ◌==◌, Bool, true, false, not, cond, ◌&&◌, ◌||◌, if◌then◌else◌, Option, Some, None, unwrap_or, List, [], ◌∷◌, ◌++◌, filter, nat_lt, length, refl}
 use Rattle.std.specs.List.{list_any}
 use Rattle.std.proofs.Common.{inl, inr, sym, ap, ◌∙◌, arith}
@@ -32,19 +33,20 @@ use Rattle.cics_dispatch.specs.Machine.{units_after}
 use Rattle.cics_dispatch.specs.Settled.{records_by, is_kept_in, IsStarved}
 use Rattle.cics_dispatch.proofs.OtherUnits.{begun, item_read_is}
 
--- a step of a unit, or of a task without one, leaves each queue without a record that had none for a reader
+-- a step of a unit, or of a task without one, leaves each queue without a record that had none for
+-- a reader
 pub record LeavesStarved (old new : UnitsState) : Type 0 where
   pub starved : (own : Option ℕ) (h : ℕ) (q : Bytes) → is_live old h ≡ true → IsStarved old own h q → IsStarved new own h q
 
 -- ---- The writer is found
 
--- whoever else holds something of a resource is found
+-- whoever else owns something of a resource is found
 pub held_first : (s : UnitsState) (u : Option ℕ) (r : Resource) (h : ℕ) → is_live s h ≡ true → is_other u h ≡ true → list_any (conflicts r) (held_by s h) ≡ true →
     blocker_at (owned s) u r ≡ None → ⊥
 held_first s u r h live other holds none =
     true≢false (sym (in_table s (conflicts r) u h (begun s h live) other holds) ∙ none_first (owned s) u r none)
 
--- an open unit that wrote to a LOGICAL queue holds its writing end
+-- an open unit that wrote to a LOGICAL queue owns its writing end
 holds_end : (s : UnitsState) (h : ℕ) (q : Bytes) → is_open (outcome_of s.outcomes h) ≡ true → queue_logical s.opening q ≡ true → used s.trace h (Td q) Writing ≡ true →
     list_any (conflicts (WritingEnd q)) (held_by s h) ≡ true
 holds_end s h q began logical writes = end_held s h q Writing ∙ and_from _ _ began (and_from _ _ logical writes)
@@ -151,7 +153,7 @@ starved_yet s outcomes commits reads counts next fewer own h q is = record {
 pub starved_all : (s : UnitsState) → LeavesStarved s s
 starved_all s = record { starved = λ own h q live is. is }
 
--- ENQ that takes its value
+-- ENQ that acquires its value
 pub counted_starved : (s : UnitsState) (u : Option ℕ) (counts : List EnqCount) → LeavesStarved s (with_counts s (outcomes_with u s.outcomes) counts)
 counted_starved s u counts = record {
   starved = λ own h q live is.
@@ -226,7 +228,7 @@ committed_is s own q logical =
     (ap (λ es. content (replay (initial_store o) es) (Td q)) (filter_both (stays o out) seen s.trace)
     ∙ replay-at (Td q) (λ e. stays o out e && seen e) (stays o (others_gone s own)) s.trace (Each_from _ on s.trace) (initial_store o) (initial_store o) refl)
 
--- a task's own unit is kept where it is open
+-- a task's own unit is kept if it is open
 own_kept : (s : UnitsState) (own : Option ℕ) → may_act s own ≡ true → is_kept_in (others_gone s own) own ≡ true
 own_kept s None acts = refl
 own_kept s (Some u) acts = rw (eq-eqb u u refl) (by (outcome_of s.outcomes u) (and_parts (nat_lt u (length s.outcomes)) _ acts).1)
@@ -263,7 +265,8 @@ nothing_is : (xs : List Bytes) → is_nothing xs ≡ true → xs ≡ []
 nothing_is [] is = refl
 nothing_is (x ∷ xs) is = cc
 
--- a task finds nothing to read, nobody else holds the reading end, and another unit holds the writing end
+-- a task finds nothing to read, nobody else owns the reading end, and another unit owns the writing
+-- end
 module _ (s : UnitsState) (own : Option ℕ) (h : ℕ) (q : Bytes) (sound : IsSound s) (acts : may_act s own ≡ true) (logical : queue_logical s.opening q ≡ true)
     (nothing : is_nothing (committed_for s own q) ≡ true) (free : blocker_at (owned s) own (ReadingEnd q) ≡ None) (writer : blocker_at (owned s) own (WritingEnd q) ≡ Some h) where
   abbrev out : Outcomes

@@ -1,5 +1,5 @@
--- Whose a unit is, as the tasks of a region have it in a table: what stands there once a task comes in, has a unit, or gives it
--- up, and once all units are entered anew.
+-- Whose a unit is, as the tasks of a region have it in a table: what stands there once a task comes
+-- in, has a unit, or gives it up, and once all units are entered anew.
 use Rattle.std.specs.Prelude.{◌≡◌, ◌<◌, ◌≤◌, ◌+◌, ◌-◌, ℕ, cond, Bool, true, false, Option, Some, None, is_some, List, [], ◌∷◌, ◌++◌, ◌⊎◌, length, nat_eq, slice_get, refl}
 use Rattle.std.proofs.Common.{sym, ap, ◌∙◌, subst, inl, inr, zero, suc, arith, eq-eqb, length-append}
 use Rattle.std.proofs.lemmas.Bool.{eqb-true, false_from_ne_true, true≢false}
@@ -259,7 +259,7 @@ module _ (n : ℕ) (ts : List Task) (es : List (ℕ × Option ℕ)) (entered : A
   before : (i : ℕ) → i < n + 1 → (i ≡ n → ⊥) → i < n
   before i within other = omega (arith, within, other)
 
-  -- where the task has none
+  -- if the task has none
   pub passed_entered : had_at own_unit ts n ≡ None → AreEntered (n + 1) ts es
   passed_entered idle = record {
     found = λ i u within has. elim (nat_eq i n) as (λ b. nat_eq i n ≡ b → lookup (nat_eq u) es ≡ Some (Some i)) [
@@ -270,7 +270,7 @@ module _ (n : ℕ) (ts : List Task) (es : List (ℕ × Option ℕ)) (entered : A
     placed = entered.placed;
   }
 
-  -- where it has one
+  -- if it has one
   module _ (u : ℕ) (has_unit : had_at own_unit ts n ≡ Some u) (apart : IsOwn own_unit ts) where
     -- that isn't there yet
     pub not_entered : lookup (nat_eq u) es ≡ None

@@ -55,7 +55,7 @@ set_same [] at t placed = cc
 set_same (u ∷ us) zero t placed = let same : t ≡ u = cc in ap (λ x. x ∷ us) same
 set_same (u ∷ us) (suc at) t placed = ap (λ r. u ∷ r) (set_same us at t placed)
 
--- no two tasks have one after a task is put in a place, where no other place had what it has
+-- no two tasks have one after a task is put in a place, if no other place had what it has
 pub IsOwn-set : {X : Type 0} (own : Task → Option X) (ts : List Task) (at : ℕ) (owner : Task) → IsOwn own ts →
     ((i : ℕ) (v : Task) (x : X) → slice_get ts i ≡ Some v → own v ≡ Some x → own owner ≡ Some x → i ≡ at) →
     IsOwn own (slice_set ts at owner)
@@ -149,7 +149,7 @@ place-push (u ∷ us) new (suc i) v is =
       | inr before ↦ inr before
     ]
 
--- no two tasks have one after a task is added, where no task had what it has
+-- no two tasks have one after a task is added, if no task had what it has
 pub IsOwn-push : {X : Type 0} (own : Task → Option X) (ts : List Task) (new : Task) → IsOwn own ts →
     ((i : ℕ) (v : Task) (x : X) → slice_get ts i ≡ Some v → own v ≡ Some x → own new ≡ Some x → ⊥) →
     IsOwn own (ts ++ new ∷ [])

@@ -1,4 +1,5 @@
--- Worked examples of tasks: refusals, enqueues on values, the clock, and the order in which waiting commands go on.
+-- Worked examples of tasks: refusals, enqueues on values, the clock, and the order in which waiting
+-- commands resume.
 use Rattle.std.specs.Prelude.{◌≡◌, true, false, None, Ok, List, [], ◌∷◌, ◌++◌, refl}
 use Rattle.cics_names.specs.Keyed.{Bytes}
 use Rattle.cics_names.specs.declared.conditions.Condition.TheVariants.{Normal, Dsiderr, Invreq, Lengerr, Enqbusy, Qiderr}
@@ -43,7 +44,8 @@ enq = Enq x 1 false
 abbrev deq : Verb
 deq = Deq x 1
 
--- a value that was enqueued on twice is free after two DEQ; a task that waits is given no other command
+-- a value that was enqueued on twice is free after two DEQ; a task that waits is given no other
+-- command
 counted : journal both_files (does t1 enq ∷ does t1 enq ∷ does t2 (Enq x 1 true) ∷ does t1 deq ∷ does t2 enq ∷ does t2 Syncpoint ∷ does t1 deq
     ∷ does t1 deq ∷ []) ≡ told t1 normal ∷ told t1 normal ∷ told t2 (replied Enqbusy) ∷ told t1 normal ∷ told t2 (Waiting t1) ∷ refused t2 TaskWaiting
     ∷ told t1 normal ∷ woke t2 normal ∷ told t1 normal ∷ []
@@ -62,19 +64,20 @@ lengths = refl
 
 -- ---- Waiting
 
--- the commands go on in the order in which their waits began
+-- the commands resume in the order in which their waits began
 in_turn : journal (with_record both_files acct record_2) (
     attaches t3 0 ∷ does t1 (delete acct key_1) ∷ does t1 (delete acct key_2) ∷ does t3 (write acct key_2 record_2) ∷ does t2 (write acct key_1 record_1) ∷ does t1 Syncpoint ∷ []
     ) ≡ began t3 ∷ told t1 normal ∷ told t1 normal ∷ told t3 (Waiting t1) ∷ told t2 (Waiting t1) ∷ told t1 normal ∷ woke t3 normal ∷ woke t2 normal ∷ []
 in_turn = refl
 
--- a wait that began at 10 with DTIMOUT 3 is over at 13; the task's unit is backed out, and the record it held is free
+-- a wait that began at 10 with DTIMOUT 3 is over at 13; the task's unit is backed out, and the
+-- record that it owned is free
 timed : journal (with_record both_files acct record_2) (
     attaches t3 3 ∷ does t1 (delete acct key_1) ∷ does t3 (delete acct key_2) ∷ clock 10 ∷ does t3 (delete acct key_1) ∷ clock 12 ∷ clock 13 ∷ does t2 (delete acct key_2) ∷ does t3 Syncpoint ∷ []
     ) ≡ began t3 ∷ told t1 normal ∷ told t3 normal ∷ ticked 10 ∷ told t3 (Waiting t1) ∷ ticked 12 ∷ ticked 13 ∷ late t3 timed_out ∷ told t2 normal ∷ refused t3 TaskEnded ∷ []
 timed = refl
 
--- a newly issued command looks at the holders alone, so it may pass one that waits
+-- a newly issued command looks at the owners alone, so it may pass one that waits
 abbrev held : Machine
 held = at_end (with_record both_files log record_1) (attaches t3 0 ∷ does t1 (read_update log key_1) ∷ does t2 (delete log key_1) ∷ [])
 
@@ -84,7 +87,8 @@ let_go = (issued held t1 (record { verb = Unlock log; resp = false })).machine
 passed : (issued let_go t3 (record { verb = delete log key_1; resp = false })).outcome ≡ Ok normal
 passed = refl
 
--- ---- Memory: a command may want it once its checks have passed, and never where it only gives something up
+-- ---- Memory: a command may want it once its checks have passed, and never if it only releases
+-- something
 
 wants : may_want held t1 (record { verb = write acct key_2 record_2; resp = false }) ≡ true
 wants = refl
@@ -100,7 +104,7 @@ wants_not_return = refl
 
 -- ---- Shutdown
 
--- the open units are backed out, no command goes on, and every event is refused from then on
+-- the open units are backed out, no command resumes, and every event is refused from then on
 abbrev shut : List Event
 shut =
     does t1 (write acct key_2 record_2) ∷ does t2 (write acct key_3 record_3) ∷ does t1 (write acct key_3 record_3) ∷ shuts ∷ attaches t1 0

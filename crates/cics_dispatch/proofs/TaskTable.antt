@@ -1,5 +1,5 @@
--- The tasks of a region where they are kept: what is found under a label and a unit, and what one more task and a
--- changed one make of them.
+-- The tasks of a region where they are kept: what is found under a label and a unit, and what one
+-- more task and a changed one make of them.
 use Rattle.std.specs.Prelude.{◌≡◌, ℕ, Bool, true, false, cond, if◌then◌else◌, Option, Some, None, is_some, IfSome, IfNone, ◌⊎◌, List, [], ◌∷◌, ◌++◌, length, slice_get, refl}
 use Rattle.std.proofs.Common.{sym, ap, ◌∙◌, subst, inl, inr, zero, suc, arith, eq-eqb}
 use Rattle.std.specs.Map.{values_of, lookup}

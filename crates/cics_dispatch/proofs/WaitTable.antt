@@ -1,4 +1,5 @@
--- The waits where they are kept: what is found under a label, and what one more wait and one fewer make of them.
+-- The waits where they are kept: what is found under a label, and what one more wait and one fewer
+-- make of them.
 use Rattle.std.specs.Prelude.{◌≡◌, ◌<◌, ◌≤◌, ℕ, ◌+◌, ◌==◌, Bool, true, false, not, cond, Option, Some, None, is_some, Result, Ok, Err, is_err, IsOk, OnOk, List, [], ◌∷◌, ◌++◌, refl, nat_lt, All}
 use Rattle.std.proofs.Common.{sym, ap, ◌∙◌, suc, arith}
 use Rattle.std.specs.declared.cmp.Ordering.TheVariants.{Less, Equal, Greater}
@@ -274,7 +275,7 @@ module _ (eq : Bytes → Bytes → Bool) (same : (a b : Bytes) → eq a b ≡ is
   led_anew label o numbers old new is updated q =
       sym (at q new) ∙ updated q ∙ (λ i. cond (same label q i) o (lookup (eq q) (is i))) ∙ ap (cond (is_same label q) o) (at q numbers)
 
--- where room was made, what may want room succeeds
+-- if room was made, what may want room succeeds
 pub made_room : {A E B F Q : Type 0} (n : ℕ) (r : Result A E) (s : Result B F) → is_err r ≡ false → OnOk r (1 ≤ n) → (0 < n → IsOk s) → OnOk s Q → Q
 made_room n (Ok a) (Ok b) ok room succeeds q = q
 made_room n (Ok a) (Err f) ok room succeeds q = absurd (never (succeeds (omega arith)))

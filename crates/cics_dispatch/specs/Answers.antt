@@ -1,5 +1,5 @@
--- How a call answers its step: by the step's answer, or, if it may take memory, by NoMemory, which
--- changes nothing. And what a region lists.
+-- What a call returns: the outcome of its step, or, if it may take memory, NoMemory, which changes
+-- nothing. And what a region lists.
 use Rattle.std.specs.Prelude.{◌≡◌, Bool, true, false, not, ◌&&◌, if◌then◌else◌, IsTrue, Option, Some, None, is_some, is_none, Result, Ok, Err, map, filter, List, []}
 use Rattle.cics_names.specs.Keyed.{Bytes}
 use Rattle.cics_history.specs.Headline.{IsHeadline}
@@ -18,8 +18,8 @@ use Rattle.cics_names.specs.declared.commands.Verb.TheVariants.{Unlock, ResetBr,
 use Rattle.cics_dispatch.specs.declared.outcomes.Refused.{Refused}
 use Rattle.cics_dispatch.specs.declared.outcomes.Refused.TheVariants.{NoMemory}
 
--- the verbs that take memory: all but those that only release something, and RESETBR, which moves
--- an open browse
+-- whether a verb may take memory; those that only release something take none, and neither does
+-- RESETBR, which moves an open browse
 abbrev pub is_growing : Verb → Bool
 is_growing (Unlock f) = false
 is_growing (ResetBr f key given generic equal) = false
@@ -44,7 +44,7 @@ passes_checks m verb (Some t) = is_none (fault_of m t verb)
 abbrev pub may_want : Machine → Bytes → Command → Bool
 may_want m label c = is_none (issue_refusal m (task_at m.tasks label)) && is_growing c.verb && passes_checks m c.verb (task_at m.tasks label)
 
--- a call answers its step and leaves the step's state, or returns NoMemory if it may take memory;
+-- a call returns its step's outcome and leaves its step's state, or NoMemory if it may take memory;
 -- an error leaves the region as it was
 abbrev pub IsStep : {X : Type 0} → Bool → RegionValue → Stepped (Result X Refused) → Result X Refused → RegionValue → Type 0
 IsStep wants old s (Ok x) new = (s.outcome ≡ Ok x) × (new.machine ≡ s.machine)
@@ -56,7 +56,7 @@ abbrev pub always : {X : Type 0} → Stepped X → Stepped (Result X Refused)
 always s = record { outcome = Ok s.outcome; machine = s.machine }
 
 -- the headline holds of a region: its store is the replay of the surviving entries, which gives
--- each of them its answer; a backed-out unit whose entries are the last left no trace
+-- each of them its answer again; a backed-out unit that ran alone at the end left no trace
 pub record IsHeadlineRegion (r : RegionValue) : Type 0 where
   pub headline : IsHeadline (record { state = r.machine.units; store = r.store })
 

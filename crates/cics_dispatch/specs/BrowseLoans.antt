@@ -6,13 +6,13 @@ use Rattle.cics_browse.specs.Positions.{Position}
 use Rattle.cics_browse.specs.contracts.browses.Browse.{the_row as the_browse_row}
 use Rattle.cics_dispatch.specs.contracts.browses.Browses.{the_row}
 
--- the browses, with that of a file at another position, if it is open
+-- the browses, with that of a file moved to a position, if it is open
 abbrev pub moved : Bytes → Position → Option Position → Map Position → Map Position
 moved file p None browses = browses
 moved file p (Some q) browses = with_value file p browses
 
--- the browses have the position that was left, and are as they were if that is the position that
--- was there
+-- after the loan the browses have the position that was left; if it is the old one, they are as
+-- they were
 pub record IsMoved (file : Bytes) (browses : Map Position) (p : Position) (left : Map Position) : Type 0 where
   pub moved : left ≡ moved file p (value_at file browses) browses
   pub same : value_at file browses ≡ Some p → left ≡ browses

@@ -1,4 +1,4 @@
--- Browsing (file control): a browse of a task read on, by READNEXT or READPREV.
+-- READNEXT and READPREV, by their direction.
 use Rattle.cics_names.specs.Keyed.{Bytes, Map}
 use Rattle.cics_browse.specs.declared.browses.Browsed.{Browsed}
 use Rattle.cics_browse.specs.Positions.{Position, read_next, after_next, read_prev, after_prev}

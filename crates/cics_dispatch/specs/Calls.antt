@@ -27,7 +27,7 @@ use Rattle.cics_dispatch.specs.declared.outcomes.Attempt.TheVariants.{Told, Must
 abbrev pub OfTask : List Task → ℕ → (Task → Type 0) → Type 0
 OfTask ts at P = (t : Task) → slice_get ts at ≡ Some t → P t
 
--- the tasks are as they were, but that at the index is changed so
+-- the tasks are as they were, but the one at the index, which is changed
 abbrev pub HasChanged : List Task → ℕ → (Task → Task) → List Task → Type 0
 HasChanged ts at change new = OfTask ts at (λ t. new ≡ replaced ts (change t))
 
@@ -86,7 +86,7 @@ reading_on m resp file limit direction t =
     let records = records_in m file in
     browsed m t resp file limit (value_at file t.browses) (read_on direction records) (after_read_on direction records)
 
--- a command of the task, from the look at what other units hold, as a step of it
+-- a command of the task whose checks have passed, as a step of it
 abbrev pub going_on : Machine → Command → Option Op → Task → Stepped Outcome
 going_on m c o t = by_op m t c o
 
@@ -94,8 +94,8 @@ going_on m c o t = by_op m t c o
 abbrev pub waiting_for : Machine → Command → Option Op → ℕ → Task → Stepped Outcome
 waiting_for m c o holder t = made_to_wait m t c o holder (busy_of c.verb)
 
--- a trial of a command of the task: it is told what its step answers; or an open unit blocks it,
--- and what it asked for comes back; or it returns NoMemory and leaves the region as it was
+-- a trial of a command of the task: it makes the step; or returns the open unit that blocks it,
+-- with the updating command, and changes nothing; or returns NoMemory and changes nothing
 abbrev pub IsAttempt : RegionValue → ℕ → Command → Option Op → Result Attempt NoMemory → RegionValue → Type 0
 IsAttempt old at c o (Ok (Told outcome)) new = IsStepOf old at (going_on old.machine c o) outcome new
 IsAttempt old at c o (Ok (MustWait holder back)) new =

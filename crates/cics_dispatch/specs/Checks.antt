@@ -1,4 +1,4 @@
--- The checks of a command before it looks at what other units hold. The order is: the file or queue
+-- The checks of a command before it looks at what other units own. The order is: the file or queue
 -- that it names is defined; the length of its key; the length of its FROM or RESOURCE; the update
 -- read and the browse of its task; the key in its record. The first check that fails is answered,
 -- and takes no memory.
@@ -24,7 +24,8 @@ defined_fault (Some d) check = check d
 abbrev pub queue_fault : Machine → Bytes → Option Condition
 queue_fault m q = fault_unless (has_key q m.units.opening.queues) Qiderr
 
--- an item or a transient data record that LENGTH overruns, or of no byte or too many, is LENGERR
+-- an item or a transient data record is LENGERR if LENGTH isn't from 1 to the length of FROM, or if
+-- it has no byte or too many
 abbrev pub item_fault : Bytes → Option ℕ → Option Condition
 item_fault from n = fault_unless (is_within from n && is_item (used_of from n)) Lengerr
 
@@ -36,8 +37,8 @@ resource_fault value n = fault_unless (nat_le 1 n && nat_le n 255 && nat_le n (l
 abbrev pub open_key : Machine → Task → Bytes → Option Bytes
 open_key m t f = has_read m.units t.unit f
 
--- READ UPDATE goes with neither GTEQ nor GENERIC; its key's length; no second update read of the
--- file
+-- READ: UPDATE without GTEQ and GENERIC; the length of its key; with UPDATE no open update read of
+-- the file
 abbrev pub read_fault : FileDef → Option Bytes → Bytes → Option ℕ → Bool → Bool → Bool → Option Condition
 read_fault d open_read key given generic gteq update =
     first_fault (
@@ -58,16 +59,16 @@ abbrev pub deleted_key_fault : FileDef → Bytes → Option ℕ → Bool → Opt
 deleted_key_fault d key given generic =
     first_fault (key_fault d key given generic ∷ fault_unless (nat_le 1 (length key) || not generic) Invreq ∷ [])
 
--- DELETE without RIDFLD has neither KEYLENGTH nor GENERIC, and an update read is open
+-- DELETE: with RIDFLD as above; without it neither KEYLENGTH nor GENERIC, and an open update read
 abbrev pub delete_fault : FileDef → Option Bytes → Option Bytes → Option ℕ → Bool → Option Condition
 delete_fault d open_read (Some key) given generic = deleted_key_fault d key given generic
 delete_fault d open_read None given generic = fault_unless (is_none given && not generic && is_some open_read) Invreq
 
--- READNEXT, READPREV, RESETBR and ENDBR have a browse that is open
+-- READNEXT, RESETBR and ENDBR: a browse of the file is open
 abbrev pub browse_fault : Option Position → Option Condition
 browse_fault browse = fault_unless (is_some browse) Invreq
 
--- READPREV is no command of a browse whose last STARTBR or RESETBR had GENERIC
+-- READPREV: a browse of the file is open, whose last STARTBR or RESETBR had no GENERIC
 abbrev pub back_fault : Option Position → Option Condition
 back_fault None = Some Invreq
 back_fault (Some p) = fault_unless (not p.generic) Invreq
@@ -115,7 +116,7 @@ other_fault m (ReadqTd q n nosuspend) = queue_fault m q
 other_fault m (DeleteqTd q) = queue_fault m q
 other_fault m verb = value_fault verb
 
--- the first fault of a command that names this file, or none
+-- the first fault of a command that names this file, or no file
 abbrev pub named_fault : Machine → Task → Verb → Option Bytes → Option Condition
 named_fault m t verb None = other_fault m verb
 named_fault m t verb (Some f) =

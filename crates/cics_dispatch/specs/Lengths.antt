@@ -1,5 +1,4 @@
--- File control: the checks of the key, of KEYLENGTH and of LENGTH with FROM, before a command
--- touches its file.
+-- The checks of the key, of KEYLENGTH and of LENGTH with FROM, before a command touches its file.
 use Rattle.std.specs.Prelude.{ℕ, ◌==◌, Bool, true, false, ◌&&◌, if◌then◌else◌, Option, Some, None, nat_le, take, length, List, [], ◌∷◌}
 use Rattle.cics_names.specs.Keyed.{Bytes, is_same}
 use Rattle.cics_names.specs.declared.conditions.Condition.{Condition}

@@ -1,5 +1,5 @@
--- Task control (chapters on task control and on recovery): the state of a region, its tasks, and
--- the ends of their units of work.
+-- A region as a machine: its state, its tasks, and the ends of their units of work. docs/RULES.md
+-- has the rules in words, and names the manual: here its chapters on task control and on recovery.
 use Rattle.std.specs.Prelude.{ℕ, ◌==◌, Bool, true, false, not, if◌then◌else◌, Option, Some, None, option_map, unwrap_or, filter, List, [], ◌∷◌}
 use Rattle.cics_names.specs.Keyed.{Bytes, Map, value_at, is_same}
 use Rattle.cics_names.specs.declared.conditions.AbendCode.{AbendCode}
@@ -16,8 +16,8 @@ use Rattle.cics_names.specs.declared.commands.Command.{Command}
 use Rattle.cics_dispatch.specs.declared.dispatcher.Ending.{Ending}
 use Rattle.cics_dispatch.specs.declared.dispatcher.Ending.TheVariants.{Commit, Backout}
 
--- a task: its label, the seconds that it may wait (0 for no limit), its open unit of work, its
--- browses by file, and whether it has ended
+-- a task: its label, the seconds that it may wait (0: no limit), its open unit, its browses by
+-- file, and whether it has ended
 pub record Task : Type 0 where
   pub label : Bytes
   pub dtimout : ℕ
@@ -25,16 +25,16 @@ pub record Task : Type 0 where
   pub browses : Map Position
   pub has_ended : Bool
 
--- a waiting command: its task, the command whole, the updating command that it asks for, if any,
--- and the clock when the wait began
+-- a waiting command: the label of its task, the whole command, the updating command that it asks
+-- for, if any, and the clock when the wait began
 pub record Suspended : Type 0 where
   pub label : Bytes
   pub command : Command
   pub op : Option Op
   pub since : ℕ
 
--- a region: its units, its tasks in the order of attach, its waits in the order in which they
--- began, the clock in seconds, and whether it is shut down
+-- a region: its units, its tasks in the order of attach, its waits from the earliest on, the clock
+-- in seconds, and whether it is shut down
 pub record Machine : Type 0 where
   pub units : UnitsState
   pub tasks : List Task
@@ -51,12 +51,12 @@ pub record RegionValue : Type 0 where
 abbrev pub beginning_region : OpeningState → Machine
 beginning_region o = record { units = beginning o; tasks = []; waiting = []; clock = 0; is_down = false }
 
--- the task of a label
+-- the task of a label, if there is one
 abbrev pub task_at : List Task → Bytes → Option Task
 task_at [] label = None
 task_at (t ∷ ts) label = if is_same t.label label then Some t else task_at ts label
 
--- the tasks, with the task of a label replaced
+-- the tasks, with a task in place of the one of its label
 abbrev pub replaced : List Task → Task → List Task
 replaced [] t = []
 replaced (u ∷ us) t = if is_same u.label t.label then t ∷ us else u ∷ replaced us t
@@ -70,12 +70,12 @@ is_waiting (w ∷ ws) label = if is_same w.label label then true else is_waiting
 abbrev pub not_waiting : List Suspended → Bytes → List Suspended
 not_waiting ws label = filter (λ w. not (is_same w.label label)) ws
 
--- the label of the task whose unit this is
+-- the label of the task whose unit this is, no bytes if it is no task's
 abbrev pub label_of : List Task → ℕ → Bytes
 label_of [] u = []
 label_of (t ∷ ts) u = if is_unit t.unit u then t.label else label_of ts u
 
--- the region, with the task of a label replaced
+-- the region, with a task in place of the one of its label
 abbrev pub with_task : Machine → Task → Machine
 with_task m t = record m { tasks = replaced m.tasks t }
 
@@ -105,8 +105,8 @@ abbrev pub state_after : Ending → UnitState
 state_after Commit = Committed
 state_after Backout = BackedOut
 
--- the end of a task's unit, if it has one, by a commit or a backout; every browse of the task ends
--- too, and if has_ended the task
+-- a task's unit ends, if it has one, by a commit or a backout; all its browses end too, and if
+-- has_ended the task
 abbrev pub unit_closed : Machine → Task → UnitState → Bool → Machine
 unit_closed m t outcome has_ended =
     with_task (with_units m (units_after m.units t.unit outcome)) (record t { unit = None; browses = []; has_ended = has_ended })
@@ -115,11 +115,11 @@ unit_closed m t outcome has_ended =
 abbrev pub abended : Machine → Task → Machine
 abended m t = with_waiting (unit_closed m t BackedOut true) (not_waiting m.waiting t.label)
 
--- the definition of a file
+-- the definition of a file, None if it isn't defined
 abbrev pub definition_of : Machine → Bytes → Option FileDef
 definition_of m f = option_map (λ file. file.definition) (value_at f m.units.opening.files)
 
--- the records of a file as they stand, the changes of open units included
+-- the records of a file as they stand, the changes of open units included; none if it isn't defined
 abbrev pub records_in : Machine → Bytes → Map Bytes
 records_in m f = unwrap_or (value_at f (store_of m.units).files) []
 

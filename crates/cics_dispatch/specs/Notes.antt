@@ -23,21 +23,22 @@ pub record IsUse (o : OpeningState) (rs : List Resource) (w : Suspended) (g : �
   pub needed : needed_by o w.command.verb w.op ≡ resource ∷ []
   pub no_reader : reads_queue w.op ≡ false
 
--- a note is right: it has the label of the command's task, a blocker that is known blocks the
--- command, which uses the resource of its wait group alone
+-- a note is right: it has the label of the command's task; if it has a blocker, that blocks the
+-- command; if it is in a wait group, the command uses the group's resource and nothing else
 pub record IsNoted (m : Machine) (rs : List Resource) (bs : List (Option ℕ)) (n : Note) (w : Suspended) : Type 0 where
   pub label : n.label ≡ w.label
   pub blocked : (u : ℕ) → blocker_in bs n ≡ Some u → IsBlocked m u w
   pub use_of : (g : ℕ) → n.line ≡ Some g → IsUse m.units.opening rs w g
 
--- each of the earliest of these commands has its note, in order
+-- the notes are of the earliest of these commands, in order, and each is right
 abbrev pub AreNoted : Machine → List Resource → List (Option ℕ) → List (Option Note) → List Suspended → Type 0
 AreNoted m rs bs [] ws = Unit {0}
 AreNoted m rs bs (None ∷ ns) ws = AreNoted m rs bs ns ws
 AreNoted m rs bs (Some n ∷ ns) [] = ⊥
 AreNoted m rs bs (Some n ∷ ns) (w ∷ ws) = IsNoted m rs bs n w × AreNoted m rs bs ns ws
 
--- each of a region's earliest waiting commands has its note, with the deadline of its task
+-- the notes are of a region's earliest waiting commands, in order; each is right and has the
+-- deadline of its command
 pub record AreNotedNow (m : Machine) (v : NotesValue) : Type 0 where
   pub noted : AreNoted m v.resources v.blockers v.rows m.waiting
   pub due : AreDue m.tasks v.rows m.waiting v.deadlines
@@ -70,13 +71,13 @@ pub record IsOnlyNeed (r : Resource) (verb : Verb) (op : Option Op) : Type 0 whe
       list_any p (needed_by o verb op) ≡ true → needed_by o verb op ≡ r ∷ []
   pub no_reader : reads_queue op ≡ false
 
--- if a command waits of the task whose unit this is, it isn't one of the wait group
+-- no command of the wait group is of the task whose unit this is
 abbrev pub OwnerIsElsewhere : Machine → List Resource → ℕ → ℕ → Type 0
 OwnerIsElsewhere m rs g u = (i : ℕ) (t : Task) → slice_get m.tasks i ≡ Some t → t.unit ≡ Some u →
     OfWait m.waiting t.label (λ w. IsUse m.units.opening rs w g → ⊥)
 
--- a unit may be noted as a wait group's blocker: it is already, or none of the group waits of its
--- task
+-- a unit may be noted as a wait group's blocker: it is noted already, or no command of the group is
+-- of its task
 abbrev pub MayClose : Machine → List Resource → List (Option ℕ) → ℕ → ℕ → Type 0
 MayClose m rs bs g u = (of_line bs g ≡ Some u) ⊎ OwnerIsElsewhere m rs g u
 
@@ -97,13 +98,14 @@ pub record IsFreeAt (m : Machine) (v : NotesValue) (at : ℕ) (label : Bytes) : 
   pub own : note.label ≡ label
   pub first : IsFirstFree m label
 
--- a command of a note's label uses the resource of a wait group alone, if it so uses that of the
--- note's group
+-- the waiting command of a note uses the resource of the wait group g and nothing else; this may
+-- rest on the same of the note's own group, if it has one
 abbrev pub UseOf : Machine → List Resource → Note → ℕ → Type 0
 UseOf m rs n g = (w : Suspended) (i : ℕ) → slice_get m.waiting i ≡ Some w → w.label ≡ n.label →
     ((h : ℕ) → n.line ≡ Some h → IsUse m.units.opening rs w h) → IsUse m.units.opening rs w g
 
--- what a look leaves: right notes, as many, and on success none up to the index must be looked at
+-- what a look at the note at an index leaves: right notes, as many as before; on success none up to
+-- the index must be looked at
 pub record IsLooked (m : Machine) (old new : NotesValue) (at : ℕ) (done : Bool) : Type 0 where
   pub noted : AreNotedNow m new
   pub closed : done ≡ true → AreClosed new.blockers (take (suc at) new.rows)
@@ -112,8 +114,8 @@ pub record IsLooked (m : Machine) (old new : NotesValue) (at : ℕ) (done : Bool
 
 -- ---- What is remembered
 
--- what is remembered of the last looks: the notes are right; if settled, each waiting command has
--- one and none must be looked at; if in time, no task has waited too long
+-- what is remembered of the last looks: the notes are right; if is_settled, each waiting command
+-- has one and none must be looked at; if is_in_time, no task has waited too long
 pub record IsRemembered (m : Machine) (v : NotesValue) (is_settled is_in_time : Bool) : Type 0 where
   pub noted : AreNotedNow m v
   pub settled : is_settled ≡ true → AreSettled m v

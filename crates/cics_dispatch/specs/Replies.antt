@@ -1,4 +1,4 @@
--- What a command is answered: a condition, and what it gives.
+-- What a command is answered: a condition, and what it read.
 use Rattle.std.specs.Prelude.{ℕ, Bool, false, ◌||◌, if◌then◌else◌, Option, Some, None, option_map, nat_lt, take, length}
 use Rattle.cics_names.specs.Keyed.{Bytes, Map}
 use Rattle.cics_names.specs.declared.conditions.Condition.{Condition}
@@ -33,13 +33,13 @@ cut_to None content = content
 abbrev pub cut : Option ℕ → Reply → Reply
 cut n r = if is_longer n r.content then record { condition = Lengerr; key = r.key; content = cut_to n r.content; number = r.number } else r
 
--- READ without UPDATE, of the least record not below the key: with GTEQ that one, else if it has
--- the key, or with GENERIC the prefix
+-- READ without UPDATE, from the first record not below the key: with GTEQ it is read, else only if
+-- it has the key, or with GENERIC a key that begins with it
 abbrev pub read_found : Bytes → Bool → Bool → Option (Bytes × Bytes) → Reply
 read_found key generic gteq None = plain Notfnd
 read_found key generic gteq (Some found) = if gteq || is_asked_for key generic found.0 then giving found.1 else plain Notfnd
 
--- the record of the key asked for, with GTEQ the first one not below it, or NOTFND
+-- READ without UPDATE of these records
 abbrev pub read_reply : Map Bytes → Bytes → Bool → Bool → Reply
 read_reply records key generic gteq = read_found key generic gteq (first_from records key false)
 

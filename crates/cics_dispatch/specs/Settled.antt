@@ -26,7 +26,7 @@ use Rattle.cics_dispatch.specs.declared.outcomes.Outcome.TheVariants.{Replied, W
 abbrev pub is_among : List ℕ → ℕ → Bool
 is_among units u = list_any (λ v. u == v) units
 
--- READQ TD, which a unit may block that holds nothing of what it uses: a writer of its queue
+-- READQ TD, which a unit may block that owns nothing of what it uses: a writer of its queue
 abbrev pub reads_queue : Option Op → Bool
 reads_queue (Some (TdRead q)) = true
 reads_queue o = false
@@ -37,11 +37,11 @@ needed_by o verb (Some op) = uses_of o op
 needed_by o (Enq value n nosuspend) None = User (bytes_of (take n value)) ∷ []
 needed_by o verb None = []
 
--- a unit holds a resource that conflicts with one of these
+-- a unit owns a resource that conflicts with one of these
 abbrev pub holds_one : UnitsState → ℕ → List Resource → Bool
 holds_one s u rs = list_any (λ r. list_any (conflicts r) (held_by s u)) rs
 
--- a unit holds a resource that conflicts with what a command uses
+-- a unit owns a resource that conflicts with what a command uses
 abbrev pub holds_back : UnitsState → ℕ → Verb → Option Op → Bool
 holds_back s u verb op = holds_one s u (needed_by s.opening verb op)
 
@@ -67,7 +67,7 @@ abbrev pub Starves : UnitsState → Option ℕ → ℕ → Option Op → Type 0
 Starves s own u (Some (TdRead q)) = IsStarved s own u q
 Starves s own u o = ⊥
 
--- a unit keeps a command waiting: it holds a conflicting resource, or is the writer of a queue that
+-- a unit keeps a command waiting: it owns a conflicting resource, or is the writer of a queue that
 -- has nothing to read
 abbrev pub KeepsWaiting : UnitsState → Option ℕ → ℕ → Verb → Option Op → Type 0
 KeepsWaiting s own u verb op = (holds_back s u verb op ≡ true) ⊎ Starves s own u op

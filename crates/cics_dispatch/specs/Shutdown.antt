@@ -13,12 +13,12 @@ use Rattle.cics_dispatch.specs.declared.outcomes.Refused.TheVariants.{RegionDown
 abbrev pub unless_down : {X : Type 0} → Machine → Stepped (Result X Refused) → Stepped (Result X Refused)
 unless_down m s = if m.is_down then record { outcome = Err RegionDown; machine = m } else s
 
--- a call of a region answers its event's step, and takes memory only if that may; once the region
--- is shut down, it is refused and takes none
+-- a call of a region returns its event's step, and may return NoMemory only if wants; once the
+-- region is shut down, it returns RegionDown
 abbrev pub IsRegionStep : {X : Type 0} → Bool → RegionValue → Stepped (Result X Refused) → Result X Refused → RegionValue → Type 0
 IsRegionStep wants old s result new = IsStep (not old.machine.is_down && wants) old (unless_down old.machine s) result new
 
--- a unit counts one more
+-- one more, if there is a unit
 abbrev pub one_if : Option ℕ → ℕ → ℕ
 one_if None n = n
 one_if (Some u) n = suc n
@@ -33,6 +33,6 @@ abbrev pub all_ended : Machine → List Task → Machine
 all_ended m [] = m
 all_ended m (t ∷ ts) = all_ended (unit_closed m t BackedOut true) ts
 
--- the region shut down, with the number of the units that were backed out
+-- the region is shut down, and the call returns how many units were backed out
 abbrev pub shut_down : Machine → Stepped (Result ℕ Refused)
 shut_down m = record { outcome = Ok (units_of m.tasks); machine = record (all_ended (with_waiting m []) m.tasks) { is_down = true } }

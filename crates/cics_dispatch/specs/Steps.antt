@@ -1,7 +1,7 @@
--- The steps of a region (all chapters on commands, and that on the exceptional conditions): what
--- ATTACH and each command answer, and the state that they leave. After its checks a command waits,
--- or is executed and answered. A content longer than LENGTH is LENGERR. A condition that nothing
--- handles abends the task.
+-- The steps of a region: what ATTACH and each command are answered, and the state that they leave.
+-- After its checks a command waits, or is executed and answered. A content longer than LENGTH is
+-- LENGERR. A condition that nothing handles abends the task (all chapters of the manual on
+-- commands, and that on the exceptional conditions; docs/RULES.md).
 use Rattle.std.specs.Prelude.{ℕ, Bool, true, false, if◌then◌else◌, Option, Some, None, is_some, option_map, Result, Ok, Err, take, [], ◌∷◌, ◌++◌}
 use Rattle.cics_names.specs.Commands.{file_named, length_of}
 use Rattle.cics_names.specs.Keyed.{Bytes, value_at, with_value, without}
@@ -36,12 +36,12 @@ use Rattle.cics_dispatch.specs.declared.outcomes.Outcome.TheVariants.{Replied, W
 use Rattle.cics_dispatch.specs.declared.outcomes.Refused.{Refused}
 use Rattle.cics_dispatch.specs.declared.outcomes.Refused.TheVariants.{NoTask, TaskWaiting, TaskEnded, DuplicateLabel}
 
--- what an event answers, and the state that it leaves
+-- the outcome of an event, and the state that it leaves
 pub record Stepped (X : Type 0) : Type 0 where
   pub outcome : X
   pub machine : Machine
 
--- this answer, and this state
+-- this outcome, and this state
 abbrev pub with_outcome : {X : Type 0} → X → Machine → Stepped X
 with_outcome outcome m = record { outcome = outcome; machine = m }
 
@@ -56,7 +56,7 @@ unhandled m t r (Some code) = record { outcome = Abended code (Some r); machine 
 abbrev pub answered : Machine → Task → Bool → Reply → Stepped Outcome
 answered m t resp r = if resp then record { outcome = Replied r; machine = m } else unhandled m t r (default_abend_of r.condition)
 
--- the number in the answer of a command: of the records that DELETE GENERIC deleted, else of an
+-- the number in the answer of a command: for DELETE the number of records deleted, else that of an
 -- item
 abbrev pub told_number : Verb → ℕ → Number
 told_number (Delete f key given generic) k = Numrec k
@@ -78,8 +78,8 @@ busy_of (ReadqTd q n nosuspend) = if nosuspend then Some Qbusy else None
 busy_of (Enq value n nosuspend) = if nosuspend then Some Enqbusy else None
 busy_of _ = None
 
--- a command that must wait waits last of all, and nothing of it is executed; the blocker's task is
--- named
+-- a command that must wait joins the waits, last of all, and nothing of it is executed; the outcome
+-- names the task of the blocker, which is the unit holder
 abbrev pub suspended : Machine → Task → Command → Option Op → ℕ → Stepped Outcome
 suspended m t c o holder =
     record {
@@ -114,8 +114,8 @@ queue_op (ReadqTd q n nosuspend) = Some (op.TdRead q)
 queue_op (DeleteqTd q) = Some (op.TdDelete q)
 queue_op _ = None
 
--- the updating command that a command asks for, if any, from the key of its task's open update read
--- of its file
+-- the updating command that a command asks for, if any; open_read is the key of its task's open
+-- update read of its file
 abbrev pub asked_op : Option Bytes → Verb → Option Op
 asked_op open_read (Read f key given n generic gteq update) = if update then Some (op.ReadUpdate f key) else None
 asked_op open_read (Write f key given from n) = Some (op.Write f key (used_of from n))
@@ -132,8 +132,8 @@ key_read m t (Some f) = open_key m t f
 abbrev pub op_of : Machine → Task → Verb → Option Op
 op_of m t verb = asked_op (key_read m t (file_named verb)) verb
 
--- an updating command waits, or is executed, whatever it answers; its task has the unit that it was
--- executed in
+-- an updating command waits, or is executed, whatever it is answered; its task then has the unit
+-- that executed it
 abbrev pub executed : Machine → Task → Command → Op → Done → Stepped Outcome
 executed m t c o (MustWait holder) = made_to_wait m t c (Some o) holder (busy_of c.verb)
 executed m t c o (Answered unit a) =
@@ -142,8 +142,8 @@ executed m t c o (Answered unit a) =
 
 -- ---- Enqueues
 
--- ENQ waits, or acquires its value for the task's unit, which it may begin; a value that is held
--- the most times is INVREQ
+-- ENQ waits, or acquires its value for the task's unit, which it may begin; it is INVREQ if the
+-- unit owns the value the most times that a count allows
 abbrev pub enqueued : Machine → Task → Command → Bytes → Enqueued → Stepped Outcome
 enqueued m t c value (EnqMustWait holder) = made_to_wait m t c None holder (busy_of c.verb)
 enqueued m t c value CountFull = answered m t c.resp (plain Invreq)
@@ -156,7 +156,7 @@ abbrev pub units_dequeued : UnitsState → Option ℕ → Bytes → UnitsState
 units_dequeued s None value = s
 units_dequeued s (Some u) value = after_dequeue s u value
 
--- DEQ releases the value once; a task without a unit holds none
+-- DEQ releases the value once; a task without a unit owns none
 abbrev pub dequeued : Machine → Option ℕ → Bytes → Machine
 dequeued m unit value = with_units m (units_dequeued m.units unit value)
 
@@ -209,7 +209,7 @@ ts_read m t resp q n item = answered (with_units m (after_ts_reading m.units q i
 
 -- ---- The commands
 
--- the code that ABEND gives, or the one without ABCODE
+-- the code of an ABEND, ???? without ABCODE
 abbrev pub code_of : Option Bytes → AbendCode
 code_of None = no_code
 code_of (Some code) = record { 0 = code }
@@ -218,8 +218,8 @@ code_of (Some code) = record { 0 = code }
 abbrev pub abended_with : Machine → Task → AbendCode → Stepped Outcome
 abended_with m t code = record { outcome = Abended code None; machine = abended m t }
 
--- the commands that update nothing; an updating verb without its update read is INVREQ, which its
--- checks answer before
+-- a command that asks for no updating command; the last case is a REWRITE or DELETE without an
+-- update read, which its checks have answered before
 abbrev pub other_command : Machine → Task → Command → Verb → Stepped Outcome
 other_command m t c (Read f key given n generic gteq update) = answered m t c.resp (cut n (read_reply (records_in m f) key generic gteq))
 other_command m t c (Unlock f) = answered (unlocked m t.unit f) t c.resp (plain Normal)
@@ -237,12 +237,13 @@ other_command m t c Return = record { outcome = Ended; machine = unit_closed m t
 other_command m t c (Abend code) = abended_with m t (code_of code)
 other_command m t c _ = answered m t c.resp (plain Invreq)
 
--- a command executes its updating command, unless that waits; a command without one updates nothing
+-- a command with an updating command executes it, or waits; one without is executed by
+-- other_command
 abbrev pub by_op : Machine → Task → Command → Option Op → Stepped Outcome
 by_op m t c (Some o) = executed m t c o (execution m.units t.unit o)
 by_op m t c None = other_command m t c c.verb
 
--- a command whose checks have passed, from the look at what other units hold
+-- a command whose checks have passed waits, or is executed and answered
 abbrev pub performed : Machine → Task → Command → Stepped Outcome
 performed m t c = by_op m t c (op_of m t c.verb)
 
@@ -262,12 +263,12 @@ abbrev pub refused_or : {X : Type 0} → Machine → Option Refused → Stepped 
 refused_or m (Some refusal) next = record { outcome = Err refusal; machine = m }
 refused_or m None next = record { outcome = Ok next.outcome; machine = next.machine }
 
--- the command of a task, if the label is one's
+-- a command of a task is refused, or checked and performed; without a task it is NoTask
 abbrev pub issued_by : Machine → Command → Option Task → Stepped (Result Outcome Refused)
 issued_by m c None = record { outcome = Err NoTask; machine = m }
 issued_by m c (Some t) = refused_or m (issue_refusal m (Some t)) (checked m t c (fault_of m t c.verb))
 
--- a command of a task is refused, or checked and performed
+-- a command of a label's task is refused, or checked and performed
 abbrev pub issued : Machine → Bytes → Command → Stepped (Result Outcome Refused)
 issued m label c = issued_by m c (task_at m.tasks label)
 
@@ -277,7 +278,7 @@ issued m label c = issued_by m c (task_at m.tasks label)
 abbrev pub new_task : Bytes → ℕ → Task
 new_task label dtimout = record { label = label; dtimout = dtimout; unit = None; browses = []; has_ended = false }
 
--- a label is a task's once and for all, also after the task has ended
+-- a label stays that of its task, also once the task has ended
 abbrev pub attach_refusal : Machine → Bytes → Option Refused
 attach_refusal m label = if is_some (task_at m.tasks label) then Some DuplicateLabel else None
 

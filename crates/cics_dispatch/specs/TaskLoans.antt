@@ -6,6 +6,6 @@ use Rattle.cics_dispatch.specs.Machine.{Task, with_browses}
 use Rattle.cics_dispatch.specs.contracts.browses.Browses.{the_row as the_browses_row}
 use Rattle.cics_dispatch.specs.contracts.task.Task.{the_row}
 
--- the task ends with the browses that were left
+-- after the loan the task has the browses that were left
 abbrev pub LendsBrowses : MutBor Task → MutBor (Map Position) → Fml
 LendsBrowses task lent = Lends the_row the_browses_row task lent (with_browses task.now)

@@ -19,16 +19,16 @@ own_label t = Some t.label
 abbrev pub own_unit : Task → Option ℕ
 own_unit t = t.unit
 
--- what a task has, if there is a task
+-- what own gives of a task, if there is a task
 abbrev pub had_by : {X : Type 0} → (Task → Option X) → Option Task → Option X
 had_by own None = None
 had_by own (Some t) = own t
 
--- what the task at an index has
+-- what own gives of the task at an index
 abbrev pub had_at : {X : Type 0} → (Task → Option X) → List Task → ℕ → Option X
 had_at own ts i = had_by own (slice_get ts i)
 
--- no two tasks have the same of this
+-- no two tasks have the same of what own gives: a label, or a unit
 pub record IsOwn {X : Type 0} (own : Task → Option X) (ts : List Task) : Type 0 where
   pub one : (i j : ℕ) (x : X) → had_at own ts i ≡ Some x → had_at own ts j ≡ Some x → i ≡ j
 
@@ -42,12 +42,11 @@ pub record AreTaskRowsKept (es : List (Bytes × Task)) : Type 0 where
 pub record HasNoOwner (ts : List Task) (u : ℕ) : Type 0 where
   pub other : (i : ℕ) (t : Task) → slice_get ts i ≡ Some t → t.unit ≡ Some u → ⊥
 
--- there is room for the unit of each task, and for almost as many more
+-- there is room for twice as many units as tasks, less one
 pub record HasRoomForUnits {S : Type 0} (ts : List Task) (owners : IndexMap ℕ (Option ℕ) S) : Type 0 where
   pub room : length ts + length ts ≤ index_map_len owners + spare owners + 1
 
--- each task's open unit leads to the task's index, what leads to an index is such a unit, and there
--- is room
+-- each task's unit leads to the task's index, nothing else leads to an index, and there is room
 pub record AreOwnersKept {S : Type 0} (ts : List Task) (owners : IndexMap ℕ (Option ℕ) S) : Type 0 where
   pub found : (i u : ℕ) → had_at own_unit ts i ≡ Some u → lookup (nat_eq u) owners.entries ≡ Some (Some i)
   pub owned : (i u : ℕ) → lookup (nat_eq u) owners.entries ≡ Some (Some i) → had_at own_unit ts i ≡ Some u

@@ -16,6 +16,6 @@ with_browses_of ts browses (Some t) = replaced ts (with_browses t browses)
 abbrev pub with_browses_at : List Task → ℕ → Map Position → List Task
 with_browses_at ts at browses = with_browses_of ts browses (slice_get ts at)
 
--- the tasks end with the browses that were left
+-- after the loan the task at the index has the browses that were left
 abbrev pub LendsBrowsesAt : MutBor (List Task) → ℕ → MutBor (Map Position) → Fml
 LendsBrowsesAt tasks at lent = Lends the_row the_browses_row tasks lent (with_browses_at tasks.now at)

@@ -1,5 +1,5 @@
--- Waiting commands (chapter on task control): which one resumes, which task has waited too long,
--- and the clock.
+-- Waiting commands: which one resumes, which task has waited too long, and the clock (the manual's
+-- chapter on task control; docs/RULES.md).
 use Rattle.std.specs.Prelude.{◌≡◌, ℕ, ◌-◌, Bool, false, ◌&&◌, if◌then◌else◌, Option, Some, None, is_none, Result, nat_le, nat_lt, take, List, [], ◌∷◌}
 use Rattle.cics_history.specs.State.{UnitsState}
 use Rattle.cics_history.specs.Holding.{awaited, value_holder}
@@ -25,7 +25,7 @@ clock_set m now = refused_or m (clock_refusal m now) (record { outcome = tt; mac
 
 -- ---- Waking
 
--- the unit that blocks a command, if one does: its updating command, or the value of an ENQ
+-- the unit that blocks a command, if one does, by its updating command, or by the value of an ENQ
 abbrev pub awaited_by : UnitsState → Option ℕ → Verb → Option Op → Option ℕ
 awaited_by s asking verb (Some o) = awaited s asking o
 awaited_by s asking (Enq value n nosuspend) None = value_holder s asking (take n value)
@@ -60,8 +60,8 @@ woken m = woken_first m (first_free m m.waiting)
 
 -- ---- Time-out
 
--- a task has waited too long once the clock is its DTIMOUT past the wait's begin; a DTIMOUT of 0 is
--- no limit
+-- a task has waited too long if DTIMOUT seconds or more have passed since its wait began; a DTIMOUT
+-- of 0 is no limit
 abbrev pub is_late : Machine → Suspended → Option Task → Bool
 is_late m w None = false
 is_late m w (Some t) = nat_lt 0 t.dtimout && nat_le t.dtimout (m.clock - w.since)

@@ -101,7 +101,7 @@ impl Browses {
         self.rows.get_mut(file)
     }
 
-    /// Puts a browse of a file in, in place of the one that was open, if one was.
+    /// Adds a browse of a file, or replaces the one that is open.
     ///
     /// On error all browses stay as they were, and the new one is dropped.
     pub(crate) fn put(&mut self, file: Name8, browse: Browse) -> Result<(), NoMemory>

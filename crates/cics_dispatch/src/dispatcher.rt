@@ -1,4 +1,9 @@
-//! The tasks, waits, files, queues and units of a region, and each of its steps.
+//! The parts of a region, and its steps.
+//!
+//! This file has what several steps share: the first fault, the end of a unit, an answer, a wait,
+//! an updating command. `performing` issues commands. `browsing`, `enqueuing` and `queues` execute
+//! those on files, values and queues that ask for no updating command. `waking` resumes waiting
+//! commands and times tasks out. `blocking`, `listing` and `shutdown` have the other calls.
 
 mod blocking;
 mod browsing;
@@ -52,9 +57,9 @@ use std::marker::Model;
 /// The parts of a region: its tasks, their waiting commands, and the files, queues and units of
 /// work that they share.
 ///
-/// Each call is a step of the region's machine: it returns what the step does, and leaves its
-/// state. It remembers nothing else: `Region` remembers what `wake` and `expire` found. On error
-/// nothing changes.
+/// Each call is a step of the region's machine: it returns the step's outcome, and leaves its
+/// state. On error nothing changes. `Region` has calls of the same names, refuses them after a
+/// shutdown, and remembers what looks at waits found.
 #[derive(Drop)]
 pub(crate) struct Dispatcher {
     units: Units,
@@ -76,7 +81,7 @@ impl Model for Dispatcher {
     ghost invariant = { λ r. IsRegionKept (region_of r.units r.tasks r.waits r.clock r.is_down) };
 }
 
-// Returns what NOSUSPEND answers in place of a wait, if a command has it.
+// Returns the condition that answers a command with NOSUSPEND in place of a wait.
 fn busy_condition(verb: &Verb) -> Option<Condition>
     ensures { result ≡ busy_of verb.now }
 {
@@ -115,8 +120,7 @@ fn end_unit(units: &mut Units, unit: Option<UnitId>, ending: Ending)
 }
 
 impl Dispatcher {
-    /// Returns the region of an opening, without a task, its clock at 0. It copies the files and
-    /// queues. If memory is refused, returns the opening.
+    /// Returns the region of an opening, as `Region::new` does.
     pub fn new(opening: Opening) -> Result<Dispatcher, Opening>
         ensures machine { IfOk result (λ region. region.machine ≡ beginning_region opening) }
         ensures kept { IfOk result IsRegionKept }
@@ -211,8 +215,7 @@ impl Dispatcher {
         }
     }
 
-    /// Begins the task of a label: ATTACH. `dtimout` is the seconds that a command of it may wait,
-    /// 0 for no limit. The transaction makes no difference.
+    /// Begins the task of a label: ATTACH.
     ///
     /// Errors, in this order: `DuplicateLabel` if a task has or had the label, and `NoMemory`.
     pub fn attach(&mut self, label: Name8, _transaction: Name4, dtimout: u64) -> Result<(), Refused>
@@ -227,7 +230,7 @@ impl Dispatcher {
         Ok(())
     }
 
-    /// Sets the clock to so many seconds.
+    /// Sets the clock to `now`, in seconds.
     ///
     /// Errors: `ClockBack` if the clock would go back.
     pub fn set_clock(&mut self, now: u64) -> Result<(), Refused>
@@ -264,8 +267,9 @@ impl Dispatcher {
         Some(file.definition())
     }
 
-    // Returns the first fault of a command of the task at an index, by its open key. A file that
-    // isn't defined is DSIDERR, and a transient data queue that isn't is QIDERR.
+    // Returns the first fault of a command of the task at an index, whose open update read of the
+    // command's file has the key `open_key`. A file that isn't defined is DSIDERR, and a transient
+    // data queue that isn't is QIDERR.
     #[inline(never)]
     fn fault(&self, at: usize, verb: &Verb, open_key: Option<&[u8]>) -> Option<Condition>
         requires within { at < length self.now.machine.tasks }
@@ -353,8 +357,8 @@ impl Dispatcher {
         Ok(Outcome::Waiting(owner))
     }
 
-    // Makes a command of the task at an index wait for the open unit `holder`. If it has NOSUSPEND,
-    // answers that it would have to wait.
+    // Makes a command of the task at an index wait for the open unit `holder`, or answers it QBUSY
+    // or ENQBUSY if it has NOSUSPEND.
     fn make_wait(
         &mut self,
         at: usize,
@@ -375,8 +379,8 @@ impl Dispatcher {
         }
     }
 
-    // Executes an updating command that a command of the task at an index asks for, or returns it
-    // if it must wait. `command` may be without what the updating command took out of it.
+    // Executes the updating command that `command` of the task at an index asks for, or returns it
+    // if it must wait. `command` may lack the key and FROM that `op` was given.
     fn execute(&mut self, at: usize, command: &Command, op: Op) -> Result<Attempt, NoMemory>
         requires within { at < length self.old.machine.tasks }
         requires awake { IsAwake self.old.machine at }
@@ -395,8 +399,8 @@ impl Dispatcher {
         }
     }
 
-    // Executes the updating command that was taken out of a command of the task at an index, or
-    // makes the command wait, whole again.
+    // Executes the updating command that was taken out of `command` of the task at an index. If it
+    // must wait, makes the command wait, with its key and FROM put back.
     fn update(&mut self, at: usize, command: Command, op: Op) -> Result<Outcome, NoMemory>
         requires within { at < length self.old.machine.tasks }
         requires may { MayPerform self.old.machine at (whole command (Some op)).verb }

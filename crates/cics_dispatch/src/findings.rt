@@ -1,4 +1,4 @@
-//! What looks at waiting commands find.
+//! Results of looks at waiting commands.
 
 use cics_history::UnitId;
 use cics_names::Name8;
@@ -7,7 +7,7 @@ use cics_names::Name8;
 pub(crate) enum Look {
     /// It may resume.
     MayGoOn,
-    /// It must wait for this unit, as long as that releases nothing.
+    /// It must wait as long as this unit releases nothing.
     IsBlocked(UnitId),
 }
 

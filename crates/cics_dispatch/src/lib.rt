@@ -1,8 +1,15 @@
-//! The tasks of a region and their commands.
+//! A region: its tasks and their commands, who waits for whom, time-outs, abends and the shutdown.
 //!
-//! `specs/Machine`, `Checks`, `Steps`, `Waking`, `Shutdown` and `Answers` define a region: the order
-//! of checks, what each command answers and leaves, waiting, waking, time-out, abends and the
-//! shutdown. Each call of `Region` is one step of that.
+//! `specs/Machine`, `Checks`, `Steps`, `Waking`, `Shutdown` and `Answers` define a region as a
+//! machine. Each call of `Region` is one step of it. Read the modules in this order:
+//!
+//! - `regions`, `outcomes`: the public calls, and what they return.
+//! - `dispatcher`: the parts of a region, and the step of each command.
+//! - `checks`: the checks before a command looks at what other units own.
+//! - `updates`: the updating command (`Op`) that a task's command asks for, if it asks for one.
+//! - `reads`, `replies`: what a command is answered.
+//! - `task`, `tasks`, `browses`, `waits`: what a dispatcher stores.
+//! - `findings`: what its looks at waiting commands find.
 #![tactic(auto)]
 
 mod browses;

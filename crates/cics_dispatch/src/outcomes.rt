@@ -19,8 +19,8 @@ pub enum Number {
 /// What a command was answered.
 #[derive(Debug, PartialEq, Eq, Drop)]
 pub struct Reply {
-    /// The condition. The fields below are there at NORMAL, and at LENGERR if there are more bytes
-    /// than the task takes.
+    /// The condition. The other fields have something only at NORMAL, and at LENGERR if the content
+    /// is longer than LENGTH.
     pub condition: Condition,
     /// The key of the record that a browse gave.
     pub key: Option<Record>,
@@ -46,13 +46,13 @@ pub enum Outcome {
     Ended,
 }
 
-/// The result of trying a command: its task is told something, or a unit blocks it.
+/// The result of trying a command.
 #[derive(Drop)]
 pub(crate) enum Attempt {
-    /// What the task is told.
+    /// The command was executed, and its task is told this.
     Told(Outcome),
-    /// The open unit that blocks the command, and the updating command that it asks for, which
-    /// comes back.
+    /// This open unit blocks the command, of which nothing was executed. The updating command that
+    /// it asks for is returned as it was given.
     MustWait(UnitId, Option<Op>),
 }
 
@@ -74,7 +74,7 @@ pub struct Expired {
     pub code: AbendCode,
 }
 
-/// Why an event was refused. A refused event changes nothing.
+/// Why a call of a region was refused. A refused call changes nothing.
 #[derive(Clone, Copy, Debug, PartialEq, Eq)]
 pub enum Refused {
     /// Memory was refused.
@@ -94,7 +94,7 @@ pub enum Refused {
 }
 
 impl Refused {
-    /// Returns the number of the refusal, from 1 on, by which a journal tells it.
+    /// Returns the number of the refusal, from 1 on, that a journal prints.
     pub fn number(&self) -> u64
         ensures { result ≡ refusal_number self.now }
     {

@@ -1,4 +1,4 @@
-//! Plain READ.
+//! READ without UPDATE.
 
 ghost use Rattle.std.specs.Prelude.{◌≡◌, IsTrue, IfOk, false};
 ghost use Rattle.cics_browse.specs.Positions.{is_asked_for};
@@ -21,7 +21,7 @@ pub(crate) fn plain_reply(condition: Condition) -> Reply
     }
 }
 
-// Returns whether EQUAL asks for the record that was found.
+// Returns whether a record has the key, or if generic a key that begins with it.
 fn is_wanted(definition: FileDef, found: &Record, key: &[u8], generic: bool) -> bool
     requires { IsTrue (fits_file definition found.now) }
     ensures { result ≡ is_asked_for key.now generic (key_of definition found.now) }

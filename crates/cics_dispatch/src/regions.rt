@@ -30,25 +30,24 @@ use std::marker::Model;
 
 /// The tasks of a region, their waiting commands, and the files, queues and units that they share.
 ///
-/// Each call is one step of the region's machine: it returns what the step does, and leaves its
+/// Each call is one step of the region's machine: it returns the step's outcome, and leaves its
 /// state. After each call two clauses hold:
 ///
 /// - `headline`: files and queues equal a replay of the surviving entries. Those are the executed
-///   commands without those of backed-out units on recoverable files and queues. Each has in the
-///   replay the answer that it was executed with. LENGTH may have cut what its task was told.
+///   commands without those of backed-out units on recoverable files and queues. The replay gives
+///   each the answer that it had when it was executed, before LENGTH cut what its task was told.
 /// - `serializable`: committed units are serializable in commit order. What they did to recoverable
 ///   files and queues, unit after unit, gives what would stand there if the open units were backed
-///   out. Each of these commands that was answered NORMAL has in this order the answer that it was
-///   executed with.
+///   out. In this order each of these commands that was answered NORMAL has the same answer again.
 ///
 /// The region remembers the blockers that `wake` found. So `wake` looks only at commands that began
-/// to wait since the last look, or whose blocker may have released something since. Commands that
-/// use the same record, prefix, queue name, writing end of a queue or value, and nothing else, are
-/// a wait group. Of a group `wake` looks no further than the first that must wait, unless its
-/// blocker's own task waits for the same resource.
+/// to wait since the last look, or whose blocker may have released something since. Waiting
+/// commands that use the same resource and nothing else are a wait group. A resource is a record, a
+/// prefix, a queue name, the writing end of a queue, or a value. Of a group `wake` looks no further
+/// than the first that must wait, unless its blocker's own task waits for the same resource.
 pub struct Region {
     dispatcher: Dispatcher,
-    // What is known of the waiting commands, up to those that began to wait since the last `wake`.
+    // What is known of the waiting commands, but those that began to wait since the last `wake`.
     notes: Notes,
     // If true, each waiting command has its note, and none must be looked at.
     is_settled: bool,
@@ -56,7 +55,7 @@ pub struct Region {
     is_in_time: bool,
 }
 
-// By hand: a derived drop is taken apart wherever a region is dropped.
+// By hand: so each place that drops a region is one call, not a drop of each field.
 impl Drop for Region {
     fn drop(self) {
         let Region {
@@ -81,8 +80,8 @@ impl Model for Region {
         × IsRemembered r.dispatcher.machine r.notes r.is_settled r.is_in_time };
 }
 
-// Returns the unit of a command's task, if it has one, and the command may have released something.
-// It may if its verb does, or if it has ended its task.
+// Returns the unit of a command's task if the command may have released something of it. A command
+// releases nothing if its verb `keeps` what the unit owns and its task hasn't ended.
 fn giving_up(keeps: bool, outcome: &Outcome, unit: Option<UnitId>) -> Option<UnitId>
     ensures { result ≡ (if keeps && goes_on outcome.now then None else unit) }
 {
@@ -95,7 +94,9 @@ fn giving_up(keeps: bool, outcome: &Outcome, unit: Option<UnitId>) -> Option<Uni
 
 impl Region {
     /// Returns the region of an opening, without a task, its clock at 0. It copies the files and
-    /// queues. If memory is refused, returns the opening.
+    /// queues.
+    ///
+    /// Errors: the opening, if memory is refused.
     pub fn new(opening: Opening) -> Result<Region, Opening>
         ensures machine { IfOk result (λ region. region.machine ≡ beginning_region opening) }
         ensures headline { IfOk result IsHeadlineRegion }
@@ -139,10 +140,10 @@ impl Region {
         self.dispatcher.attach(label, transaction, dtimout)
     }
 
-    /// Sets the clock to so many seconds. Takes no memory.
+    /// Sets the clock to `now`, in seconds. Takes no memory.
     ///
-    /// Errors, which change nothing: `RegionDown` if the region is shut down, `ClockBack` if the
-    /// clock would go back.
+    /// Errors, in this order, which change nothing: `RegionDown` if the region is shut down, and
+    /// `ClockBack` if the clock would go back.
     pub fn set_clock(&mut self, now: u64) -> Result<(), Refused>
         ensures step { IsRegionStep false self.old
             (clock_set self.old.machine now) result self.new }
@@ -157,7 +158,7 @@ impl Region {
     /// Executes a command of the task of a label: it is answered, or it waits, or its task ends.
     ///
     /// A condition that neither RESP nor NOHANDLE handles abends the task with the condition's
-    /// default code (chapter on the exceptional conditions).
+    /// default code, if it has one (the manual's chapter on the exceptional conditions).
     ///
     /// Errors, in this order, which change nothing:
     ///
@@ -165,8 +166,8 @@ impl Region {
     /// - `NoTask`: no task has the label.
     /// - `TaskEnded`: the task has ended.
     /// - `TaskWaiting`: a command of it waits.
-    /// - `NoMemory`, once its checks have passed. UNLOCK, RESETBR, ENDBR, DEQ, SYNCPOINT, ROLLBACK,
-    ///   RETURN and ABEND take no memory.
+    /// - `NoMemory`, once the command's checks have passed. UNLOCK, RESETBR, ENDBR, DEQ, SYNCPOINT,
+    ///   ROLLBACK, RETURN and ABEND take no memory.
     pub fn issue(&mut self, label: Name8, command: Command) -> Result<Outcome, Refused>
         ensures step { IsRegionStep (may_want self.old.machine label command) self.old
             (issued self.old.machine label command) result self.new }
@@ -202,7 +203,9 @@ impl Region {
     /// its task and its outcome. Returns `None` if each has to wait.
     ///
     /// The order is that in which the waits began. The command isn't checked again, and doesn't
-    /// wait again. The only error is `NoMemory`: nothing changes, and the command waits as it did.
+    /// wait again.
+    ///
+    /// Errors: `NoMemory`, which changes nothing: the command waits as it did.
     ///
     /// Cost: O(1) if it last returned `None`, and since then no command began to wait, no task
     /// expired, and no blocker may have released something.
@@ -231,13 +234,13 @@ impl Region {
     /// Abends the first task that has waited too long, with the code AKCS, and returns its label
     /// and the code. Returns `None` if no task has. Takes no memory.
     ///
-    /// The order is that in which the waits began. A task has waited too long once the clock is its
-    /// `dtimout` past the begin of its wait; a `dtimout` of 0 is no limit. Its unit of work is
-    /// backed out, its wait ends, and so does the task.
+    /// The order is that in which the waits began. A task has waited too long if `dtimout` seconds
+    /// or more have passed since its wait began; a `dtimout` of 0 is no limit. The task's unit of
+    /// work is backed out, its wait ends, and so does the task.
     ///
-    /// Cost: O(1) if it last returned `None` and nobody has asked to set the clock since. Else
-    /// O(log waits) to find the task, or O(waits) if it can only be one that began to wait since
-    /// the last `wake`.
+    /// Cost: O(1) if it last returned `None` and `set_clock` wasn't called since. Else O(log waits)
+    /// to find the task, or O(waits) if it can only be one that began to wait since the last
+    /// `wake`.
     pub fn expire(&mut self) -> Option<Expired>
         ensures outcome { result ≡ (expired self.old.machine).outcome }
         ensures machine { self.new.machine ≡ (expired self.old.machine).machine }
@@ -268,7 +271,7 @@ impl Region {
     /// read as before. Takes no memory.
     ///
     /// - `none_open`: no unit is open.
-    /// - `committed`: so each recoverable file and queue holds the replay of the committed units'
+    /// - `committed`: each recoverable file and queue holds the replay of the committed units'
     ///   entries alone.
     ///
     /// Errors, which change nothing: `RegionDown` if the region is shut down already.
@@ -299,10 +302,11 @@ impl Region {
         self.dispatcher.unit_of(label)
     }
 
-    /// Returns the label of the task whose unit blocks the waiting command of a label's task now.
-    /// `None` if no task has the label, no command of it waits, or the one that waits may resume.
+    /// Returns whom the waiting command of a label's task waits for now: the label of the task
+    /// whose unit blocks it. `None` if no command of such a task waits, or the one that waits may
+    /// resume.
     ///
-    /// It looks at what units hold as `wake` would, and not at what is remembered.
+    /// It looks at what units own now, and not at what the region remembers.
     pub fn blocker(&self, label: &Name8) -> Option<Name8>
         ensures blocker { result ≡ blocker_of self.now.machine label.now }
         ensures headline { IsHeadlineRegion self.now }
@@ -311,8 +315,8 @@ impl Region {
         self.dispatcher.blocker(label)
     }
 
-    /// Returns the command of a label's task that waits. It names what it asks for: a record, a
-    /// prefix, a queue or a value. `None` if no command of it waits.
+    /// Returns the waiting command of a label's task, `None` if no command of it waits. Its verb
+    /// names what it asks for: a record, a prefix, a queue or a value.
     pub fn waiting_command(&self, label: &Name8) -> Option<&Command>
         ensures command { option_copied result ≡ waiting_command self.now.machine label.now }
         ensures headline { IsHeadlineRegion self.now }
@@ -330,8 +334,8 @@ impl Region {
         self.dispatcher.task_count()
     }
 
-    /// Returns the label of the task of a number. Numbers count from 0 in the order of attach, and
-    /// a task keeps its number.
+    /// Returns the label of the task of a number, if there is one. Numbers count from 0 in the
+    /// order of attach, and a task keeps its number.
     pub fn label_at(&self, number: usize) -> Option<Name8>
         ensures label { result ≡ label_at self.now.machine.tasks number }
         ensures headline { IsHeadlineRegion self.now }
@@ -350,7 +354,7 @@ impl Region {
     }
 
     /// Returns the units of work of the region, with the files and queues that they share, their
-    /// history and its outcomes.
+    /// history and their outcomes.
     pub fn units(&self) -> &Units
         ensures units { result.now
             ≡ record { state = self.now.machine.units; store = self.now.store } }
@@ -364,8 +368,9 @@ impl Region {
     /// returns what each task that hasn't ended does, in the order of attach. This is what a user
     /// is shown of the region.
     ///
-    /// It changes nothing. It copies each record and the tasks, and `NoMemory` is its only error.
-    /// Each task costs one look-up of its wait, however many commands wait.
+    /// Errors: `NoMemory`.
+    ///
+    /// Cost: O(bytes copied + tasks), however many commands wait.
     pub fn listing(&self) -> Result<Listing, NoMemory>
         ensures listing { IfOk result (λ listing. listing ≡ region_listing self.now) }
         ensures replayed { IfOk result (λ listing.
@@ -380,7 +385,7 @@ impl Region {
     /// by one, to what was loaded. It has no tasks. Uses no before images: an independent check of
     /// the files and queues of `listing`.
     ///
-    /// It changes nothing. It copies each record, and `NoMemory` is its only error.
+    /// Errors: `NoMemory`.
     ///
     /// Cost: O(log n) for each record loaded and each command executed, for n records in its file.
     pub fn replayed(&self) -> Result<Listing, NoMemory>

@@ -1,4 +1,4 @@
-//! What a task is told of a read.
+//! Replies: what a task is told of an answer, cut to LENGTH.
 
 ghost use Rattle.std.specs.Prelude.{◌≡◌, take, option_map};
 ghost use Rattle.cics_dispatch.specs.Replies.{cut};

@@ -67,9 +67,9 @@ impl Task {
         self.dtimout
     }
 
-    /// Returns the last clock, in seconds, at which it hasn't waited too long, if it waits since
-    /// `since`. If it may wait without limit, or the sum is greater, that is u64::MAX, the last
-    /// clock that there is.
+    /// Returns the last clock, in seconds, at which a wait of it that began at `since` isn't too
+    /// long: `since + dtimout - 1`. It is at most `u64::MAX`, and that if it may wait without
+    /// limit.
     pub(crate) fn deadline(&self, since: u64) -> u64
         ensures { result ≡ deadline_of self.now since }
     {
@@ -115,8 +115,8 @@ impl Task {
         self.unit = Some(unit);
     }
 
-    /// Takes its unit away, if it has one, and all its browses. Returns that unit. `has_ended` says
-    /// whether it ends too.
+    /// Takes its unit away, if it has one, and returns it. Ends all its browses, and if `has_ended`
+    /// the task too.
     pub(crate) fn close_unit(&mut self, has_ended: bool) -> Option<UnitId>
         ensures unit { result ≡ self.old.unit }
         ensures task { self.new

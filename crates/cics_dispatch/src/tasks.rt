@@ -26,10 +26,9 @@ use std::marker::Model;
 #[derive(Drop)]
 pub(crate) struct Tasks {
     rows: IndexMap<Name8, Task>,
-    // The index of the task of each open unit. A unit that has ended may still stand here, with
-    // None. Those units go all at once, when the map is full: a map doesn't tell that the room of a
-    // removed entry is free again. It has room for almost twice as many units as tasks, so that is
-    // seldom.
+    // The index of each open unit's task. A unit that has ended stays, with None, until the map is
+    // full: by its contract, to remove an entry need not free its room. Then the map is filled
+    // anew. It has room for twice as many units as tasks, less one, so that is seldom.
     owners: IndexMap<UnitId, Option<usize>>,
     alloc: Global,
 }
@@ -48,7 +47,7 @@ impl Model for Tasks {
         × AreOwnersKept (values_of t.rows.entries) t.owners };
 }
 
-// Enters the units of all tasks anew. Takes no memory.
+// Fills `owners` anew, from the units of the tasks. Takes no memory.
 fn enter_all(rows: &IndexMap<Name8, Task>, owners: &mut IndexMap<UnitId, Option<usize>>)
     requires units { IsOwn own_unit (values_of rows.now.entries) }
     requires room { HasRoomForUnits (values_of rows.now.entries) owners.old }
@@ -77,7 +76,7 @@ impl Tasks {
         }
     }
 
-    /// Returns how many tasks were attached. One more could still be counted.
+    /// Returns how many tasks were attached. That is less than `usize::MAX`.
     pub(crate) fn len(&self) -> usize
         ensures length { result ≡ length self.now }
         ensures fits { length self.now < 0xFFFFFFFFFFFFFFFF }
@@ -86,7 +85,7 @@ impl Tasks {
     }
 
     /// Begins a task, last of all. No task has its label. `dtimout` is the seconds that it may
-    /// wait, 0 for no limit. Takes the memory for the task's units too. On error no task begins.
+    /// wait, 0 for no limit. Reserves room for its units too. On error no task begins.
     pub(crate) fn attach(&mut self, label: Name8, dtimout: u64) -> Result<(), NoMemory>
         requires { task_at self.old label ≡ None }
         ensures ok { OnOk result (self.new ≡ self.old ++ new_task label dtimout ∷ []) }
@@ -139,8 +138,8 @@ impl Tasks {
             return;
         }
         self.rows[at].begin_unit(unit);
-        // A unit begins once, but that isn't known here. Nor is it known that an entry that is
-        // entered again takes no room.
+        // The unit is new, but that isn't known here. Nor is it known that an entry that replaces
+        // another takes no room.
         if self.owners.len() == self.owners.capacity() || self.owners.contains_key(&unit) {
             enter_all(&self.rows, &mut self.owners);
             return;
@@ -150,8 +149,8 @@ impl Tasks {
         };
     }
 
-    /// Takes the unit of the task at an index away, if it has one, and all its browses. Returns
-    /// that unit. `has_ended` says whether the task ends too. Takes no memory.
+    /// Takes the unit of the task at an index away, if it has one, and returns it. Ends all the
+    /// task's browses, and if `has_ended` the task too. Takes no memory.
     pub(crate) fn close_unit(&mut self, at: usize, has_ended: bool) -> Option<UnitId>
         requires { at < length self.old }
         ensures unit { (t : TaskValue) → slice_get self.old at ≡ Some t → result ≡ t.unit }
@@ -166,8 +165,8 @@ impl Tasks {
         Some(unit)
     }
 
-    /// Returns the browses of the task at an index, to be changed. Only they are lent: the task is
-    /// found by its label and by its unit.
+    /// Returns the browses of the task at an index, to be changed. The task isn't lent whole: its
+    /// label and unit lead to its index, and must stay.
     pub(crate) fn browses_mut(&mut self, at: usize) -> &mut Browses
         requires { at < length self.old }
         ensures* writes_back { sem 𝓛 (LendsBrowsesAt self.entry at result) }

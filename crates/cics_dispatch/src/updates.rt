@@ -1,4 +1,5 @@
-//! The updating commands that the commands of a task ask for.
+//! The updating commands that tasks' commands ask for. READ UPDATE, WRITE and READQ TD ask for one;
+//! ENQ, SYNCPOINT and a plain READ don't.
 
 ghost use Rattle.std.specs.Prelude.{◌≡◌, [], IsTrue, IfOk, OnOk, OnErr, Some, None, if◌then◌else◌};
 ghost use Rattle.cics_dispatch.specs.Answers.{is_growing};
@@ -13,7 +14,7 @@ use cics_units::Op;
 use std::alloc::Global;
 use std::mem::replace;
 
-// Takes the bytes out of a record.
+/// Takes the bytes out of a record, which then has none.
 pub(crate) fn take(alloc: Global, own: &mut Record) -> Record
     ensures taken { result ≡ own.old }
     ensures left { own.new ≡ [] }
@@ -127,7 +128,7 @@ fn take_own_op(alloc: Global, verb: &mut Verb) -> Result<Option<Op>, NoMemory>
 
 /// Takes the updating command that a verb asks for out of the verb, with its key and the bytes of
 /// FROM that it uses. So they aren't copied, unless LENGTH cuts FROM. Returns `None` for a verb
-/// that updates nothing. `refill` puts back what was taken.
+/// that asks for none. `refill` puts back what was taken.
 ///
 /// `open_key` is the key of the task's open update read of the file that the verb names, `None` if
 /// there is none. REWRITE changes the record of that key, and so does DELETE without RIDFLD.
@@ -218,7 +219,8 @@ fn refill_verb(alloc: Global, verb: &mut Verb, op: &Op) -> Result<(), NoMemory>
     }
 }
 
-/// Returns a command with what `take_op` took out of it for its updating command, if it has one.
+/// Puts back into a command what `take_op` took out of it for its updating command, if it has one.
+/// Returns the command.
 #[cold]
 pub(crate) fn refill(alloc: Global, command: Command, op: &Option<Op>) -> Result<Command, NoMemory>
     ensures { IfOk result (λ filled. filled ≡ whole command op.now) }

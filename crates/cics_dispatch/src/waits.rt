@@ -23,7 +23,7 @@ pub(crate) struct Suspended {
     since: u64,
 }
 
-// By hand: a derived drop is taken apart wherever a wait is dropped.
+// By hand: so each place that drops a wait is one call, not a drop of each field.
 impl Drop for Suspended {
     fn drop(self) {
         let Suspended {
@@ -56,7 +56,7 @@ impl Suspended {
         self.label
     }
 
-    /// Returns the command, whole.
+    /// Returns the whole command.
     pub(crate) fn command(&self) -> &Command
         ensures { result.now ≡ self.now.command }
     {
@@ -88,7 +88,7 @@ pub(crate) struct Waits {
     numbers: IndexMap<Name8, u64>,
 }
 
-// By hand: a derived drop is taken apart wherever waits are dropped.
+// By hand: so each place that drops waits is one call, not a drop of each field.
 impl Drop for Waits {
     fn drop(self) {
         let Waits {
@@ -206,8 +206,8 @@ impl Waits {
     /// Adds the wait of a command, last of all. No other command of its task waits. `op` is the
     /// updating command that it asks for, `since` the clock, in seconds.
     ///
-    /// On `NoMemory` the waits stay as they are, and the command is dropped. That is the error too
-    /// if a wait has the number 2^64 - 1.
+    /// Errors: `NoMemory`, also if the last wait has the number 2^64 - 1. The waits stay as they
+    /// are, and the command is dropped.
     pub(crate) fn begin(
         &mut self,
         label: Name8,

@@ -1,4 +1,5 @@
--- What conflicts is one unit's: it stays so at each take that is allowed, at each gift back and at each release.
+-- Conflicting resources have one owner, also once a unit acquired what it may, or released
+-- something.
 use Rattle.std.proofs.Common.{◌≡◌, ℕ, ◌-◌, ◌==◌, true, false, T, Option, Some, None, refl, sym, ap, subst, ◌∙◌, ◌⊎◌, inl, inr}
 use Rattle.std.specs.Prelude.{nat_lt, if◌then◌else◌}
 use Rattle.std.proofs.lemmas.Bool.{eqb-true}
@@ -9,7 +10,7 @@ use Rattle.cics_enqueue.specs.Table.{Table, Held, AreApart, IsFreeFor, is_in_ord
 use Rattle.cics_history.specs.ResourceLaws.{is_one-eq, conflicts-turned}
 use Rattle.cics_enqueue.proofs.TableLaws.{holder_of-taken, held_at-given_back, holder_of-released, held_less, holder_without, unit_in}
 
--- who holds a resource after a take: the taker, or who held it
+-- the owner of a resource once a unit has acquired one: that unit, or the owner before
 after_take : (t : Table) (r : Resource) (u : ℕ) (q : Resource) (v : ℕ) → holder_of q (taken t r u) ≡ Some v → ((q ≡ r) × (v ≡ u)) ⊎ (holder_of q t ≡ Some v)
 after_take t r u q v at = elim (is_one q r) as (λ b. is_one q r ≡ b → (if b then Some u else holder_of q t) ≡ Some v → ((q ≡ r) × (v ≡ u)) ⊎ (holder_of q t ≡ Some v)) [
   | true ↦ λ one is. let same : u ≡ v = cc in inl (is_one-eq q r one, sym same)
@@ -28,7 +29,7 @@ AreApart-taken t r u apart free p q v w meets at bt = elim (after_take t r u p v
   ]
 ]
 
--- nobody comes to hold a resource by a gift back
+-- nobody comes to own a resource by a release
 after_gift : (t : Table) (r : Resource) (u : ℕ) (q : Resource) (v : ℕ) → holder_of q (given_back t r u) ≡ Some v → holder_of q t ≡ Some v
 after_gift t r u q v at = elim (is_one q r) as (λ b. is_one q r ≡ b → unit_in (if b then held_less u (held_at r t) else held_at q t) ≡ Some v → holder_of q t ≡ Some v) [
   | true ↦ λ one is. ap (λ s. holder_of s t) (is_one-eq q r one) ∙ less (held_at r t) is

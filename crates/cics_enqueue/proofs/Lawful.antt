@@ -1,4 +1,4 @@
--- Tables stay lawful at each take that is allowed, at each gift back and at each release.
+-- A table stays lawful if a unit acquires what it may acquire, and if it releases something.
 use Rattle.std.proofs.Common.{◌≡◌, ◌≤◌, ◌+◌, ◌-◌, ◌==◌, ℕ, Bool, true, false, Option, Some, None, [], arith, refl, sym, subst, ◌∙◌}
 use Rattle.std.specs.Prelude.{if◌then◌else◌, nat_lt}
 use Rattle.std.proofs.lemmas.Bool.{ltb-true}
@@ -16,7 +16,7 @@ lawful-none = record {
   once = λ r value. refl;
 }
 
--- a take leaves a resource held at least once
+-- a resource that is acquired is owned at least once
 raised : (r : Resource) (o : Option Held) → ((h : Held) → o ≡ Some h → 1 ≤ h.count) → 1 ≤ raised_count r o
 raised r None held = omega arith
 raised r (Some h) held =
@@ -37,7 +37,7 @@ lawful-taken t r u lawful free = record {
         subst (λ n. 1 ≤ n) count (raised r (held_at r t) (lawful.held r))
     by q h false at = lawful.held q h at
 
--- what is left after a gift back is held at least once
+-- what is still owned after a release is owned at least once
 lessened : (u : ℕ) (o : Option Held) → ((h : Held) → o ≡ Some h → 1 ≤ h.count) → (h : Held) → held_less u o ≡ Some h → 1 ≤ h.count
 lessened u None held h at = cc
 lessened u (Some g) held h at = elim (g.unit == u) as (λ b. (if b then (if nat_lt 1 g.count then Some (record { unit = u; count = g.count - 1 }) else None) else Some g) ≡ Some h → 1 ≤ h.count) [
@@ -63,7 +63,7 @@ lawful-given_back t r u lawful = record {
     by q h true at = lessened u (held_at r t) (lawful.held r) h at
     by q h false at = lawful.held q h at
 
--- what is left after a release was held as it is
+-- what is still owned after a unit released all was owned as it is
 left : (u : ℕ) (o : Option Held) (h : Held) → held_without u o ≡ Some h → o ≡ Some h
 left u None h at = cc
 left u (Some g) h at = elim (g.unit == u) as (λ b. (if b then None else Some g) ≡ Some h → Some g ≡ Some h) [ true ↦ λ is. cc | false ↦ λ is. is ] at

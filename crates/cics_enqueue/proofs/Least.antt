@@ -1,4 +1,4 @@
--- Whoever is found to hold what conflicts with a resource holds the least of it, in byte order.
+-- The owner that is found of what conflicts with a resource owns the smallest of it, in byte order.
 use Rattle.std.proofs.Common.{◌≡◌, ℕ, ◌&&◌, ◌||◌, ◌==◌, Bool, true, false, cond, T, Option, Some, None, [], ◌∷◌, ◌++◌, length, arith, refl, sym, ap, subst, ◌∙◌, ◌⊎◌, inl, inr, append_assoc, append-nil}
 use Rattle.std.specs.Prelude.{IfSome, option_map, if◌then◌else◌}
 use Rattle.std.specs.declared.cmp.Ordering.{Ordering}
@@ -89,7 +89,7 @@ below_held r (e ∷ es) below s h at = elim (is_eq (resource_cmp s e.0)) as (λ 
     is_true true p = refl
     is_true false p = absurd p
 
--- an entry passes a test, is held so, and none that passes is below it
+-- an entry passes a test, has this holding, and none that passes is below it
 IsFirst : (Resource × Held → Bool) → Table → Resource × Held → Type 0
 IsFirst test t e =
     (test e ≡ true) × (held_at e.0 t ≡ Some e.1) × ((s : Resource) (h : Held) → held_at s t ≡ Some h → test (s, h) ≡ true → is_below (resource_key s) (resource_key e.0) ≡ false)
@@ -107,14 +107,14 @@ first_least test (d ∷ ds) rises e is = elim (test d) as (λ b. test d ≡ b �
       (rest.0, past e rest.1, λ s h held passes. later s h fails (rest.2 s h) held passes)
 ] refl is
   where
-    -- what is held is the first entry or stands behind it
+    -- a resource that is owned is that of the first entry, or comes behind it
     here : (s : Resource) (h : Held) → held_at s (d ∷ ds) ≡ Some h → is_below (resource_key s) (resource_key d.0) ≡ false
     here s h = elim (is_eq (resource_cmp s d.0)) as (λ b. is_eq (resource_cmp s d.0) ≡ b → cond b (Some d.1) (held_at s ds) ≡ Some h → is_below (resource_key s) (resource_key d.0) ≡ false) [
       | true ↦ λ one held. ap (λ q. is_below (resource_key q) (resource_key d.0)) (is_one-eq s d.0 (is_one-cmp s d.0 ∙ one)) ∙ begins-not_below (resource_key d.0) (resource_key d.0) (has_prefix-self (resource_key d.0))
       | false ↦ λ other held. below_held d.0 ds (left_of (below_all resource_cmp d.0 ds) (is_in_order ds) rises) s h held
     ] refl
 
-    -- what stands behind the first entry is held as it stands there
+    -- a resource behind the first entry has the holding that it has there
     past : (e : Resource × Held) → held_at e.0 ds ≡ Some e.1 → held_at e.0 (d ∷ ds) ≡ Some e.1
     past e held = elim (is_eq (resource_cmp e.0 d.0)) as (λ b. is_eq (resource_cmp e.0 d.0) ≡ b → cond b (Some d.1) (held_at e.0 ds) ≡ Some e.1) [
       | true ↦ λ one.
@@ -123,7 +123,7 @@ first_least test (d ∷ ds) rises e is = elim (test d) as (λ b. test d ≡ b �
       | false ↦ λ other. held
     ] refl
 
-    -- where the first entry doesn't pass, what passes stands behind it
+    -- if the first entry doesn't pass, what passes comes behind it
     later : (s : Resource) (h : Held) → test d ≡ false → (held_at s ds ≡ Some h → test (s, h) ≡ true → is_below (resource_key s) (resource_key e.0) ≡ false) → held_at s (d ∷ ds) ≡ Some h → test (s, h) ≡ true → is_below (resource_key s) (resource_key e.0) ≡ false
     later s h fails behind = elim (is_eq (resource_cmp s d.0)) as (λ b. is_eq (resource_cmp s d.0) ≡ b → cond b (Some d.1) (held_at s ds) ≡ Some h → test (s, h) ≡ true → is_below (resource_key s) (resource_key e.0) ≡ false) [
       | true ↦ λ one held passes.
@@ -142,18 +142,18 @@ other_parts asker (Some w) v is = elim (is_other asker w) as (λ b. is_other ask
 ] refl is
 
 module _ (f : Bytes) (asker : Option ℕ) (t : Table) where
-  -- the other unit that holds a prefix of the file
+  -- the other unit that owns a prefix of the file
   abbrev others : Bytes → Option ℕ
   others b = other_than asker (holder_of (FilePrefix f (bytes_of b)) t)
 
-  -- where bytes stand among the keys and the prefixes of the file
+  -- bytes in the order of the keys and the prefixes of the file
   abbrev place : Bytes → Bytes
   place b = length f ∷ (f ++ b)
 
   not_below : (a k : Bytes) → has_prefix a k ≡ true → is_below (place k) (place a) ≡ false
   not_below a k h = begins-not_below (place a) (place k) (and_from _ _ (eq-eqb (length f) (length f) refl) (begins_after f a k h))
 
-  -- nobody holds it whom the asker waits for
+  -- no other unit than the asker owns it
   not_held : (b : Bytes) (w : ℕ) → others b ≡ None → holder_of (FilePrefix f (bytes_of b)) t ≡ Some w → is_other asker w ≡ true → ⊥
   not_held b w none at other =
       let wrong : true ≡ false = sym other ∙ own_holder asker w (sym (ap (other_than asker) at) ∙ none) in
@@ -189,7 +189,7 @@ module _ (f : Bytes) (asker : Option ℕ) (t : Table) where
 
   -- ---- a shorter prefix
 
-  -- the shortest prefix with which the rest goes on and that another unit holds
+  -- the shortest prefix that another unit owns and with which the bytes begin
   abbrev Shortest : Bytes → Bytes → ℕ → Type 0
   Shortest p rest v =
       (a : Bytes) × (x : ℕ) × (b : Bytes) × (rest ≡ a ++ x ∷ b) × (others (p ++ a) ≡ Some v) × ((c : Bytes) (y : ℕ) (d : Bytes) → a ≡ c ++ y ∷ d → others (p ++ c) ≡ None)
@@ -202,7 +202,7 @@ module _ (f : Bytes) (asker : Option ℕ) (t : Table) where
   found_shorter p [] v is = cc
   found_shorter p (x ∷ r) v is = by (others p) refl (found_shorter (p ++ x ∷ []) r v) is
     where
-      -- where the prefix itself is nobody's, the shortest is found behind it
+      -- if no other unit owns the prefix itself, a longer one is the shortest
       earlier : others p ≡ None → (a : Bytes) → ((c : Bytes) (y : ℕ) (d : Bytes) → a ≡ c ++ y ∷ d → others ((p ++ x ∷ []) ++ c) ≡ None) → (c : Bytes) (y : ℕ) (d : Bytes) → x ∷ a ≡ c ++ y ∷ d → others (p ++ c) ≡ None
       earlier at a later [] y d e = ap others (append-nil p) ∙ at
       earlier at a later (z ∷ c) y d e =
@@ -237,7 +237,7 @@ module _ (f : Bytes) (asker : Option ℕ) (t : Table) where
         ],
       )
 
-  -- where no shorter prefix is another unit's, nothing near is below what has the same bytes
+  -- if no shorter prefix is another unit's, nothing that conflicts is below what has the same bytes
   same_least : (p : Bytes) → holder_of_shorter f [] p asker t ≡ None → (q : Resource) (w : ℕ) → Near p q → holder_of q t ≡ Some w → is_other asker w ≡ true → is_below (place_of q) (place p) ≡ false
   same_least p none q w near at other = elim near [
     | inl key ↦ ap (λ s. is_below (place_of s) (place p)) key.2 ∙ not_below p key.0 key.1
@@ -294,11 +294,11 @@ module _ (f : Bytes) (asker : Option ℕ) (t : Table) where
   abbrev under : Resource → Resource × Held → Bool
   under r e = is_under r e.0 && is_other asker e.1.unit
 
-  -- none of a kind that begins with a prefix and is another unit's is below a place
+  -- none of a kind that begins with a prefix and is another unit's is below these bytes
   abbrev Above : (Bytes → Resource) → Bytes → Bytes → Type 0
   Above kind p at = (k : Bytes) (w : ℕ) → has_prefix p k ≡ true → holder_of (kind k) t ≡ Some w → is_other asker w ≡ true → is_below (place k) at ≡ false
 
-  -- where there is none, none is below anything
+  -- if there is none, none is below anything
   above_none : (kind : Bytes → Resource) (p at : Bytes) → ((k : Bytes) → has_prefix p k ≡ true → is_under (kind p) (kind k) ≡ true) → first_that (under (kind p)) t ≡ None → Above kind p at
   above_none kind p at begins none k w begin held other =
       let wrong : true ≡ false = sym other ∙ under_own (kind p) asker t none (kind k) (begins k begin) w held in
@@ -336,7 +336,7 @@ module _ (f : Bytes) (asker : Option ℕ) (t : Table) where
     ],
   )
 
-  -- a first entry is in the way, and none of its kind is below it
+  -- a first entry conflicts, and none of its kind is below it
   abbrev Found : (Bytes → Resource) → Bytes → Resource × Held → Type 0
   Found kind p e =
       (conflicts (FilePrefix f (bytes_of p)) e.0 ≡ true) × (holder_of e.0 t ≡ Some e.1.unit) × (is_other asker e.1.unit ≡ true) × Above kind p (place_of e.0)
@@ -433,13 +433,13 @@ module _ (f : Bytes) (asker : Option ℕ) (t : Table) where
         by (Some w) at is = shorter_least (key p) p v covers (near_key (bytes_of p)) (found_shorter [] p v (at ∙ is))
         by None at is = same at (other_than asker (holder_of (key p) t)) refl is
 
--- who holds what conflicts with itself alone
+-- the owner of what conflicts with itself alone
 plain_least : (t : Table) (asker : Option ℕ) (r : Resource) (v : ℕ) → ((q : Resource) → conflicts r q ≡ true → is_one r q ≡ true) → other_than asker (holder_of r t) ≡ Some v → HoldsLeast t r asker v
 plain_least t asker r v alone found =
     let held = other_parts asker (holder_of r t) v found in
     (r, (conflicts-self r, held.0, held.1), λ q w way. ap (λ s. is_below (place_of s) (place_of r)) (sym (is_one-eq r q (alone q way.0))) ∙ begins-not_below (place_of r) (place_of r) (has_prefix-self (place_of r)))
 
--- whoever is found to hold what conflicts with a resource holds the least of it
+-- the owner that is found of what conflicts with a resource owns the smallest of it
 pub holder_over-least : (t : Table) (asker : Option ℕ) → T (is_in_order t) → (r : Resource) (v : ℕ) → holder_over r asker t ≡ Some v → HoldsLeast t r asker v
 holder_over-least t asker rises (FilePrefix f p) v is = prefix_least f asker t rises p.items v is
 holder_over-least t asker rises (FileKey f k) v is = key_least f asker t rises k.items v is
@@ -453,7 +453,7 @@ pub least_if_some : (o : Option ℕ) (t : Table) (r : Resource) (asker : Option 
 least_if_some None t r asker rises is = tt
 least_if_some (Some v) t r asker rises is = holder_over-least t asker rises r v (sym is)
 
--- where no other unit holds anything, none stands in the way
+-- if no other unit owns anything, there is no blocker
 pub none_alone : (t : Table) (r : Resource) (asker : Option ℕ) → T (is_in_order t) → ((s : Resource) → other_than asker (holder_of s t) ≡ None) → None ≡ holder_over r asker t
 none_alone t r asker rises alone = by (holder_over r asker t) refl
   where

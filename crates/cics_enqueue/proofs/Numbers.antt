@@ -22,7 +22,7 @@ drop-behind zero [] = refl
 drop-behind (suc n) [] = refl
 drop-behind n (x ∷ k) = refl
 
--- the lesser first byte decides, where none is less than 0
+-- the lesser first byte decides
 by_first : (k l : Bytes) → first_or_zero k < first_or_zero l → bytes_cmp k l ≡ Less
 by_first [] [] less = absurd (omega (arith, less))
 by_first [] (y ∷ l) less = refl
@@ -37,7 +37,8 @@ by_rest (x ∷ []) [] same less = cc
 by_rest (x ∷ z ∷ k) [] same less = cc
 by_rest (x ∷ k) (y ∷ l) same less = ap (λ o. ordering_then o (bytes_cmp k l)) (sym (nat_cmp_is x y Equal same)) ∙ less
 
--- the first bytes of one key, as a number, are less, or they are the same number and the rest is less: then the key is less
+-- a key is less if its first bytes are a lesser number, or if they are the same number and the rest
+-- is less
 below : (n a : ℕ) (k l : Bytes) → AreBytes n k → AreBytes n l → ordering_then (nat_cmp (filled n a k) (filled n a l)) (bytes_cmp (drop n k) (drop n l)) ≡ Less → bytes_cmp k l ≡ Less
 below zero a k l x y is = ap (λ o. ordering_then o (bytes_cmp k l)) (nat_cmp_is a a Equal refl) ∙ is
 below (suc n) a k l x y is = by (below n (a * 256 + first_or_zero k) (behind k) (behind l) x.1 y.1) (nat_cmp (first_or_zero k) (first_or_zero l)) (ranks (first_or_zero k) (first_or_zero l))
@@ -145,7 +146,7 @@ module _ (k l : Bytes) (m n : Numbers) (x : AreNumbers k m) (y : AreNumbers l n)
           past b p = omega (arith, length-drop 8 (drop 8 (drop 8 b)), length-drop 8 (drop 8 b), length-drop 8 b)
 
 -- ---- a key with zeros behind it
--- two lists have the same first bytes, zeros where there are fewer
+-- two lists have the same first bytes, with zeros for those that aren't there
 pub HaveSame : ℕ → Bytes → Bytes → Type 0
 HaveSame zero k l = Unit {0}
 HaveSame (suc n) k l = (first_or_zero k ≡ first_or_zero l) × HaveSame n (behind k) (behind l)

@@ -64,7 +64,7 @@ has_popped xs ys key popped k other had = by (list_any (finds k.items) ys) (find
     by false true e had = sym e
     by false false e had = had
 
--- where the last key came off, and it is this one, all others are there
+-- if the last key was removed, and it is this one, all others are there
 pub has_dropped : (xs ys : List (Vec ℕ)) (o : Option (Vec ℕ)) → xs ≡ ys ++ option_to_list o → (l : Vec ℕ) → slice_get xs (length xs - 1) ≡ Some l → (key : Bytes) → is_same l.items key ≡ true →
     (k : Vec ℕ) → is_same key k.items ≡ false → list_any (finds k.items) xs ≡ true → list_any (finds k.items) ys ≡ true
 has_dropped xs ys None popped l last key same k other had = ap (list_any (finds k.items)) (sym (popped ∙ append-nil ys)) ∙ had
@@ -80,7 +80,7 @@ has_dropped xs ys (Some x) popped l last key same k other had =
         stands [] = refl
         stands (y ∷ ys) = stands ys
 
--- where a key came off a unit's list, only this one went
+-- if a key was removed from a unit's list, only this one was
 pub drops_if_some : (ls ms : Owned) (unit : ℕ) (w : Vec (Vec ℕ)) → ((q : ℕ) → lookup (nat_eq q) ms ≡ cond (nat_eq unit q) (Some w) (lookup (nat_eq q) ls)) → (v : Vec (Vec ℕ)) → lookup (nat_eq unit) ls ≡ Some v →
     (o : Option (Vec ℕ)) → v.items ≡ w.items ++ option_to_list o → IfSome o (λ key. Drops unit key.items ls ms)
 drops_if_some ls ms unit w h v there None popped = tt
@@ -96,18 +96,18 @@ pub on_err_anyway : {X E Q : Type 0} (r : Result X E) → Q → OnErr r Q
 on_err_anyway (Ok x) q = tt
 on_err_anyway (Err e) q = q
 
--- where nothing came off, nothing changed
+-- if nothing was removed, nothing changed
 pub owns-popped : (ls ms : Owned) (unit : ℕ) (w : Vec (Vec ℕ)) → ((q : ℕ) → lookup (nat_eq q) ms ≡ cond (nat_eq unit q) (Some w) (lookup (nat_eq q) ls)) → (v : Vec (Vec ℕ)) → lookup (nat_eq unit) ls ≡ Some v →
     (o : Option (Vec ℕ)) → v.items ≡ w.items ++ option_to_list o → IfNone o ((u : ℕ) (k : Vec ℕ) → owns ms u k ≡ owns ls u k)
 owns-popped ls ms unit w h v there None popped = owns-same ls ms unit w h v there (sym (popped ∙ append-nil w.items))
 owns-popped ls ms unit w h v there (Some key) popped = tt
 
--- what holds where a test fails holds where its opposite passes
+-- what holds if a test fails holds if its opposite passes
 pub on_not_by : {Q : Type 0} (b : Bool) → (b ≡ false → Q) → OnTrue (not b) Q
 on_not_by true h = tt
 on_not_by false h = h refl
 
--- where one unit alone has a set, and it is the asker, no other unit owns a key
+-- if the asker alone has a list, no other unit owns a key
 pub owns_alone : (own : Owned) (asker : Option ℕ) (e : ℕ × Vec (Vec ℕ)) → slice_get own 0 ≡ Some e → length own ≤ 1 → is_other asker e.0 ≡ false → (u : ℕ) (k : Vec ℕ) → is_other asker u ≡ true → owns own u k ≡ false
 owns_alone [] asker e at one mine u k other = refl
 owns_alone (d ∷ c ∷ rest) asker e at one mine u k other = absurd (omega arith)

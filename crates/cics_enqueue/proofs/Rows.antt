@@ -1,4 +1,4 @@
--- Worked rows: who stands in the way of a unit.
+-- Worked rows: which unit is a blocker.
 use Rattle.std.specs.Prelude.{◌≡◌, Some, None, true, false, [], ◌∷◌, refl}
 use Rattle.cics_names.specs.Keyed.{Bytes}
 use Rattle.cics_history.specs.declared.resources.Resource.{Resource}
@@ -33,13 +33,14 @@ elsewhere = refl
 nested : conflicts (prefix accounts (7 ∷ 8 ∷ [])) (prefix accounts []) ≡ true
 nested = refl
 
--- unit 1 holds the keys 7 9 and 8, unit 2 the key 7 5, unit 3 a key of the other file and the prefix 7 7
+-- unit 1 owns the keys 7 9 and 8, unit 2 the key 7 5, unit 3 a key of the other file and the prefix
+-- 7 7
 abbrev table : Table
 table =
     taken (taken (taken (taken (taken [] (key accounts (7 ∷ 9 ∷ [])) 1) (key accounts (8 ∷ [])) 1) (key accounts (7 ∷ 5 ∷ [])) 2)
     (key orders (7 ∷ 1 ∷ [])) 3) (prefix accounts (7 ∷ 7 ∷ [])) 3
 
--- the least, whoever took first
+-- the smallest, whichever unit acquired first
 least : held_with_prefix accounts (7 ∷ []) None table ≡ Some 2
 least = refl
 
@@ -47,7 +48,7 @@ least = refl
 own_passed : held_with_prefix accounts (7 ∷ []) (Some 2) table ≡ Some 3
 own_passed = refl
 
--- a held prefix stands at its own bytes, and keeps others from all that begins with it
+-- a prefix that is owned is ordered by its own bytes, and conflicts with all that begins with it
 under_prefix : held_with_prefix accounts (7 ∷ 7 ∷ 1 ∷ []) (Some 1) table ≡ Some 3
 under_prefix = refl
 
@@ -57,14 +58,15 @@ covered_key = refl
 covered_by_own : holder_over (key accounts (7 ∷ 7 ∷ 1 ∷ [])) (Some 3) table ≡ None
 covered_by_own = refl
 
--- a prefix with the bytes of a held key conflicts with it, and so does a key with those of a held prefix
+-- a prefix with the bytes of an owned key conflicts with it, and so does a key with those of an
+-- owned prefix
 same_bytes : holder_over (prefix accounts (7 ∷ 9 ∷ [])) (Some 2) table ≡ Some 1
 same_bytes = refl
 
 same_bytes_turned : holder_over (key accounts (7 ∷ 7 ∷ [])) (Some 1) table ≡ Some 3
 same_bytes_turned = refl
 
--- a unit that holds a prefix may take all that begins with it
+-- a unit that owns a prefix may acquire all that begins with it
 within_own : held_with_prefix accounts (7 ∷ 7 ∷ 1 ∷ []) (Some 3) table ≡ None
 within_own = refl
 
@@ -72,7 +74,7 @@ within_own = refl
 past_own : held_with_prefix accounts (8 ∷ []) (Some 2) (taken table (prefix accounts []) 2) ≡ Some 1
 past_own = refl
 
--- a key that is merely near keeps nobody from anything
+-- a key that is merely near conflicts with nothing
 near : held_with_prefix accounts (7 ∷ 4 ∷ []) None table ≡ None
 near = refl
 
@@ -83,6 +85,6 @@ near_above = refl
 whole_file : held_with_prefix accounts [] (Some 2) table ≡ Some 3
 whole_file = refl
 
--- what is left once a unit has given up all it held
+-- what is left once a unit has released all that it owned
 left : held_with_prefix accounts (7 ∷ []) None (released (released table 2) 3) ≡ Some 1
 left = refl

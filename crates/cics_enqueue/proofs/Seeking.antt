@@ -63,7 +63,7 @@ passed (x ∷ s) (y ∷ k) (z ∷ b) above other below = elim (cases_Bool (x == 
   | inr apart ↦ ap (λ t. t && has_prefix s b) apart
 ]
   where
-    -- where the first bytes are one, the rest is
+    -- if the first bytes are the same, so is the rest
     rest : (is_lt (bytes_cmp s k) ≡ true → has_prefix s k ≡ false → bytes_cmp k b ≡ Less → has_prefix s b ≡ false) → (x == y) ≡ true → ordering_then (nat_cmp y x) (bytes_cmp k b) ≡ Less → has_prefix s b ≡ false
     rest later one below = later
         (ap (λ o. is_lt (ordering_then o (bytes_cmp s k))) (sym (tied x y one)) ∙ above)
@@ -141,7 +141,7 @@ pub never : (b : Bool) → (b && false) ≡ false
 never true = refl
 never false = refl
 
--- where the least key is of another kind than the first, no key is of the first
+-- if the least key is of another kind than the first, no key is of the first
 module _ (b first rest : Bytes) (kind : ℕ) (is : first ≡ kind ∷ rest) (other : (kind == 0) ≡ false) where
   above_zero : nat_cmp kind 0 ≡ Greater
   above_zero = ap (λ t. cond t Less (cond (kind == 0) Equal Greater)) (le-ltb kind 0 (omega arith)) ∙ ap (λ t. cond t Equal Greater) other
@@ -221,7 +221,7 @@ other_than-table_of r key is asker es sound = ap (other_than asker) (holder_of-t
     step None = refl
     step (Some h) = refl
 
--- where no other unit owns a key, none holds a resource
+-- if no other unit owns a key, none owns a resource
 pub alone-table_of : (es : Entries) (own : Owned) (asker : Option ℕ) → IsKept es own → ((u : ℕ) (k : Vec ℕ) → is_other asker u ≡ true → owns own u k ≡ false) → (s : Resource) → other_than asker (holder_of s (table_of es)) ≡ None
 alone-table_of es own asker kept alone s = other_than-table_of s (resource_key s) refl asker es kept.keys ∙ step (lookup (finds (resource_key s)) es) refl
   where
@@ -235,19 +235,19 @@ alone-table_of es own asker kept alone s = other_than-table_of s (resource_key s
       | false ↦ λ same. refl
     ] refl
 
--- the holder of a shorter prefix
+-- the owner of a shorter prefix
 pub shorter-table_of : (f : Bytes) (asker : Option ℕ) (es : Entries) → AreKeys es → (rest p : Bytes) → holder_of_shorter f p rest asker (table_of es) ≡ first_cover asker es (0 ∷ length f ∷ (f ++ p)) rest
 shorter-table_of f asker es sound [] p = refl
 shorter-table_of f asker es sound (x ∷ rest) p =
     (λ i. first_of (other_than-table_of (FilePrefix f (bytes_of p)) (0 ∷ length f ∷ (f ++ p)) refl asker es sound i) (shorter-table_of f asker es sound rest (p ++ x ∷ []) i))
     ∙ ap (λ k. first_of (others_unit asker (lookup (finds (0 ∷ length f ∷ (f ++ p))) es)) (first_cover asker es (0 ∷ length f ∷ k) rest)) (sym (append_assoc f p (x ∷ [])))
 
--- where no prefix is held no shorter one is
+-- if no prefix is owned, no shorter one is
 pub first_cover-none : (asker : Option ℕ) (es : Entries) → ((b : Bytes) → lookup (finds (0 ∷ b)) es ≡ None) → (rest b : Bytes) → first_cover asker es (0 ∷ b) rest ≡ None
 first_cover-none asker es none [] b = refl
 first_cover-none asker es none (x ∷ rest) b = (λ i. first_of (others_unit asker (none b i)) (first_cover asker es (0 ∷ b ++ x ∷ []) rest)) ∙ first_cover-none asker es none rest (b ++ x ∷ [])
 
--- where no prefix is held, none stands in the way of a key or of a longer prefix
+-- if no prefix is owned, none conflicts with a key or a longer prefix
 pub shorter-none : (f b : Bytes) (asker : Option ℕ) (es : Entries) → AreKeys es → ((b : Bytes) → lookup (finds (0 ∷ b)) es ≡ None) → holder_of_shorter f [] b asker (table_of es) ≡ None
 shorter-none f b asker es sound none = shorter-table_of f asker es sound b [] ∙ first_cover-none asker es none b (length f ∷ (f ++ []))
 

@@ -1,4 +1,5 @@
--- What a table of enqueues says of each resource after a take, after a gift back, and after all that a unit held was freed.
+-- What a table of enqueues says of each resource once a unit has acquired one, released one once,
+-- or released all that it owned.
 use Rattle.std.specs.Prelude.{◌≡◌, ℕ, ◌+◌, ◌-◌, ◌==◌, Bool, true, false, not, ◌&&◌, cond, if◌then◌else◌, T, Option, Some, None, is_some, option_map, nat_le, nat_lt, [], ◌∷◌}
 use Rattle.std.proofs.Common.{refl, sym, ap, subst, ◌∙◌, arith}
 use Rattle.std.specs.declared.cmp.Ordering.{Ordering}
@@ -14,17 +15,17 @@ use Rattle.cics_enqueue.specs.Table.{Table, Held, IsFreeFor, other_than, held_at
 use Rattle.cics_history.specs.ResourceLaws.{is_one-eq, is_one-self}
 use Rattle.cics_enqueue.specs.Order.{free_own, resource_cmp_total, is_one-cmp, same_resources}
 
--- a holding after a unit gave back one take
+-- a holding after a unit released it once
 abbrev pub held_less : ℕ → Option Held → Option Held
 held_less u None = None
 held_less u (Some h) = if h.unit == u then (if nat_lt 1 h.count then Some (record { unit = u; count = h.count - 1 }) else None) else Some h
 
--- a holding after all that a unit held was freed
+-- a holding after a unit released all that it owned
 abbrev pub held_without : ℕ → Option Held → Option Held
 held_without u None = None
 held_without u (Some h) = if h.unit == u then None else Some h
 
--- the holder, where it isn't this unit
+-- the owner, if it isn't this unit
 abbrev pub holder_without : ℕ → Option ℕ → Option ℕ
 holder_without u None = None
 holder_without u (Some v) = if v == u then None else Some v
@@ -50,7 +51,7 @@ joined : (a b : Bool) → T a → T b → T (a && b)
 joined true b p q = q
 joined false b p q = p
 
--- what is held at one resource is what is held at the other, where they are one
+-- two resources that are one have the same holding
 held_same : (t : Table) (r q : Resource) (o : Option Held) → held_at r t ≡ o → held_at q t ≡ (if is_one q r then o else held_at q t)
 held_same t r q o at =
     elim (is_one q r) as (λ b. is_one q r ≡ b → held_at q t ≡ (if b then o else held_at q t)) [
@@ -58,7 +59,7 @@ held_same t r q o at =
       | false ↦ λ other. refl
     ] refl
 
--- ---- How each resource is held
+-- ---- The holding of each resource
 
 pub held_at-with_holder : (t : Table) (r : Resource) (u n : ℕ) (q : Resource) →
     held_at q (with_holder t r u n) ≡ (if is_one q r then Some (record { unit = u; count = n }) else held_at q t)
@@ -113,7 +114,7 @@ held_before q r (e ∷ es) less below =
     is_less Equal p = absurd p
     is_less Greater p = absurd p
 
--- to free what nobody holds changes nothing
+-- to free what nobody owns changes nothing
 pub freed-absent : (r : Resource) (t : Table) → held_at r t ≡ None → freed t r ≡ t
 freed-absent r [] free = refl
 freed-absent r (e ∷ es) free =
@@ -180,7 +181,7 @@ is_in_order-released (e ∷ es) u rises =
       | false ↦ joined _ _ (below_released e.0 es u (left_of _ _ rises)) rest
     ]
 
--- ---- Who holds each resource
+-- ---- The owner of each resource
 
 after_test : {A B : Type 0} (f : A → B) (b : Bool) (x y : A) → f (if b then x else y) ≡ (if b then f x else f y)
 after_test f true x y = refl
@@ -210,7 +211,7 @@ unit_less u (Some h) single = elim (h.unit == u) as (λ b.
     never : (n : ℕ) → nat_le n 1 ≡ true → nat_lt 1 n ≡ true → ⊥
     never n a b = grind (arith, a, b)
 
--- what is held once is free once its unit gives it back
+-- what is owned once is free once its unit releases it
 pub holder_of-given_back : (t : Table) (r : Resource) (u : ℕ) (q : Resource) → nat_le (count_of r t) 1 ≡ true →
     holder_of q (given_back t r u) ≡ (if is_one q r then holder_without u (holder_of r t) else holder_of q t)
 holder_of-given_back t r u q single =
@@ -225,7 +226,7 @@ holder_of-released t u q rises = ap unit_in (held_at-released t u q rises) ∙ w
     without None = refl
     without (Some h) = after_test unit_in (h.unit == u) None (Some h)
 
--- ---- What is held once stays so
+-- ---- What is owned once stays so
 
 abbrev is_once : Option Held → Bool
 is_once o = nat_le (count_in o) 1
@@ -271,7 +272,7 @@ once-released t u q rises single = ap is_once (held_at-released t u q rises) ∙
     without None h = refl
     without (Some held) h = elim (held.unit == u) as (λ b. is_once (if b then None else Some held) ≡ true) [ true ↦ refl | false ↦ h ]
 
--- all goes where no other unit holds anything
+-- if no other unit owns anything, a unit that releases all leaves nothing
 pub released-alone : (t : Table) (u : ℕ) → T (is_in_order t) → ((s : Resource) → other_than (Some u) (holder_of s t) ≡ None) → released t u ≡ []
 released-alone t u rises alone = same_entries resource_cmp resource_cmp_total same_resources (released t u) [] (is_in_order-released t u rises) tt (λ q. held_at-released t u q rises ∙ step (held_at q t) (alone q))
   where
@@ -279,9 +280,9 @@ released-alone t u rises alone = same_entries resource_cmp resource_cmp_total sa
     step None e = refl
     step (Some h) e = elim (h.unit == u) as (λ b. (if not b then Some h.unit else None) ≡ None → (if b then None else Some h) ≡ None) [ true ↦ λ e. refl | false ↦ λ e. cc ] e
 
--- ---- A take that is given back
+-- ---- What is acquired and released
 
--- what nobody held is as it was once it is taken and given back
+-- what nobody owned is as it was once it is acquired and released
 pub given_back-taken : (t : Table) (r : Resource) (u : ℕ) → T (is_in_order t) → held_at r t ≡ None → given_back (taken t r u) r u ≡ t
 given_back-taken t r u rises free =
     same_entries resource_cmp resource_cmp_total same_resources (given_back (taken t r u) r u) t
@@ -303,9 +304,9 @@ given_back-taken t r u rises free =
     all_less : held_less u (Some (record { unit = u; count = 1 })) ≡ None
     all_less = ap (λ b. if b then None else Some (record { unit = u; count = 1 })) (eq-eqb u u refl)
 
--- ---- What a unit holds already
+-- ---- What a unit owns already
 
--- to hold a resource as it is held changes nothing
+-- to put a holding in its own place changes nothing
 put-same : (r : Resource) (h : Held) (t : Table) → T (is_in_order t) → held_at r t ≡ Some h → map_by.put resource_cmp r h t ≡ t
 put-same r h t rises at = same_entries resource_cmp resource_cmp_total same_resources _ _ (is_sorted-put resource_cmp resource_cmp_total r h t rises) rises (λ q.
     find-put resource_cmp resource_cmp_total q r h t
@@ -315,7 +316,7 @@ put-same r h t rises at = same_entries resource_cmp resource_cmp_total same_reso
       | Greater ↦ λ e. refl
     ] refl)
 
--- a unit that takes what it holds, where it is no value, takes nothing
+-- a unit that acquires what it owns already, other than a value, changes nothing
 pub taken-held : (t : Table) (r : Resource) (u : ℕ) → T (is_in_order t) → holder_of r t ≡ Some u → is_user r ≡ false → taken t r u ≡ t
 taken-held t r u rises held plain = by (held_at r t) refl held
   where
@@ -331,7 +332,7 @@ taken-held t r u rises held plain = by (held_at r t) refl held
         ∙ ap (λ n. map_by.put resource_cmp r (record { unit = n; count = h.count }) t) (sym unit)
         ∙ put-same r h t rises at
 
--- a resource that is held, and that a unit may take, is held by that unit
+-- if a unit may acquire a resource that is owned, that unit owns it
 pub held_own : (t : Table) (r : Resource) (u : ℕ) → IsFreeFor t r u → is_some (holder_of r t) ≡ true → holder_of r t ≡ Some u
 held_own t r u free some = by (holder_of r t) refl some
   where

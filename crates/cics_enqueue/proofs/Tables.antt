@@ -47,7 +47,7 @@ insert_same (e ∷ es) k v rises at =
       | Greater ↦ λ more at. ap (λ t. e ∷ t) (rest at)
     ] refl at
 
--- where the entries became no more, what was put is what was there
+-- if there are as many entries as before, the key had an entry
 pub insert_kept : (es : Entries) (k : Vec ℕ) (v w : Holding) → IsStrictlySortedBy key_cmp (keys_of es) → v ≡ unwrap_or (lookup (finds k.items) es) w → (if is_some (lookup (finds k.items) es) then 0 else 1) ≤ 0 → insert_entry key_cmp es k v ≡ es
 insert_kept es k v w rises is more = by (lookup (finds k.items) es) refl is more
   where
@@ -55,7 +55,7 @@ insert_kept es k v w rises is more = by (lookup (finds k.items) es) refl is more
     by None at is more = absurd (omega arith)
     by (Some h) at is more = insert_same es k v rises (at ∙ ap Some (sym is))
 
--- what came in under a key goes again
+-- what was added under a key is removed again
 pub insert_undone : (es : Entries) (k : Vec ℕ) (v : Holding) → lookup (finds k.items) es ≡ None → remove_entry (finds k.items) (insert_entry key_cmp es k v) ≡ es
 insert_undone [] k v absent = ap (λ b. cond b [] ((k, v) ∷ [])) (is_same-self k.items)
 insert_undone (e ∷ es) k v absent =
@@ -70,7 +70,7 @@ module _ (r : Resource) (key : Bytes) (is : key ≡ resource_key r) where
   compares : (k : Bytes) → resource_key (resource_of k) ≡ k → bytes_cmp key k ≡ resource_cmp r (resource_of k)
   compares k sound = λ i. bytes_cmp (is i) (sym sound i)
 
-  -- what the table has of a resource is what its entries have under its bytes
+  -- the holding of a resource in the table is that of its bytes in the entries
   pub held_at-table_of : (es : Entries) → AreKeys es → held_at r (table_of es) ≡ option_map seen (lookup (finds key) es)
   held_at-table_of [] sound = refl
   held_at-table_of (e ∷ es) sound =
@@ -88,7 +88,7 @@ module _ (r : Resource) (key : Bytes) (is : key ≡ resource_key r) where
   pub own_key : resource_key (resource_of key) ≡ key
   own_key = ap resource_key read_back ∙ sym is
 
-  -- where the table has nothing of a resource, its entries have nothing under its bytes
+  -- if the table has nothing of a resource, its entries have nothing under its bytes
   pub absent_here : (es : Entries) → AreKeys es → held_at r (table_of es) ≡ None → lookup (finds key) es ≡ None
   absent_here es sound free = step (lookup (finds key) es) (sym (held_at-table_of es sound) ∙ free)
     where
@@ -96,7 +96,7 @@ module _ (r : Resource) (key : Bytes) (is : key ≡ resource_key r) where
       step None e = refl
       step (Some h) e = cc
 
-  -- who holds a resource, and how many times
+  -- the owner of a resource, and how many times it owns it
   pub holder_of-table_of : (es : Entries) (o : Option Holding) → AreKeys es → o ≡ lookup (finds key) es → holder_of r (table_of es) ≡ option_map (λ h. h.unit) o
   holder_of-table_of es o sound found = ap (option_map (λ h. h.unit)) (held_at-table_of es sound ∙ ap (option_map seen) (sym found)) ∙ step o
     where
@@ -115,7 +115,7 @@ module _ (r : Resource) (key : Bytes) (is : key ≡ resource_key r) where
   count_of-table_of es o sound found = ap count_in (held_at-table_of es sound ∙ ap (option_map seen) (sym found))
 
   -- ---- changes of one entry
-  -- an entry comes in at its place
+  -- an entry is added in order
   pub table_of-inserted : (k : Vec ℕ) (h : Holding) (es : Entries) → k.items ≡ key → AreKeys es → table_of (insert_entry key_cmp es k h) ≡ map_by.put resource_cmp r (seen h) (table_of es)
   table_of-inserted k h [] same sound = ap (λ s. (s, seen h) ∷ []) (here k same)
     where
@@ -153,7 +153,7 @@ module _ (r : Resource) (key : Bytes) (is : key ≡ resource_key r) where
       ap (λ b. cond (not b) (e ∷ freed es r) (freed es r)) (is_one-cmp r e.0 ∙ not_tied (resource_cmp r e.0) (left_of _ _ below))
       ∙ ap (λ t. e ∷ t) (freed-before es (right_of _ _ below))
 
-  -- an entry goes
+  -- an entry is removed
   pub table_of-removed : (es : Entries) → AreKeys es → T (is_in_order (table_of es)) → table_of (remove_entry (finds key) es) ≡ freed (table_of es) r
   table_of-removed [] sound rises = refl
   table_of-removed (e ∷ es) sound rises =
@@ -171,7 +171,7 @@ module _ (r : Resource) (key : Bytes) (is : key ≡ resource_key r) where
   AreKeys-removed [] sound = tt
   AreKeys-removed (e ∷ es) sound = elim (finds key e.0) as (λ b. AreKeys (cond b es (e ∷ remove_entry (finds key) es))) [ true ↦ sound.1 | false ↦ (sound.0, AreKeys-removed es sound.1) ]
 
-  -- a holding is written over
+  -- a holding is replaced
   module _ (v w : Holding) where
     pub table_of-written : (es : Entries) → AreKeys es → T (is_in_order (table_of es)) → lookup (finds key) es ≡ Some v → table_of (set_value (finds key) es w) ≡ with_holder (table_of es) r w.unit w.count
     table_of-written [] sound rises found = cc
@@ -191,7 +191,7 @@ module _ (r : Resource) (key : Bytes) (is : key ≡ resource_key r) where
     AreKeys-written [] sound = tt
     AreKeys-written (e ∷ es) sound = elim (finds key e.0) as (λ b. AreKeys (cond b ((e.0, w) ∷ es) (e ∷ set_value (finds key) es w))) [ true ↦ sound | false ↦ (sound.0, AreKeys-written es sound.1) ]
 
-    -- a holding that is written as it was changes nothing
+    -- a holding that replaces its like changes nothing
     pub table_of-same : (es : Entries) → w ≡ v → lookup (finds key) es ≡ Some v → table_of (set_value (finds key) es w) ≡ table_of es
     table_of-same es same found = ap table_of (ap (set_value (finds key) es) same ∙ set_value-same es found)
       where
@@ -202,9 +202,9 @@ module _ (r : Resource) (key : Bytes) (is : key ≡ resource_key r) where
           | false ↦ λ h. ap (λ t. e ∷ t) (set_value-same es h)
         ]
 
-    -- what is held under each key
+    -- the holding of each key
     module _ (es fs : Entries) (own : Owned) (found : lookup (finds key) es ≡ Some v) (updated : (k : Vec ℕ) → lookup (finds k.items) fs ≡ cond (finds key k) (Some w) (lookup (finds k.items) es)) where
-      -- the keys that a unit holds stay in its list where a holding keeps its unit
+      -- the keys that a unit owns stay in its list, if a holding keeps its unit
       pub AreOwned-written : w.unit ≡ v.unit → AreOwned es own → AreOwned fs own
       AreOwned-written unit owned u k = subst (λ b. b ≡ true → owns own u k ≡ true) (sym (ap (is_units u) (updated k) ∙ elim (finds key k) as (λ b. finds key k ≡ b → is_units u (cond b (Some w) (lookup (finds k.items) es)) ≡ is_units u (lookup (finds k.items) es)) [
         | true ↦ λ t. ap (λ n. n == u) unit ∙ sym (ap (is_units u) (ap (λ b. lookup (finds b) es) (sym (is_same-eq key k.items t)) ∙ found))
@@ -223,11 +223,11 @@ module _ (r : Resource) (key : Bytes) (is : key ≡ resource_key r) where
       never true = refl
       never false = refl
 
-  -- a key that stands in the list alone changes nothing
+  -- a key that is in the list alone changes nothing
   pub AreOwned-more : (es : Entries) (own after : Owned) (unit : ℕ) → Adds unit key own after → AreOwned es own → AreOwned es after
   AreOwned-more es own after unit adds owned u k held = adds u k (elim (is_place unit key u k) as (λ b. (if b then true else owns own u k) ≡ true) [ true ↦ refl | false ↦ owned u k held ])
 
-  -- a holding that went
+  -- a holding that was removed
   pub AreOwned-removed : (es fs : Entries) (own after : Owned) (unit : ℕ) → ((k : Vec ℕ) → lookup (finds k.items) fs ≡ cond (finds key k) None (lookup (finds k.items) es)) →
       Drops unit key own after → AreOwned es own → AreOwned fs after
   AreOwned-removed es fs own after unit updated drops owned u k held = elim (finds key k) as (λ b. finds key k ≡ b → is_units u (cond b None (lookup (finds k.items) es)) ≡ true → owns after u k ≡ true) [
@@ -239,7 +239,7 @@ module _ (r : Resource) (key : Bytes) (is : key ≡ resource_key r) where
       never true = refl
       never false = refl
 
-  -- ---- takes
+  -- ---- what is acquired
   module _ (es : Entries) (sound : AreKeys es) where
     module _ (v : Holding) (found : lookup (finds key) es ≡ Some v) where
       pub held_here : held_at r (table_of es) ≡ Some (seen v)
@@ -251,11 +251,11 @@ module _ (r : Resource) (key : Bytes) (is : key ≡ resource_key r) where
       pub holder_here : holder_of r (table_of es) ≡ Some v.unit
       holder_here = ap (option_map (λ h. h.unit)) held_here
 
-      -- one take more of what the unit holds
+      -- the unit acquires once more what it owns
       pub taken-raised : (u : ℕ) (w : Holding) → T (is_in_order (table_of es)) → w.unit ≡ v.unit → v.unit ≡ u → w.count ≡ (if is_user r then v.count + 1 else v.count) → table_of (set_value (finds key) es w) ≡ taken (table_of es) r u
       taken-raised u w rises unit holder count = table_of-written v w es sound rises found ∙ (λ i. with_holder (table_of es) r ((unit ∙ holder) i) ((count ∙ ap (raised_count r) (sym held_here)) i))
 
-      -- ---- gifts back
+      -- ---- what is released
       opened : (u : ℕ) → given_back (table_of es) r u ≡ given_back_of (Some (seen v)) (table_of es) r u
       opened u = ap (λ o. given_back_of o (table_of es) r u) held_here
 
@@ -275,7 +275,7 @@ module _ (r : Resource) (key : Bytes) (is : key ≡ resource_key r) where
       pub free_here : held_at r (table_of es) ≡ None
       free_here = held_at-table_of es sound ∙ ap (option_map seen) absent
 
-      -- the first take of what nobody holds
+      -- a unit acquires what nobody owns
       pub taken-new : (k : Vec ℕ) (h : Holding) → k.items ≡ key → h.count ≡ 1 → table_of (insert_entry key_cmp es k h) ≡ taken (table_of es) r h.unit
       taken-new k h same one = table_of-inserted k h es same sound ∙ ap (with_holder (table_of es) r h.unit) (one ∙ ap (raised_count r) (sym free_here))
 
@@ -316,8 +316,8 @@ module _ (r : Resource) (key : Bytes) (is : key ≡ resource_key r) where
         owned = AreOwned-removed es fs own after unit updated drops kept.owned;
       }
 
--- ---- what a unit gives up
--- to free first what the unit gives up anyway changes nothing
+-- ---- what a unit releases at its end
+-- to free first what the unit releases anyway changes nothing
 pub released-freed : (t : Table) (r : Resource) (u : ℕ) → T (is_in_order t) → ((h : Held) → held_at r t ≡ Some h → h.unit ≡ u) → released (freed t r) u ≡ released t u
 released-freed [] r u rises own_held = refl
 released-freed (e ∷ es) r u rises own_held =
@@ -347,14 +347,14 @@ key_sound (e ∷ es) b h sound at = elim (finds b e.0) as (λ t. finds b e.0 ≡
   | false ↦ λ t f. key_sound es b h sound.1 f
 ] refl at
 
--- a unit doesn't hold what isn't in its list
+-- a unit doesn't own what isn't in its list
 pub unheld : (es : Entries) (own : Owned) (u : ℕ) (k : Vec ℕ) → AreOwned es own → owns own u k ≡ false → is_units u (lookup (finds k.items) es) ≡ false
 unheld es own u k owned none = elim (is_units u (lookup (finds k.items) es)) as (λ b. is_units u (lookup (finds k.items) es) ≡ b → b ≡ false) [
   | true ↦ λ t. let wrong : false ≡ true = sym none ∙ owned u k t in cc
   | false ↦ λ f. refl
 ] refl
 
--- to free first what a unit holds under a key changes nothing of what its end leaves
+-- to free first what a unit owns under a key changes nothing of what its end leaves
 pub released-let_go : (es : Entries) (key : Bytes) (unit : ℕ) → AreKeys es → T (is_in_order (table_of es)) → released (table_of (without_own unit key es)) unit ≡ released (table_of es) unit
 released-let_go es key unit sound rises = by (lookup (finds key) es) refl
   where
@@ -369,7 +369,7 @@ released-let_go es key unit sound rises = by (lookup (finds key) es) refl
       | false ↦ λ other. refl
     ] refl
 
--- a key that a unit's list lost, and that isn't its own
+-- a key that was removed from a unit's list, and that isn't its own
 pub AreOwned-passed : (key : Bytes) (es : Entries) (own after : Owned) (unit : ℕ) → is_units unit (lookup (finds key) es) ≡ false → Drops unit key own after → AreOwned es own → AreOwned es after
 AreOwned-passed key es own after unit other drops owned u k held = drops u k (not_place (is_place unit key u k) refl) (owned u k held)
   where
@@ -379,7 +379,7 @@ AreOwned-passed key es own after unit other drops owned u k held = drops u k (no
         let wrong : false ≡ true = sym other ∙ ap (λ x. is_units x (lookup (finds key) es)) (eqb-true unit u p.0) ∙ ap (λ b. is_units u (lookup (finds b) es)) (is_same-eq key k.items p.1) ∙ held in cc
     not_place false f = f
 
--- a key that came off a unit's list went from the entries where it was the unit's
+-- a key removed from a unit's list is removed from the entries if it was the unit's
 pub IsKept-let_go : (key : Bytes) (es : Entries) (own : Owned) (unit : ℕ) (fs : Entries) (after : Owned) → fs ≡ without_own unit key es → Frees unit key es fs → Drops unit key own after → IsKept es own → IsKept fs after
 IsKept-let_go key es own unit fs after went each drops kept = by (is_units unit (lookup (finds key) es)) refl went each
   where
@@ -393,7 +393,7 @@ IsKept-let_go key es own unit fs after went each drops kept = by (is_units unit 
         IsKept-removed (resource_of key) key (key_sound es key held.0 kept.keys held.1) es kept.keys own kept unit fs after went each drops
     by false f went each = subst (λ fs. IsKept fs after) (sym went) (record { keys = kept.keys; in_order = kept.in_order; owned = AreOwned-passed key es own after unit f drops kept.owned })
 
--- a unit that owns nothing gives up nothing
+-- a unit that owns nothing releases nothing
 pub released-nothing : (es : Entries) (own : Owned) (u : ℕ) → IsKept es own → ((k : Vec ℕ) → owns own u k ≡ false) → released (table_of es) u ≡ table_of es
 released-nothing es own u kept none = same_entries resource_cmp resource_cmp_total same_resources (released (table_of es) u) (table_of es) (is_in_order-released (table_of es) u kept.in_order) kept.in_order
     (λ q. held_at-released (table_of es) u q kept.in_order ∙ ap (held_without u) (is q) ∙ others q (lookup (finds (resource_key q)) es) refl ∙ sym (is q))
@@ -433,7 +433,7 @@ pub err_holds : {X E P : Type 0} (r : Result X E) → is_err r ≡ true → OnEr
 err_holds (Ok x) e p = cc
 err_holds (Err x) e p = p
 
--- a unit that may take a resource is the one that holds it, if any does
+-- a unit that may acquire a resource is its owner, if it has one
 pub holder_own : (t : Table) (r : Resource) (u : ℕ) → IsFreeFor t r u → IfSome (holder_of r t) (λ v. v ≡ u)
 holder_own t r u free = by (holder_of r t) refl
   where
@@ -441,7 +441,7 @@ holder_own t r u free = by (holder_of r t) refl
     by None at = tt
     by (Some v) at = free r v (conflicts-self r) at
 
--- a table after what isn't a user's value was held, if it was free
+-- the table after a resource other than a user's value was acquired, if it was free
 pub hold_taken : (t s : Table) (r : Resource) (u : ℕ) (o : Option Holding) → T (is_in_order t) → IsFreeFor t r u → is_user r ≡ false → option_map seen o ≡ held_at r t → s ≡ (if is_some o then t else taken t r u) → s ≡ taken t r u
 hold_taken t s r u None rises free plain at new = new
 hold_taken t s r u (Some h) rises free plain at new = new ∙ sym (taken-held t r u rises (held_own t r u free (ap is_some (ap (option_map (λ h. h.unit)) (sym at)))) plain)

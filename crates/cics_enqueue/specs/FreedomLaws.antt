@@ -15,12 +15,12 @@ use Rattle.cics_enqueue.specs.Table.{Table, Held, IsFreeFor, IsFreeBut, is_under
 use Rattle.cics_history.specs.ResourceLaws.{is_one-eq, has_prefix-self}
 use Rattle.cics_enqueue.specs.Order.{is_one-cmp}
 
--- if neither an entry nor the rest is found, neither is there
+-- if an entry that passes a test, or else the rest, is None, the test failed and the rest is None
 if_none : (b : Bool) (e : Resource × Held) (o : Option (Resource × Held)) → (if b then Some e else o) ≡ None → (b ≡ false) × (o ≡ None)
 if_none true e o h = cc
 if_none false e o h = (refl, h)
 
--- if no entry passes a test, no owned resource does
+-- if no entry passes a test, no resource that is owned does
 absent : (test : Resource × Held → Bool) (t : Table) → first_that test t ≡ None → (s : Resource) (h : Held) → held_at s t ≡ Some h → test (s, h) ≡ false
 absent test [] none s h = λ at. cc
 absent test (e ∷ es) none s h =
@@ -36,11 +36,11 @@ absent test (e ∷ es) none s h =
 pub own_of : (u v : ℕ) → is_other (Some u) v ≡ false → v ≡ u
 own_of u v = elim (v == u) as (λ b. v == u ≡ b → not b ≡ false → v ≡ u) [ true ↦ λ t n. eqb-true v u t | false ↦ λ f n. cc ] refl
 
--- so is an owner whom the asker doesn't find
+-- an owner that other_than leaves out is the asker
 pub own_holder : (asker : Option ℕ) (v : ℕ) → other_than asker (Some v) ≡ None → is_other asker v ≡ false
 own_holder asker v = elim (is_other asker v) as (λ b. (if b then Some v else None) ≡ None → b ≡ false) [ true ↦ λ n. cc | false ↦ λ n. refl ]
 
--- what is under a resource, if no other unit owns such a thing
+-- if no other unit owns anything under a resource, the asker owns all that is owned there
 pub under_own : (r : Resource) (asker : Option ℕ) (t : Table) → first_that (λ e. is_under r e.0 && is_other asker e.1.unit) t ≡ None → (s : Resource) → is_under r s ≡ true → (v : ℕ) → holder_of s t ≡ Some v → is_other asker v ≡ false
 under_own r asker t none s under v holds = by (held_at s t) refl holds
   where
@@ -51,7 +51,7 @@ under_own r asker t none s under v holds = by (held_at s t) refl holds
         let fails : is_other asker h.unit ≡ false = sym (ap (λ b. b && is_other asker h.unit) under) ∙ absent (λ e. is_under r e.0 && is_other asker e.1.unit) t none s h at in
         ap (is_other asker) (sym same) ∙ fails
 
--- if the first of two isn't there, neither is
+-- if the first of two that isn't None is None, both are
 pub none_parts : (a b : Option ℕ) → first_of a b ≡ None → (a ≡ None) × (b ≡ None)
 none_parts None b h = (refl, h)
 none_parts (Some x) b h = cc
@@ -67,7 +67,7 @@ shorter_none f p (y ∷ r) asker t none (z ∷ a) x b is =
     ap (λ k. other_than asker (holder_of (FilePrefix f (bytes_of k)) t)) (sym (append_assoc p (z ∷ []) a) ∙ ap (λ w. p ++ w ∷ [] ++ a) (sym first))
     ∙ shorter_none f (p ++ y ∷ []) r asker t (none_parts _ _ none).1 a x b rest
 
--- what bytes begin with is they themselves or is shorter
+-- bytes with which others begin are these or are shorter
 pub begins_split : (q p : Bytes) → has_prefix q p ≡ true → (q ≡ p) ⊎ ((x : ℕ) × (b : Bytes) × (p ≡ q ++ x ∷ b))
 begins_split [] [] h = inl refl
 begins_split [] (x ∷ b) h = inr (x, b, refl)
@@ -80,7 +80,7 @@ begins_split (x ∷ q) (y ∷ p) h =
       | inr more ↦ inr (more.0, more.1, (λ i. sym first i ∷ more.2 i))
     ]
 
--- what begins so begins so behind a name
+-- bytes that begin with others do so behind a name too
 pub begins_after : (f p k : Bytes) → has_prefix p k ≡ true → has_prefix (f ++ p) (f ++ k) ≡ true
 begins_after [] p k h = h
 begins_after (x ∷ f) p k h = and_from _ _ (eq-eqb x x refl) (begins_after f p k h)
@@ -89,7 +89,7 @@ begins_after (x ∷ f) p k h = and_from _ _ (eq-eqb x x refl) (begins_after f p 
 pub under_file : (n m : ℕ) (f p k : Bytes) → has_prefix p k ≡ true → has_prefix (n ∷ m ∷ (f ++ p)) (n ∷ m ∷ (f ++ k)) ≡ true
 under_file n m f p k h = and_from _ _ (eq-eqb n n refl) (and_from _ _ (eq-eqb m m refl) (begins_after f p k h))
 
--- if the smaller of two isn't there, neither is
+-- if the smaller of two is None, both are
 least_none : (a b : Option (Resource × Held)) → option_map (λ e. e.1.unit) (lesser a b) ≡ None → (a ≡ None) × (b ≡ None)
 least_none None None h = (refl, refl)
 least_none None (Some y) h = cc
@@ -101,7 +101,7 @@ least_none (Some x) (Some y) h = by (is_below (place_of y.0) (place_of x.0)) h
     by false h = cc
 
 module _ (t : Table) (asker : Option ℕ) (v : ℕ) where
-  -- one and the same
+  -- the resource itself
   same_own : (r s : Resource) → other_than asker (holder_of r t) ≡ None → is_one r s ≡ true → holder_of s t ≡ Some v → is_other asker v ≡ false
   same_own r s none one at = own_holder asker v (ap (other_than asker) (sym (ap (λ q. holder_of q t) (is_one-eq r s one) ∙ at)) ∙ none)
 

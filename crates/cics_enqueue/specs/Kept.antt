@@ -1,4 +1,5 @@
--- The table as the code has it: finds what a unit owns without a look at what others own.
+-- The table as the code stores it. Each unit has a list of its keys, so that what it owns is found
+-- without a look at what others own.
 use Rattle.std.specs.Prelude.{◌≡◌, ℕ, ◌==◌, ◌+◌, nat_le, Bool, true, false, ◌&&◌, ◌++◌, if◌then◌else◌, T, Option, Some, None, option_map, nat_eq, length, drop, List, [], ◌∷◌}
 use Rattle.std.specs.List.{list_any}
 use Rattle.std.specs.Global.{Vec}
@@ -13,7 +14,7 @@ use Rattle.cics_history.specs.Holding.{is_other}
 use Rattle.cics_enqueue.specs.Table.{Table, Held, resource_key, is_in_order, first_of}
 use Rattle.cics_enqueue.specs.Order.{resource_of}
 
--- the entries of the table: a resource as bytes, and its holding
+-- the entries of the table: a table key, which is a resource as bytes, and its holding
 abbrev pub Entries : Type 0
 Entries = List (Vec ℕ × Holding)
 
@@ -21,7 +22,7 @@ Entries = List (Vec ℕ × Holding)
 abbrev pub Owned : Type 0
 Owned = List (ℕ × Vec (Vec ℕ))
 
--- what others see of a holding
+-- a holding as callers see it
 abbrev pub seen : Holding → Held
 seen h = record { unit = h.unit; count = h.count }
 
@@ -35,7 +36,7 @@ abbrev pub AreKeys : Entries → Type 0
 AreKeys [] = Unit {0}
 AreKeys (e ∷ es) = (resource_key (resource_of e.0.items) ≡ e.0.items) × AreKeys es
 
--- whether a key is one that bytes ask for
+-- whether a key has these bytes
 abbrev pub finds : Bytes → Vec ℕ → Bool
 finds key k = is_same key k.items
 
@@ -65,11 +66,11 @@ is_place unit key u k = nat_eq unit u && is_same key k.items
 abbrev pub OwnsSame : Owned → Owned → Type 0
 OwnsSame old new = (u : ℕ) (k : Vec ℕ) → owns new u k ≡ owns old u k
 
--- a unit has one key more, and all that the units had
+-- this unit has this key, and each unit has all that it had
 abbrev pub Adds : ℕ → Bytes → Owned → Owned → Type 0
 Adds unit key old new = (u : ℕ) (k : Vec ℕ) → (if is_place unit key u k then true else owns old u k) ≡ true → owns new u k ≡ true
 
--- the units have all that they had, but that a unit may have lost a key
+-- each unit has all that it had, but this unit may have lost this key
 abbrev pub Drops : ℕ → Bytes → Owned → Owned → Type 0
 Drops unit key old new = (u : ℕ) (k : Vec ℕ) → is_place unit key u k ≡ false → owns old u k ≡ true → owns new u k ≡ true
 
@@ -137,7 +138,7 @@ abbrev pub others_unit : Option ℕ → Option Holding → Option ℕ
 others_unit asker None = None
 others_unit asker (Some h) = if is_other asker h.unit then Some h.unit else None
 
--- the unit of the first entry, not the asker's, whose bytes are some or these with more of the rest
+-- the unit of the first entry, not the asker's, whose bytes are key and a proper front of the rest
 abbrev pub first_cover : Option ℕ → Entries → Bytes → Bytes → Option ℕ
 first_cover asker es key [] = None
 first_cover asker es key (x ∷ rest) = first_of (others_unit asker (lookup (finds key) es)) (first_cover asker es (key ++ x ∷ []) rest)
@@ -153,8 +154,8 @@ lesser_shown (Some x) (Some y) = if is_below (drop 1 y.0) (drop 1 x.0) then Some
 abbrev pub first_shorter : Option ℕ → Entries → Bytes → Bytes → Option ℕ
 first_shorter asker es f b = first_cover asker es (0 ∷ length f ∷ (f ++ [])) b
 
--- the unit, other than the asker, of the smaller of the first key and the first prefix of a file
--- that begin with a prefix
+-- the unit of the first key of a file that begins with a prefix, or of the first such prefix of
+-- keys, whichever is smaller; the asker's are passed over
 abbrev pub least_shown : Bytes → Bytes → Option ℕ → Entries → Option ℕ
 least_shown f p asker es =
     option_map (λ q. q.1) (lesser_shown (first_shown (1 ∷ length f ∷ (f ++ p)) asker es) (first_shown (0 ∷ length f ∷ (f ++ p)) asker es))

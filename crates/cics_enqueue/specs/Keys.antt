@@ -1,4 +1,4 @@
--- The first bytes of a key as numbers.
+-- The first bytes of a table key as numbers.
 use Rattle.std.specs.Prelude.{◌≡◌, ℕ, suc, zero, ◌*◌, ◌+◌, ◌<◌, drop, [], ◌∷◌}
 use Rattle.cics_names.specs.Keyed.{Bytes}
 use Rattle.cics_enqueue.specs.declared.keys.Numbers.{Numbers}

@@ -1,4 +1,4 @@
--- Task control: enqueues. A resource has at most one owner, a unit of work, with a count.
+-- The table of enqueues. A resource has at most one owner, a unit of work, with a count.
 -- Conflicting resources have the same owner.
 use Rattle.std.specs.Prelude.{◌≡◌, ◌≤◌, T, ℕ, ◌+◌, ◌-◌, ◌==◌, Bool, true, false, not, ◌&&◌, if◌then◌else◌, Option, Some, None, option_map, nat_lt, nat_le, filter, length, drop, List, [], ◌∷◌, ◌++◌}
 use Rattle.std.specs.FinMap as map_by
@@ -11,8 +11,8 @@ use Rattle.cics_history.specs.Resources.{bytes_of, is_one, is_user, most_count}
 use Rattle.cics_history.specs.declared.resources.Resource.{Resource}
 use Rattle.cics_history.specs.declared.resources.Resource.TheVariants.{FileKey, TsQueue, TdRead, TdWrite, User, FilePrefix}
 
--- a resource as bytes, by which resources are ordered: the kind, and the names and bytes; a file's
--- name after its length
+-- a resource as bytes, by which resources are ordered: its kind, and its names and bytes; the name
+-- of a file comes behind its length
 abbrev pub resource_key : Resource → Bytes
 resource_key (FilePrefix f p) = 0 ∷ length f ∷ (f ++ p.items)
 resource_key (FileKey f k) = 1 ∷ length f ∷ (f ++ k.items)
@@ -102,7 +102,7 @@ first_that test (e ∷ es) = if test e then Some e else first_that test es
 abbrev pub place_of : Resource → Bytes
 place_of r = drop 1 (resource_key r)
 
--- a resource that conflicts with another, and whose owner isn't the asker
+-- s conflicts with r, and v owns it, which isn't the asker
 abbrev pub IsBlocker : Table → Resource → Option ℕ → Resource → ℕ → Type 0
 IsBlocker t r asker s v = (conflicts r s ≡ true) × (holder_of s t ≡ Some v) × (is_other asker v ≡ true)
 
@@ -122,7 +122,7 @@ abbrev pub other_than : Option ℕ → Option ℕ → Option ℕ
 other_than asker None = None
 other_than asker (Some v) = if is_other asker v then Some v else None
 
--- the first of two that is there
+-- the first of two that isn't None
 abbrev pub first_of : Option ℕ → Option ℕ → Option ℕ
 first_of None y = y
 first_of (Some x) y = Some x
@@ -157,7 +157,7 @@ holder_over r asker t = other_than asker (holder_of r t)
 abbrev pub taken : Table → Resource → ℕ → Table
 taken t r u = with_holder t r u (raised_count r (held_at r t))
 
--- the table after a unit released a resource once that is owned so: if its count was 1, the
+-- the table after a unit released a resource once that has this holding; if its count was 1, the
 -- resource is free
 abbrev pub given_back_of : Option Held → Table → Resource → ℕ → Table
 given_back_of None t r u = t

@@ -22,7 +22,7 @@ pub(crate) enum Kind<'a> {
 }
 
 /// A resource to look up or to acquire, whose bytes are borrowed. So it is small, while a
-/// `Resource` has room for 255 bytes. Contracts see the resource.
+/// `Resource` has room for 255 bytes. Contracts see it as the resource.
 #[derive(Drop)]
 pub struct ResourceRef<'a> {
     pub(crate) kind: Kind<'a>,
@@ -40,8 +40,8 @@ impl<'a> Model for ResourceRef<'a> {
 }
 
 impl<'a> ResourceRef<'a> {
-    /// Returns the record of a file under this key, of at most 255 bytes, whether it is there or
-    /// not.
+    /// Returns the record of a file under a key, whether it is there or not. The key has at most
+    /// 255 bytes.
     pub fn record(file: Name8, key: &'a [u8]) -> ResourceRef<'a>
         requires most { length key.now ≤ 255 }
         ensures { result ≡ FileKey file (bytes_of key.now) }
@@ -51,8 +51,8 @@ impl<'a> ResourceRef<'a> {
         }
     }
 
-    /// Returns the records of a file under every key that begins with these at most 255 bytes,
-    /// whether they are there or not.
+    /// Returns the records of a file under every key that begins with these bytes, whether they are
+    /// there or not. There are at most 255 bytes.
     pub fn prefix(file: Name8, bytes: &'a [u8]) -> ResourceRef<'a>
         requires most { length bytes.now ≤ 255 }
         ensures { result ≡ FilePrefix file (bytes_of bytes.now) }

@@ -1,4 +1,7 @@
-//! Resources as bytes, the keys of a table, and look-ups of their holdings.
+//! The table keys of resources, and look-ups of holdings by them.
+//!
+//! A table key is the kind of the resource, a byte, and its names and bytes. The name of a file
+//! comes behind its length, 8.
 
 ghost use Rattle.std.specs.Prelude.{◌≡◌, ◌≤◌, ◌+◌, ◌∷◌, ◌++◌, OnOk, [], length};
 ghost use Rattle.std.specs.Option.{option_copied};
@@ -13,13 +16,13 @@ use arrayvec::ArrayVec;
 use cics_names::{Name4, Name8, NoMemory};
 use std::collections::BTreeMap;
 
-// What the bytes of a prefix of keys begin with, the smallest kind, and those of a key of a file.
+// The kind of a prefix of keys, which is the smallest, and that of a record of a file.
 pub(crate) const PREFIX: u8 = 0;
 
 pub(crate) const KEY: u8 = 1;
 
-// What the bytes of the other kinds begin with: a temporary storage queue, the two ends of a
-// transient data queue, a user's value.
+// The other kinds: a temporary storage queue, the two ends of a transient data queue, a user's
+// value.
 const TS_QUEUE: u8 = 2;
 
 const TD_READ: u8 = 3;
@@ -28,9 +31,9 @@ const TD_WRITE: u8 = 4;
 
 const VALUE: u8 = 5;
 
-// Puts bytes at the end of a key that has room for them.
+// Adds bytes at the end of a table key that has room for them.
 //
-// A key is filled in place: to return it would move all its bytes each time.
+// It is filled in place: to return it would move all its bytes each time.
 fn put(key: &mut ArrayVec<u8, MOST>, bytes: &[u8])
     requires room { length key.old.items + length bytes.now ≤ 265 }
     ensures { key.new.items ≡ key.old.items ++ bytes.now }
@@ -41,7 +44,7 @@ fn put(key: &mut ArrayVec<u8, MOST>, bytes: &[u8])
     }
 }
 
-// Makes an empty key that of a file's key, or of a prefix of keys.
+// Fills an empty table key with that of a record of a file or a prefix of keys, by the kind.
 fn put_file(key: &mut ArrayVec<u8, MOST>, kind: u8, file: &Name8, bytes: &[u8])
     requires empty { key.old.items ≡ [] }
     requires most { length bytes.now ≤ 255 }
@@ -52,7 +55,7 @@ fn put_file(key: &mut ArrayVec<u8, MOST>, kind: u8, file: &Name8, bytes: &[u8])
     put(key, bytes);
 }
 
-// Returns a key of a file, or a prefix of keys, as bytes.
+// Returns the table key of a record of a file or a prefix of keys, by the kind.
 pub(crate) fn file_bytes(kind: u8, file: Name8, bytes: &[u8]) -> ArrayVec<u8, MOST>
     requires most { length bytes.now ≤ 255 }
     ensures value { result.items ≡ kind ∷ length file ∷ (file ++ bytes.now) }
@@ -63,7 +66,7 @@ pub(crate) fn file_bytes(kind: u8, file: Name8, bytes: &[u8]) -> ArrayVec<u8, MO
     key
 }
 
-// Returns a temporary storage queue as bytes.
+// Returns the table key of a temporary storage queue.
 fn ts_bytes(queue: &Name8) -> [u8; 9]
     ensures { result ≡ 2 ∷ queue.now }
 {
@@ -72,7 +75,7 @@ fn ts_bytes(queue: &Name8) -> [u8; 9]
     bytes
 }
 
-// Returns an end of a transient data queue, of this kind, as bytes.
+// Returns the table key of an end of a transient data queue, by the kind.
 fn td_bytes(kind: u8, queue: &Name4) -> [u8; 5]
     ensures { result ≡ kind ∷ queue.now }
 {
@@ -81,7 +84,7 @@ fn td_bytes(kind: u8, queue: &Name4) -> [u8; 5]
     bytes
 }
 
-// Makes an empty key the bytes of a resource.
+// Fills an empty table key with that of a resource.
 fn put_resource(key: &mut ArrayVec<u8, MOST>, resource: &ResourceRef<'_>)
     requires empty { key.old.items ≡ [] }
     ensures { key.new.items ≡ resource_key resource.now }
@@ -99,8 +102,8 @@ fn put_resource(key: &mut ArrayVec<u8, MOST>, resource: &ResourceRef<'_>)
     }
 }
 
-// Returns a resource as bytes, by which a table is ordered. It is used if there is no room for a
-// key.
+// Returns the table key of a resource. It takes no memory, and is used if memory for a `Key` is
+// refused.
 pub(crate) fn compact(resource: &ResourceRef<'_>) -> ArrayVec<u8, MOST>
     ensures { result.items ≡ resource_key resource.now }
 {
@@ -109,7 +112,8 @@ pub(crate) fn compact(resource: &ResourceRef<'_>) -> ArrayVec<u8, MOST>
     key
 }
 
-// Returns what the bytes of a key of a file, or of a prefix of keys, begin with.
+// Returns the front of the table key of a record of a file or a prefix of keys: the kind, the
+// length and the name.
 fn file_front(kind: u8, file: &Name8) -> [u8; 10]
     ensures { result ≡ kind ∷ length file.now ∷ file.now }
 {
@@ -119,7 +123,7 @@ fn file_front(kind: u8, file: &Name8) -> [u8; 10]
     front
 }
 
-// Makes a key that of a file's key, or of a prefix of keys.
+// Makes a `Key` that of a record of a file or a prefix of keys, by the kind.
 pub(crate) fn set_file(key: &mut Key, kind: u8, file: &Name8, bytes: &[u8]) -> Result<(), NoMemory>
     requires most { length bytes.now ≤ 255 }
     ensures set { OnOk result (key.new.items
@@ -128,7 +132,7 @@ pub(crate) fn set_file(key: &mut Key, kind: u8, file: &Name8, bytes: &[u8]) -> R
     key.set(&file_front(kind, file), bytes)
 }
 
-// Makes a key that of a user's value.
+// Makes a `Key` that of a user's value.
 pub(crate) fn set_value(key: &mut Key, value: &[u8]) -> Result<(), NoMemory>
     requires most { length value.now ≤ 255 }
     ensures set { OnOk result (key.new.items ≡ 5 ∷ value.now) }
@@ -136,7 +140,7 @@ pub(crate) fn set_value(key: &mut Key, value: &[u8]) -> Result<(), NoMemory>
     key.set(&[VALUE], value)
 }
 
-// Makes a key that of a resource.
+// Makes a `Key` that of a resource.
 pub(crate) fn set_resource(key: &mut Key, resource: &ResourceRef<'_>) -> Result<(), NoMemory>
     ensures set { OnOk result (key.new.items ≡ resource_key resource.now) }
 {
@@ -150,8 +154,8 @@ pub(crate) fn set_resource(key: &mut Key, resource: &ResourceRef<'_>) -> Result<
     }
 }
 
-// Returns the holding of bytes, found by going through the whole table. It is used if there is no
-// room for a key.
+// Returns the holding of a table key, found by going through the whole table. It is used if memory
+// for a `Key` is refused. Cost: O(resources).
 fn find_among<'t>(table: &'t BTreeMap<Key, Holding>, bytes: &[u8]) -> Option<&'t Holding>
     ensures { option_copied result ≡ lookup (finds bytes.now) table.now.entries }
 {
@@ -163,7 +167,7 @@ fn find_among<'t>(table: &'t BTreeMap<Key, Holding>, bytes: &[u8]) -> Option<&'t
     None
 }
 
-// Returns the holding of a resource, found by going through the whole table.
+// Returns the holding of a resource, found as `find_among` does.
 #[inline(never)]
 fn find_resource<'t>(
     table: &'t BTreeMap<Key, Holding>,
@@ -174,7 +178,7 @@ fn find_resource<'t>(
     find_among(table, compact(resource).as_slice())
 }
 
-// Returns the holding of these bytes, with which a key is filled.
+// Returns the holding of the table key with these bytes, if it has one. Fills `key` with them.
 pub(crate) fn held_under<'t>(
     table: &'t BTreeMap<Key, Holding>,
     key: &mut Key,
@@ -192,7 +196,7 @@ pub(crate) fn held_under<'t>(
     }
 }
 
-// Returns the holding of a resource.
+// Returns the holding of a resource, if it is owned. Fills `key` with the resource's table key.
 pub(crate) fn held<'t>(
     table: &'t BTreeMap<Key, Holding>,
     key: &mut Key,

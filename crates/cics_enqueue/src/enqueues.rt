@@ -76,9 +76,9 @@ pub(crate) struct Holding {
 pub struct Enqueues {
     table: BTreeMap<Key, Holding>,
     owned: Owned,
-    // The key that acquires and look-ups fill with the bytes that they look for. An acquire makes
-    // room in it for any bytes, so no look-up needs memory. A key without room is dropped if that
-    // is refused, and an empty one takes its place.
+    // The key that each call fills with the bytes that it looks for. A call that acquires something
+    // makes room in it for any bytes, so later look-ups need no memory. If that is refused, an
+    // empty key takes its place.
     bound: Cell<Key>,
     alloc: Global,
 }
@@ -113,7 +113,7 @@ fn raise(holding: &mut Holding, user: bool) -> Result<(), TakeFault>
     Ok(())
 }
 
-// Returns the holding of a key, which is this one if there was none.
+// Puts a holding under a key that has none. Returns the holding that the key has then.
 fn or_put(
     table: &mut BTreeMap<Key, Holding>,
     key: Key,
@@ -132,7 +132,7 @@ fn or_put(
     Ok(*table.entry(key)?.or_insert(holding))
 }
 
-// Puts a holding under a key that has none, and returns the one that it has else, in one look-up.
+// Puts a holding under a key that has none, or returns the one that it has. Makes one look-up.
 fn put_first(
     table: &mut BTreeMap<Key, Holding>,
     key: Key,
@@ -153,7 +153,7 @@ fn put_first(
     }
 }
 
-// Removes a key, whatever its count, if it is this unit's. A key that the unit released may be
+// Removes a key, whatever its count, if it is this unit's. A key in the unit's list may be free or
 // another's by now.
 fn free_key(table: &mut BTreeMap<Key, Holding>, key: &Key, unit: UnitId)
     ensures entries { table.new.entries ≡ without_own unit key.now.items table.old.entries }
@@ -168,7 +168,7 @@ fn free_key(table: &mut BTreeMap<Key, Holding>, key: &Key, unit: UnitId)
     }
 }
 
-// Releases a key once, if it is this unit's. Returns whether it is free then.
+// Releases a key once, if it is this unit's. Returns whether that freed it.
 fn lessen(table: &mut BTreeMap<Key, Holding>, key: &Key, unit: UnitId) -> bool
     requires key { resource_key (resource_of key.now.items) ≡ key.now.items }
     ensures kept { (own : List (ℕ × Vec (Vec ℕ))) →
@@ -249,8 +249,8 @@ impl Enqueues {
     /// with all that begins with it. Conflicting resources are compared in byte order, prefixes by
     /// their own bytes.
     ///
-    /// Cost: no look-up if no other open unit has acquired anything. Else one look-up for each byte
-    /// of the key or prefix while any prefix is owned, and for a prefix that of `held_with_prefix`.
+    /// Cost: O(1) if no other open unit has acquired anything. Else O(log resources), for a key
+    /// times its bytes if any prefix is owned. For a prefix that of `held_with_prefix`.
     pub fn holder_over(&self, resource: &ResourceRef<'_>, but_not: Option<UnitId>) -> Option<UnitId>
         ensures value { result ≡ holder_over resource.now but_not self.now }
         ensures free { IfNone result (IsFreeBut self.now resource.now but_not) }
@@ -278,12 +278,12 @@ impl Enqueues {
 
     /// Returns the blocker at a prefix of at most 255 bytes: the owner, other than `but_not`, of
     /// the smallest conflicting key or prefix of keys. None if there is none. What conflicts begins
-    /// with the prefix, or the prefix with it.
+    /// with the prefix, or the prefix begins with it.
     ///
     /// Conflicting resources are compared in byte order, prefixes by their own bytes. It takes no
     /// memory.
     ///
-    /// Cost: O(log resources), for each byte of the prefix if any prefix is owned, and O(what
+    /// Cost: O(log resources), times the bytes of the prefix if any prefix is owned, and O(what
     /// `but_not` itself owns under the prefix).
     pub fn held_with_prefix(
         &self,
@@ -316,7 +316,6 @@ impl Enqueues {
     }
 
     // Returns the owner, other than the asker, of the smallest resource that conflicts with a key.
-    // That is a shorter prefix, the key, or the prefix with its bytes.
     fn holder_of_key(&self, file: Name8, key: &[u8], asker: &Option<UnitId>) -> Option<UnitId>
         requires most { length key.now ≤ 255 }
         ensures { result ≡ holder_over (FileKey file (bytes_of key.now)) asker.now self.now }
@@ -332,7 +331,7 @@ impl Enqueues {
     }
 
     /// Acquires a resource for a unit. No other unit may own anything that conflicts with it. If
-    /// the unit owns it already, the count of a user's value rises, and any other stays 1.
+    /// the unit owns it already, the count of a user's value rises, and that of any other stays 1.
     ///
     /// Errors: `Full` if the unit owns the value 65,535 times, and `NoMemory`.
     pub fn take(&mut self, resource: Resource, unit: UnitId) -> Result<(), TakeFault>
@@ -352,7 +351,7 @@ impl Enqueues {
         answer
     }
 
-    // Returns why a resource can't be acquired, if there is no memory to look for it by its key.
+    // Returns why a resource can't be acquired once memory for its key was refused.
     fn refusal(&self, resource: &Resource) -> TakeFault
         ensures { (result ≡ TakeFault.Full) ↔ IsTrue (is_full resource.now self.now) }
     {
@@ -363,7 +362,7 @@ impl Enqueues {
         }
     }
 
-    // Acquires a resource, by its key, as `take` does.
+    // Acquires the resource of a key as `take` does. `user` says that it is a user's value.
     fn take_key(&mut self, key: &Key, unit: UnitId, user: bool) -> Result<(), TakeFault>
         requires key { resource_key (resource_of key.now.items) ≡ key.now.items }
         requires user { user ≡ is_user (resource_of key.now.items) }
@@ -382,9 +381,9 @@ impl Enqueues {
         Ok(())
     }
 
-    /// Acquires a user's value of at most 255 bytes for a unit, if no other unit owns it. Else
-    /// returns its owner. This is all that `holder_over` and `take` do, in one look-up unless the
-    /// unit owns the value.
+    /// Acquires a user's value of at most 255 bytes for a unit, or returns its owner if that is
+    /// another unit. It does what `holder_over` and `take` do, in one look-up unless the unit owns
+    /// the value already.
     ///
     /// Errors: `Full` if the unit owns the value 65,535 times, and `NoMemory`.
     pub fn enq(&mut self, value: &[u8], unit: UnitId) -> Result<Option<UnitId>, TakeFault>
@@ -409,7 +408,7 @@ impl Enqueues {
         answer
     }
 
-    // Acquires a user's value, by its key, if no other unit owns it. Else returns its owner.
+    // Acquires the user's value of a key as `enq` does.
     fn enq_key(&mut self, key: &Key, unit: UnitId) -> Result<Option<UnitId>, TakeFault>
         requires key { resource_key (resource_of key.now.items) ≡ key.now.items }
         requires user { is_user (resource_of key.now.items) ≡ true }
@@ -436,9 +435,11 @@ impl Enqueues {
         Ok(None)
     }
 
-    /// Acquires a resource, any but a user's value, for a unit that may, unless the unit owns it
-    /// already. Returns whether it was free: if so, `let_go` undoes this. The only error is
-    /// `NoMemory`.
+    /// Acquires a resource other than a user's value for a unit. No other unit may own anything
+    /// that conflicts with it. Returns whether it was free: if so, `let_go` undoes the call. If
+    /// not, the unit owned it already, and nothing changes.
+    ///
+    /// Errors: `NoMemory`.
     pub fn hold(&mut self, resource: &ResourceRef<'_>, unit: UnitId) -> Result<bool, NoMemory>
         requires plain { is_user resource.now ≡ false }
         requires free { IsFreeFor self.old resource.now unit }
@@ -457,7 +458,7 @@ impl Enqueues {
         answer
     }
 
-    // Acquires a resource, by its key, as `hold` does.
+    // Acquires the resource of a key as `hold` does.
     fn hold_key(&mut self, key: &Key, unit: UnitId) -> Result<bool, NoMemory>
         requires key { resource_key (resource_of key.now.items) ≡ key.now.items }
         requires plain { is_user (resource_of key.now.items) ≡ false }
@@ -478,7 +479,7 @@ impl Enqueues {
         Ok(was_held.is_none())
     }
 
-    // Acquires a resource, by its key, for a unit if it is free. Else returns its holding, in one
+    // Acquires the resource of a key for a unit if it is free, or returns its holding. Makes one
     // look-up.
     #[tactic(auto, using(crate::proofs::Tables::in_order))]
     fn take_free(&mut self, key: &Key, unit: UnitId) -> Result<Option<Holding>, NoMemory>
@@ -504,7 +505,7 @@ impl Enqueues {
         Ok(None)
     }
 
-    // Acquires a resource once more, by its key, for its owner. `NoMemory` if nobody owns it.
+    // Acquires the resource of a key once more for its owner. `NoMemory` if nobody owns it.
     fn take_again(&mut self, key: &Key, user: bool) -> Result<(), TakeFault>
         requires key { resource_key (resource_of key.now.items) ≡ key.now.items }
         requires user { user ≡ is_user (resource_of key.now.items) }
@@ -546,7 +547,7 @@ impl Enqueues {
         self.bound.set(key);
     }
 
-    // Releases a resource once, if there is no room for a key of it.
+    // Releases a resource once, if memory for its key is refused.
     #[inline(never)]
     fn let_go_keyless(&mut self, resource: &ResourceRef<'_>, unit: UnitId)
         ensures { self.new ≡ given_back self.old resource.now unit }
@@ -554,8 +555,7 @@ impl Enqueues {
         self.let_go_listed(compact(resource).as_slice(), unit);
     }
 
-    // Releases a resource once, by its bytes, if there is no room for a key: by the one in the
-    // unit's list.
+    // Releases the resource of these bytes once. The key for it is the one in the unit's list.
     fn let_go_listed(&mut self, bytes: &[u8], unit: UnitId)
         requires key { resource_key (resource_of bytes.now) ≡ bytes.now }
         ensures { self.new ≡ given_back self.old (resource_of bytes.now) unit }
@@ -565,7 +565,7 @@ impl Enqueues {
         }
     }
 
-    // Releases a resource once, by its key.
+    // Releases the resource of a key once.
     fn let_go_key(&mut self, key: &Key, unit: UnitId)
         requires key { resource_key (resource_of key.now.items) ≡ key.now.items }
         ensures { self.new ≡ given_back self.old (resource_of key.now.items) unit }
@@ -581,7 +581,7 @@ impl Enqueues {
     pub fn release_all(&mut self, unit: UnitId)
         ensures { self.new ≡ released self.old unit }
     {
-        // If nobody else owns anything, all goes at once, with no look-up for each key.
+        // If no other unit owns anything, all is removed at once, with no look-up for each key.
         if owned::is_alone(&self.owned, &Some(unit)) {
             self.table.clear();
             self.owned.swap_remove(&unit);

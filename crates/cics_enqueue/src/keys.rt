@@ -1,4 +1,4 @@
-//! The keys of the table, each with its head: its first bytes as numbers.
+//! Table keys, each with its head: its first bytes as numbers.
 
 ghost use Rattle.std.specs.Prelude.{◌≡◌, ◌≤◌, ◌+◌, ◌++◌, OnOk, OnErr, IfOk, [], length};
 ghost use Rattle.std.specs.Ordering.{nat_cmp};
@@ -10,7 +10,7 @@ use std::alloc::Global;
 use std::cmp::Ordering;
 use std::marker::Model;
 
-// Two bytes, a name of eight and a key of 255.
+// The most bytes of a table key: two, a file's name of eight and a key of 255.
 pub(crate) const MOST: usize = 265;
 
 // How many bytes a number has.
@@ -19,7 +19,7 @@ const WORD: usize = 8;
 // How many bytes a key head has.
 const HEAD: usize = 24;
 
-// A key head: the first 24 bytes of a key as three numbers, with zeros for bytes that aren't there.
+// A key head: the first 24 bytes of a table key as three numbers. A byte that isn't there is 0.
 #[derive(Clone, Copy)]
 pub(crate) struct Numbers {
     pub(crate) first: u64,
@@ -54,8 +54,8 @@ fn numbers_of(bytes: &[u8]) -> Numbers
     }
 }
 
-// The bytes of a resource, and their head. Heads tell nearly all keys apart. They are in the node
-// of the tree, while the bytes are elsewhere in memory.
+// A table key: the bytes of a resource, and their head. Heads tell nearly all keys apart. They are
+// in the node of the tree, while the bytes are elsewhere in memory.
 #[derive(Drop)]
 pub(crate) struct Key {
     numbers: Numbers,
@@ -74,7 +74,7 @@ impl Model for Key {
     ghost invariant = { λ k. AreNumbers k.bytes.items k.numbers };
 }
 
-// Empties bytes and fills them with two parts, or leaves them empty if there is no room.
+// Empties bytes and fills them with two parts, or leaves them empty if memory is refused.
 fn refill(bytes: &mut Vec<u8>, front: &[u8], rest: &[u8]) -> Result<(), NoMemory>
     requires most { length front.now + length rest.now ≤ 265 }
     ensures filled { OnOk result (bytes.new.items ≡ front.now ++ rest.now) }
@@ -119,8 +119,8 @@ impl Key {
         })
     }
 
-    // Makes it the key of these few bytes, or of none if there is no room for any key. It doesn't
-    // read the key's bytes back, as `set` does.
+    // Makes it the key of these few bytes, or of none if memory is refused. It doesn't read the
+    // key's bytes back for the head, as `set` does.
     pub(crate) fn set_short<const N: usize>(&mut self, bytes: &[u8; N]) -> Result<(), NoMemory>
         requires most { length bytes.now ≤ 265 }
         ensures set { OnOk result (self.new.items ≡ bytes.now) }
@@ -135,8 +135,7 @@ impl Key {
         Ok(())
     }
 
-    // Makes it the key of these bytes and what comes after them, or of none if there is no room for
-    // them.
+    // Makes it the key of two parts, `front` and `rest`, or of no bytes if memory is refused.
     pub(crate) fn set(&mut self, front: &[u8], rest: &[u8]) -> Result<(), NoMemory>
         requires most { length front.now + length rest.now ≤ 265 }
         ensures set { OnOk result (self.new.items ≡ front.now ++ rest.now) }

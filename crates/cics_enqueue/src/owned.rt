@@ -1,4 +1,4 @@
-//! For each unit, the keys that it acquired.
+//! The table keys that each unit acquired.
 
 ghost use Rattle.std.specs.Prelude.{◌≡◌, ◌<◌, ℕ, true, false, IfSome, IfNone};
 ghost use Rattle.std.specs.Prelude.{OnOk, OnErr};
@@ -16,9 +16,9 @@ use cics_names::NoMemory;
 use indexmap::IndexMap;
 use std::alloc::Global;
 
-// For each unit its keys in the order in which it acquired them. A key that is released before
-// later ones stays here until the unit ends. To look for it would cost more than to pass it over
-// then.
+// For each unit its table keys, in the order in which it acquired them. A key that is released
+// before a later one stays here until the unit ends: to look for it would cost more than to pass
+// over it then.
 pub(crate) type Owned = IndexMap<UnitId, Vec<Key>>;
 
 // Returns true only if no unit but the asker has any keys. May be conservatively false: a unit that
@@ -52,7 +52,7 @@ pub(crate) fn add(owned: &mut Owned, alloc: Global, unit: UnitId, key: &Key) -> 
     Ok(())
 }
 
-// Removes a key if it is the last one.
+// Removes a key if it is the last of these.
 fn drop_last(keys: &mut Vec<Key>, key: &Key)
     ensures { (k : Vec ℕ) → is_same key.now.items k.items ≡ false →
         list_any (finds k.items) keys.old.items ≡ true →
@@ -67,7 +67,7 @@ fn drop_last(keys: &mut Vec<Key>, key: &Key)
     }
 }
 
-// Removes a key of a unit if it is the one that the unit acquired last, and else leaves it there.
+// Removes a key of a unit if it is the last of the unit's. Else leaves it there.
 pub(crate) fn remove(owned: &mut Owned, unit: UnitId, key: &Key)
     ensures { Drops unit key.now.items owned.old.entries owned.new.entries }
 {
@@ -76,7 +76,8 @@ pub(crate) fn remove(owned: &mut Owned, unit: UnitId, key: &Key)
     }
 }
 
-// Returns the key of these bytes among those of a unit.
+// Returns the key with these bytes among those of a unit, if it is there. Cost: O(keys of the
+// unit).
 pub(crate) fn find<'o>(owned: &'o Owned, unit: UnitId, bytes: &[u8]) -> Option<&'o Key>
     ensures found { IfSome result (λ key. key.now.items ≡ bytes.now) }
     ensures none { IfNone result ((k : Vec ℕ) → k.items ≡ bytes.now

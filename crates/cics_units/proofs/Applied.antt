@@ -1,5 +1,5 @@
--- A command that is applied where the store stands leaves what its definition says, and its images undo it: from what each
--- call of a file or a queue promises.
+-- A command that is applied to the store in place leaves what its definition says, and its images
+-- undo it: from what each call of a file or a queue promises.
 use Rattle.std.specs.Prelude.{◌≡◌, ◌+◌, ◌≤◌, IfNone, zero, suc, Bool, true, false, List, [], ◌∷◌, ◌++◌, length, option_map, refl, Option, Some, None, T, IfSome}
 use Rattle.std.proofs.Common.{sym, ap, ◌∙◌, subst, arith, inl, inr}
 use Rattle.std.proofs.lemmas.Bool.{cases_Bool, and_parts, and_from, false≢true}
@@ -54,7 +54,7 @@ use Rattle.cics_tempstor.specs.UndoLaws as rows
 use Rattle.cics_transdata.specs.UndoLaws as queue
 
 -- ---- Temporary storage
--- an image of the change of a temporary storage queue is one of the three
+-- an image of the change of a temporary storage queue is one of the store in place
 pub temp_any_image : (m : StoreValue) (new : Map Row) (q : images.Cell) (i : TsImage) → IsTsImage m.temp_storage new q i →
     IsAnyImage m (with_temp_storage m new) (temp_cell q) (TempStorage i)
 temp_any_image m new q i is = temp_storage_image files_content queue_content (λ s c. named_content end_content s c)
@@ -65,7 +65,7 @@ temp_any_image m new q i is = temp_storage_image files_content queue_content (λ
     FilesKeep KeepsQueues (λ p s n. NamedKeep KeepsEnds p s n)
     files.keeps_itself rows.keeps_itself (named.keeps_itself KeepsEnds queue.keeps_itself) m new q i is
 
--- and what the change leaves of temporary storage is left of the three
+-- and what the change leaves of temporary storage is left of the store in place
 pub temp_keeps : (m : StoreValue) (new : Map Row) (q : images.Cell) → KeepsQueues (images.is_other q) m.temp_storage new →
     AnyKeep (images.is_other (temp_cell q)) m (with_temp_storage m new)
 temp_keeps m new q kept = temp_storage_keeps FilesKeep KeepsQueues (λ p s n. NamedKeep KeepsEnds p s n)
@@ -116,7 +116,7 @@ same_rows (DeleteGeneric f p) keep rows on = refl
 same_rows (ReadUpdate f k) keep rows on = refl
 same_rows _ keep rows on = absurd (false≢true on)
 
--- a key that no image of the three is of, none of those of files is of
+-- a key that no image of the store in place is of, none of those of files is of
 unnamed_files : (is : List FilesImage) (kept : List AnyImage) (c : Cell) → is_unnamed cell_of_any (of_files is ++ kept) (file_cell c) ≡ true →
     is_unnamed cell_of_image is c ≡ true
 unnamed_files [] kept c unnamed = refl
@@ -148,7 +148,8 @@ module _ (old new : StoreValue) (op : Op) (keep own : Bool) (answer : Answer) (b
   held_then (suc (suc zero) ∷ c) unnamed has = has
   held_then (suc (suc (suc k)) ∷ c) unnamed has = has
 
-  -- a command on a file is applied, if the files are changed as it asks and its images are the newest
+  -- a command on a file is applied, if the files are changed as it asks and its images are the
+  -- newest
   pub files_applied : answer ≡ (apply (shown_store old) op).answer → IsApplied old new before after op keep own answer
   files_applied answered = record {
     answered = answered;

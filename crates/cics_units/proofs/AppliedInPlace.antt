@@ -1,5 +1,5 @@
--- A command that is applied keeps files, temporary storage, transient data and the images in place: by its one contract, for
--- files and queues alike.
+-- A command that is applied keeps files, temporary storage, transient data and the images in place:
+-- by its one contract, for files and queues alike.
 use Rattle.std.proofs.Common.{◌≡◌, ◌≢◌, ℕ, Bool, true, false, ◌&&◌, not, Option, Some, None, List, [], ◌++◌, refl, ap, sym, subst, ◌∙◌, eqb, inl, inr, ◌⊎◌}
 use Rattle.std.specs.Prelude.{if◌then◌else◌}
 use Rattle.std.specs.List.{list_any}
@@ -261,7 +261,7 @@ module _ (s : UnitsState) (m n : StoreValue) (images after_images : List (Kept A
           | inr shut ↦ true≢false (sym on ∙ shut)
         ]))
 
-    -- and its own unit, where it isn't recoverable
+    -- and its own unit, if it isn't recoverable
     unnamed_own : is_recoverable s.opening op ≡ false → (x : Cell) → touches op x ≡ true → names x (place.changes unit) ≡ false
     unnamed_own plain x touched = place.place.named x unit
         (and_left (recovers s.opening x) (used s.trace unit x Writing) (sym (touches-recovers s.opening op x touched) ∙ plain))
@@ -372,7 +372,7 @@ module _ (s : UnitsState) (m n : StoreValue) (images after_images : List (Kept A
             by true = rw (touched_where (Td r) ∙ false_from_ne_true (is_same q r) (λ same. other (sym (is_same-eq q r same)))) refl
             by false = refl
 
-    -- another open unit holds no end that the command changes
+    -- another open unit owns no end that the command changes
     left_to_others : (w : ℕ) → w ≢ unit → is_open (outcome_of s.outcomes w) ≡ true → (end : End) → list_any (is_of_end q end) (place.marks.images w) ≡ true →
         leaves_end op own end ≡ true
     left_to_others w other on end marks = elim (cases_Bool (leaves_end op own end)) [

@@ -139,7 +139,8 @@ module _ (s : UnitsState) (st new : StoreWithImages) (t : Table) (is : AreValid 
   abbrev unit : ℕ
   unit = unit_or_next u s.outcomes
 
-  -- a command sees enough, as nobody is awaited: what a unit that holds the writing end may read is told by the table as by the history
+  -- a command sees enough, as nobody is awaited: what a unit that owns the writing end may read is
+  -- told by the table as by the history
   pub op_seen : (op : Op) → awaited s u op ≡ None → IsSeen st.store op (is_writer t unit (queue_of op))
   op_seen (TdRead q) free = by (value_at q st.store.trans_data) refl
     where

@@ -1,4 +1,5 @@
--- Whom a command must wait for, by the history, is whom the table of enqueues and the queues themselves tell.
+-- Whom a command must wait for, by the history, is whom the table of enqueues and the queues
+-- themselves tell.
 use Rattle.std.proofs.Common.{◌≡◌, ℕ, true, false, ◌&&◌, not, Option, Some, None, List, [], ◌∷◌, refl, ap, sym, ◌∙◌}
 use Rattle.std.specs.Prelude.{if◌then◌else◌, is_none, slice_get}
 use Rattle.cics_names.specs.Keyed.{Bytes, value_at}
@@ -28,7 +29,7 @@ use Rattle.cics_units.specs.StoreInPlace.{AreInPlace}
 use Rattle.cics_units.proofs.HeldOver.{table_holder}
 use Rattle.cics_units.proofs.UsesInTable.{uses_alike, awaited-uses}
 
--- a list is empty where it has no first
+-- a list is empty if it has no first
 first_of_nothing : (xs : List Bytes) → is_nothing xs ≡ is_none (slice_get xs 0)
 first_of_nothing [] = refl
 first_of_nothing (x ∷ xs) = refl
@@ -37,14 +38,15 @@ module _ (s : UnitsState) (t : Table) (i : IsSound s) (k : IsTableOf s t) (u : O
   abbrev acting : ℕ
   acting = unit_or_next u s.outcomes
 
-  -- a unit holds the writing end of a LOGICAL queue in the table where it has used it
+  -- a unit owns the writing end of a LOGICAL queue in the table if it has used it
   pub writer_used : (q : Bytes) → queue_logical s.opening q ≡ true → is_writer t acting q ≡ used s.trace acting (Td q) Writing
   writer_used q l =
       sym (k.holders (WritingEnd q) acting) ∙ end_held s acting q Writing
       ∙ (λ j. acting_open s u acts j && (l j && used s.trace acting (Td q) Writing))
 
   module _ (store : StoreValue) (images : List (Kept AnyImage)) (place : AreInPlace s store images) where
-    -- where no other unit reads a LOGICAL queue, a unit may read a record just where the queue as it stands gives it one
+    -- if no other unit reads a LOGICAL queue, a unit may read a record just if the queue as it
+    -- stands gives it one
     pub committed-first : (q : Bytes) → queue_logical s.opening q ≡ true → blocker_at (owned s) u (ReadingEnd q) ≡ None →
         is_nothing (committed_for s u q) ≡ has_none_for (is_writer t acting q) (value_at q store.trans_data)
     committed-first q l free =
@@ -57,7 +59,7 @@ module _ (s : UnitsState) (t : Table) (i : IsSound s) (k : IsTableOf s t) (u : O
         ∙ ap (λ b. b && is_none (first_of queue.0 (is_writer t acting q))) (sym has.logical)
         ∙ ap (has_none_for (is_writer t acting q)) (sym queue.1)
 
-    -- a read waits for the writer that the queue tells, where no reader is in its way
+    -- a read waits for the writer that the queue tells, if no reader is in its way
     read_awaits : (q : Bytes) → queue_logical s.opening q ≡ true →
         first_some (first_some (holder_over (ReadingEnd q) u t) None) (writer_awaited s u (TdRead q))
         ≡ first_some (first_some (holder_over (ReadingEnd q) u t) None) (writer_over t store.trans_data u acting (TdRead q))
@@ -95,7 +97,8 @@ module _ (s : UnitsState) (t : Table) (i : IsSound s) (k : IsTableOf s t) (u : O
           ] refl
       writer_awaits _ = refl
 
-      -- the unit that a command must wait for is the one in its way, by the table and the queues as they stand
+      -- the unit that a command must wait for is the one in its way, by the table and the queues as
+      -- they stand
       pub awaited-in_place : (op : Op) →
           awaited s u op ≡ unit_in_way t store.trans_data (is_recoverable s.opening op) u acting op
       awaited-in_place op =

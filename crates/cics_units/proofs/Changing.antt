@@ -1,5 +1,5 @@
--- One of the values by name is changed where it stands: what the values are then. The values are the files of a region, or its
--- transient data queues.
+-- One of the values by name is changed where it stands: what the values are then. The values are
+-- the files of a region, or its transient data queues.
 use Rattle.std.specs.Prelude.{◌≡◌, T, Bool, true, false, cond, ◌&&◌, [], ◌∷◌, Option, Some, None, IsSome, Result, Ok, Err, IfOk}
 use Rattle.std.proofs.Common.{sym, ap, ◌∙◌, subst, refl}
 use Rattle.std.specs.Borrow.{MutBor}
@@ -22,7 +22,7 @@ is_lent name es values r found view there = lent r (subst IsSome (sym (found ∙
     lent None is = is
     lent (Some r) is = is
 
--- where a value is set the names rise as before
+-- if a value is set the names rise as before
 below_set : {M : Type 0} (is : Bytes → Bool) (g : M) (k : Bytes) (es : Map M) → below_all bytes_cmp k (set_value is es g) ≡ below_all bytes_cmp k es
 below_set is g k [] = refl
 below_set is g k (e ∷ es) = elim (is e.0) as (λ b. below_all bytes_cmp k (cond b ((e.0, g) ∷ es) (e ∷ set_value is es g)) ≡ below_all bytes_cmp k (e ∷ es)) [
@@ -57,13 +57,13 @@ module _ {M : Type 0} (name : Bytes) (es values : Map M) (f : M) (rising : T (is
     pub stepped : (step : M → M) → g ≡ step f → new ≡ changed_at step name values
     stepped step is = changed ∙ ap (λ x. with_value name x values) is ∙ ap (λ o. changed_where step name o values) (sym there)
 
--- where a name has no value, no step changes any
+-- if a name has no value, no step changes any
 pub not_stepped : {M : Type 0} (name : Bytes) (es values : Map M) → es ≡ values → (step : M → M) → None ≡ lookup (is_at (bytes_cmp name)) es →
     (new : Map M) → new ≡ es → new ≡ changed_at step name values
 not_stepped name es values view step missing new same =
     same ∙ view ∙ ap (λ o. changed_where step name o values) (sym (value_at-looked_up name es values None missing view))
 
--- where the value of a name stays all do
+-- if the value of a name stays all do
 pub all_stay : {M : Type 0} (name : Bytes) (f g : M) (m : Map M) → T (is_rising m) → value_at name m ≡ Some f → g ≡ f → with_value name g m ≡ m
 all_stay name f g m rising there same = ap (λ x. with_value name x m) same ∙ with_value-same name f m rising there
 

@@ -117,7 +117,7 @@ unnamed_before name (i ∷ more) is c h =
     (and_parts (is_other (cell_of_image (record { name = name; image = i })) c) (is_unnamed cell_of_image is c)
     (unnamed_before name more (record { name = name; image = i } ∷ is) c h)).1
 
--- where no image names a key it is none that was deleted
+-- if no image names a key it is none that was deleted
 unnamed_apart : (name : Bytes) (f : FileValue) (es : Map Bytes) → AreThere f es → (is : List FilesImage) (k : Bytes) →
     is_unnamed cell_of_image (with_stored name (map (removed_entry f.definition) es) is) (cell_of name k) ≡ true → is_key_in k (map (λ e. e.0) es) ≡ false
 unnamed_apart name f [] entries is k h = refl
@@ -171,7 +171,7 @@ module _ (s : StoreValue) (name : Bytes) (f : FileValue) (there : value_at name 
   ]
 
   module _ (n : Map FileValue) (files_then : n ≡ with_value name after s.files) (given : images ≡ prefix_images f.definition.recoverable f p) where
-    -- the images, where they are asked for
+    -- the images, if they are asked for
     asked : (b : Bool) → f.definition.recoverable ≡ b → images ≡ prefix_images b f p
     asked b is = given ∙ ap (λ b. prefix_images b f p) is
 

@@ -47,7 +47,7 @@ still_held : (u : ℕ) (f : Bytes) (o : Option Bytes) (t : Table) → table_give
 still_held u f None t = refl
 still_held u f (Some k) t = refl
 
--- a change goes on holding what it uses of something recoverable, and else gives back what it covers
+-- a change keeps owned what it uses of something recoverable, and else releases what it covers
 pub changed_table : (recoverable : Bool) (u : ℕ) (op : Op) (uses : List Resource) (reads : List UpdateRead) (t : Table) → uses ≡ uses_if recoverable op → is_read op ≡ false →
     table_given_back recoverable u (file_of op) (covered_read u op reads) (if recoverable then taken_all t u uses else t) ≡ table_changed recoverable u op reads t
 changed_table true u op uses reads t used other = still_held u (file_of op) (covered_read u op reads) (taken_all t u uses) ∙ ap (taken_all t u) used
@@ -59,7 +59,8 @@ read_table : (recoverable : Bool) (u : ℕ) (f k : Bytes) (reads : List UpdateRe
 read_table true u f k reads t = refl
 read_table false u f k reads t = refl
 
--- READ UPDATE that is answered with the record that was looked up: the unit holds it and has it read for update, if it is there
+-- READ UPDATE that is answered with the record that was looked up: the unit owns it and has it read
+-- for update, if it is there
 pub read_done : (p : CoreValue) (u : ℕ) (f k : Bytes) (keep own : Bool) (g : Option Bytes) (uses : List Resource) → IsFileBound p.stores.store f keep → g ≡ read_given p.stores.store (ReadUpdate f k) →
     uses ≡ uses_if keep (ReadUpdate f k) →
     IsDone p (if is_some g then record p { table = taken_all p.table u uses; reads = with_read (record { unit = u; file = f; key = k }) p.reads } else p) u (ReadUpdate f k) keep own (with_content (found_condition g) g)

@@ -11,8 +11,8 @@ use Rattle.cics_history.specs.Cells.{Reading, Writing}
 use Rattle.cics_units.specs.StoreMatching.{StoreValue, AnyImage, any_holds}
 use Rattle.cics_units.specs.StoreEnds.{ts_images, td_images, writers_settled, readers_settled, ends_settled, has_end}
 
--- the row of an absent temporary storage queue, and two transient data queues: of the first a record is marked as read and
--- another as written, of the second one as written
+-- the row of an absent temporary storage queue, and two transient data queues: of the first a
+-- record is marked as read and another as written, of the second one as written
 few : StoreValue
 few = record {
   files = [];
@@ -84,7 +84,8 @@ writers : (writers_settled few own).trans_data
 unfolding few own
 writers = refl
 
--- the reader of the first queue commits: the record that it read is gone, and what another unit wrote is marked still
+-- the reader of the first queue commits: the record that it read is gone, and what another unit
+-- wrote is marked still
 readers : (readers_settled few own).trans_data
     ≡ (7 ∷ [], record { kind = Logical; placed = (2 ∷ []) ∷ (3 ∷ []) ∷ []; read = 0; written = 1 })
     ∷ (8 ∷ [], record { kind = Logical; placed = (4 ∷ []) ∷ []; read = 0; written = 1 }) ∷ []

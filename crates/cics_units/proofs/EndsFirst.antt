@@ -1,4 +1,5 @@
--- A commit may settle the ends before it gives the images up, which it still has then to go by: it comes to the same.
+-- A commit may settle the ends before it gives the images up, which it still has then to go by: it
+-- comes to the same.
 use Rattle.std.proofs.Common.{◌≡◌, ℕ, zero, suc, true, List, [], ◌∷◌, refl, ap, sym, subst, ◌∙◌}
 use Rattle.std.specs.Prelude.{Option, Some, None, option_map}
 use Rattle.cics_names.specs.Keyed.{Bytes, value_at, is_rising}
@@ -54,11 +55,11 @@ module _ (s : UnitsState) (m n : StoreValue) (images after_images : List (Kept A
     (fixed : any_fixed n ≡ any_fixed (ends_settled m (kept_by images v)))
     (held : AreHeldForImages any_holds cell_of_any (ends_settled m (kept_by images v)) images → AreHeldForImages any_holds cell_of_any n after_images)
     (whole : n ≡ all_swept any_swept cell_of_any (ends_settled m (kept_by images v)) (kept_by images v)) where
-  -- the three with the ends settled and the images kept
+  -- the store in place with the ends settled and the images kept
   abbrev settled_first : StoreValue
   settled_first = ends_settled m (kept_by images v)
 
-  -- the three with the images given up and the ends as they were
+  -- the store in place with the images given up and the ends as they were
   abbrev swept_first : StoreValue
   swept_first = all_swept any_swept cell_of_any m (kept_by images v)
 
@@ -131,7 +132,7 @@ module _ (s : UnitsState) (m n : StoreValue) (images after_images : List (Kept A
   shown_last = committed_shows s m swept_first images after_images v in_order sound live place canonical rows gone others contents_swept keeps_swept
       fixed_swept held_swept refl n same_end
 
--- what is told of giving the images of a unit up, from one value of the three to another
+-- what is told of giving the images of a unit up, from one value of the store in place to another
 record AreGivenUp (k n : StoreValue) (images after_images : List (Kept AnyImage)) (v : ℕ) : Type 0 where
   contents : (c : ImageCell) → any_content n c ≡ any_content k c
   keeps : AnyKeep (is_unnamed cell_of_any (kept_by images v)) k n
@@ -149,7 +150,7 @@ module _ (s : UnitsState) (m k n : StoreValue) (images after_images : List (Kept
     (fixed : any_fixed n ≡ any_fixed k)
     (held : AreHeldForImages any_holds cell_of_any k images → AreHeldForImages any_holds cell_of_any n after_images)
     (whole : n ≡ all_swept any_swept cell_of_any k (kept_by images v)) where
-  -- the images are given up where the ends are settled
+  -- the images are given up once the ends are settled
   given_up : AreGivenUp (ends_settled m (kept_by images v)) n images after_images v
   given_up = subst (λ x. AreGivenUp x n images after_images v) settled
       (record { contents = contents; keeps = keeps; fixed = fixed; held = held; whole = whole })

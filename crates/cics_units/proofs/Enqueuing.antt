@@ -58,7 +58,7 @@ module _ (v : Bytes) (u : ℕ) where
       ]
   count_first _ h es own rest = rest refl
 
-  -- the count of a value that no other unit holds is the table's
+  -- the count of a value that no other unit owns is the table's
   pub count_at-table : (t : Table) → ((g : Held) → held_at (value_of v) t ≡ Some g → g.unit ≡ u) →
       count_at (counts_in t) u v ≡ count_of (value_of v) t
   count_at-table [] own = refl
@@ -78,7 +78,7 @@ module _ (s : UnitsState) (st : StoreWithImages) (t : Table) (is : AreValid s st
   pub value_over : (n : ℕ) → n ≡ taker → holder_over (value_of v) (Some n) t ≡ holder_over (value_of v) u t
   value_over n acting = ap (λ n. holder_over (value_of v) (Some n) t) acting ∙ same_over s t is.sound is.table u v
 
-  -- another unit holds the value
+  -- another unit owns the value
   pub enqueue-waits : (h : ℕ) → holder_over (value_of v) u t ≡ Some h → enqueue s u v ≡ EnqMustWait h
   enqueue-waits h held = ap (enq_of s u v) (value_held ∙ held)
 
@@ -93,7 +93,7 @@ module _ (s : UnitsState) (st : StoreWithImages) (t : Table) (is : AreValid s st
         (ap (λ cs. count_at cs taker v) is.table.counts ∙ count_at-table v taker t (λ g at. free_own t (value_of v) taker value_free g.unit (ap unit_in at)))
         ∙ ap (λ f. if f then CountFull else Taken taker) full
 
-    -- the unit takes the value, or holds it the most times
+    -- the unit acquires the value, or owns it the most times
     pub enqueue-takes : is_full (value_of v) t ≡ false → enqueue s u v ≡ Taken taker
     enqueue-takes room = enqueue-by false room
 
@@ -152,7 +152,7 @@ module _ (o : OpeningState) (trace : List Entry) (outcomes : List UnitState) (co
   abbrev before : UnitsState
   before = state_shown o trace outcomes commits p
 
-  -- ENQ that takes its value
+  -- ENQ that acquires its value
   module _ (u : Option ℕ) (v : Bytes) (acts : may_act before u ≡ true) (takes : enqueue before u v ≡ Taken (unit_or_next u outcomes))
       (done : AreEnqueued p new (unit_or_next u outcomes) v) where
     kept_then : AreValid (after_enqueued before u v (Taken (unit_or_next u outcomes))) new.stores (taken p.table (value_of v) (unit_or_next u outcomes))

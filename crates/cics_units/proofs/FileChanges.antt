@@ -101,7 +101,8 @@ kept_definitions p m n kept = λ i q. by (λ key. p (cell_of q key)) (value_at q
     by p (Some f) None k = absurd k
     by p (Some f) (Some g) k = ap Some k.same_file
 
--- the image of a command on one record of a file that is there: one where it changes a record of a recoverable file, else none
+-- the image of a command on one record of a file that is there: one if it changes a record of a
+-- recoverable file, else none
 module _ (s : StoreValue) (name : Bytes) (f : FileValue) (there : value_at name s.files ≡ Some f) (n : Map FileValue) (op : Op) (one : is_generic op ≡ false) (k : Bytes)
     (on : cell_of_op op ≡ Key name k) (store : shown_store (with_files s n) ≡ (apply (shown_store s) op).store) (image : Option ImageValue)
     (undoes : IfSome image (λ i. IsFilesImage s.files n (cell_of name k) (record { name = name; image = i }))) where

@@ -36,7 +36,7 @@ no_queue_op (TdRead r) file q = absurd (false≢true file)
 no_queue_op (TdDelete r) file q = absurd (false≢true file)
 no_queue_op _ file q = refl
 
--- what is so where its denial isn't
+-- what is so if its denial isn't
 denied : (b : Bool) → not b ≡ false → b ≡ true
 denied true h = refl
 denied false h = absurd (true≢false h)

@@ -1,4 +1,5 @@
--- A command on a file changes the files of the store alone: what is told of the files is told of the three.
+-- A command on a file changes the files of the store alone: what is told of the files is told of
+-- the store in place.
 use Rattle.std.specs.Prelude.{◌≡◌, Bool, true, false, List, []}
 use Rattle.cics_names.specs.Keyed.{Map, value_at}
 use Rattle.cics_images.specs.Cells.{Cell, is_unnamed}
@@ -14,8 +15,8 @@ use Rattle.cics_units.specs.StoreMatching.{StoreValue, shown_store, AreImagesOf}
 use Rattle.cics_units.specs.Parts.{is_recoverable_in, leaves, of_files}
 use Rattle.cics_units.proofs.MadeImages.{AreMadeInTurn}
 
--- these images of files, newest first, stand for the changes of a command, and lead from these files back to those of the
--- store
+-- these images of files, newest first, stand for the changes of a command, and lead from these
+-- files back to those of the store
 pub record HasFileImages (s : StoreValue) (n : Map FileValue) (op : Op) (is : List FilesImage) : Type 0 where
   pub made : AreImagesOf (images_by (shown_store s) op (content (shown_store s))) [] (of_files is)
   pub in_turn : AreMadeInTurn s.files n is

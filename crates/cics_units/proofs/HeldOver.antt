@@ -44,7 +44,7 @@ below_behind : (f k l : Bytes) → is_below (f ++ k) (f ++ l) ≡ is_below k l
 below_behind [] k l = refl
 below_behind (x ∷ f) k l = ap (λ o. is_lt (ordering_then o (bytes_cmp (f ++ k) (f ++ l)))) (sym (nat_cmp_is x x Equal refl)) ∙ below_behind f k l
 
--- of one file, where neither stands before the other
+-- of one file, if neither stands before the other
 same_behind : (f g h : Bytes) (k l : Bytes) → is_same f g ≡ true → is_same f h ≡ true → is_below (length g ∷ (g ++ k)) (length h ∷ (h ++ l)) ≡ false → is_below l k ≡ false → (is_same g h ≡ true) × (k ≡ l)
 same_behind f g h k l a b low high =
     let same : g ≡ h = sym (is_same-eq f g a) ∙ is_same-eq f h b in (
@@ -56,7 +56,8 @@ same_behind f g h k l a b low high =
 begins_as : (k l : Bytes) → k ≡ l → has_prefix k l ≡ true
 begins_as k l same = subst (λ x. has_prefix k x ≡ true) same (has_prefix-self k)
 
--- two that conflict with a resource, neither of which is smaller in the table or in the history, conflict
+-- two that conflict with a resource, neither of which is smaller in the table or in the history,
+-- conflict
 pub conflict_there : (r a b : Resource) → conflicts r a ≡ true → conflicts r b ≡ true → is_below (place_of a) (place_of b) ≡ false → is_below (bytes_in b) (bytes_in a) ≡ false → conflicts a b ≡ true
 conflict_there (FilePrefix f p) (FileKey g k) (FileKey h l) a b low high =
     let s = same_behind f g h k.items l.items (and_parts (is_same f g) _ a).0 (and_parts (is_same f h) _ b).0 low high in
@@ -88,7 +89,7 @@ conflict_there (ReadingEnd q) x y a b low high = conflicts-joined (ReadingEnd q)
 conflict_there (WritingEnd q) x y a b low high = conflicts-joined (WritingEnd q) x y refl a b
 conflict_there (User v) x y a b low high = conflicts-joined (User v) x y refl a b
 
--- ---- What a unit holds, one by one
+-- ---- What a unit owns, one by one
 
 -- one that passes a test stands among them
 any_one : {P : Type 0} (test : Resource → Bool) (qs : List Resource) → list_any test qs ≡ true →
@@ -105,7 +106,7 @@ holder_is n None is = absurd (false≢true is)
 holder_is n (Some v) is = ap Some (eqb-true v n is)
 
 module _ (s : UnitsState) (t : Table) (i : IsSound s) (k : IsTableOf s t) where
-  -- what a unit holds the table has as its
+  -- what a unit owns the table has as its
   held_there : (q : Resource) (n : ℕ) → list_any (is_one q) (held_by s n) ≡ true → holder_of q t ≡ Some n
   held_there q n h = holder_is n (holder_of q t) (sym (k.holders q n) ∙ h)
 
@@ -113,7 +114,7 @@ module _ (s : UnitsState) (t : Table) (i : IsSound s) (k : IsTableOf s t) where
   there_held : (q : Resource) (n : ℕ) → holder_of q t ≡ Some n → list_any (is_one q) (held_by s n) ≡ true
   there_held q n at = k.holders q n ∙ ap (is_holder n) at ∙ eq-eqb n n refl
 
-  -- the unit that holds the least, in the table, is the one that the history gives
+  -- the unit that owns the least, in the table, is the one that the history gives
   least_found : (asking : Option ℕ) (r : Resource) (v : ℕ) → HoldsLeast t r asking v → blocker_at (owned s) asking r ≡ Some v
   least_found asking r v holds = by (smallest_conflict (owned s) asking r) refl
     where
@@ -156,7 +157,7 @@ module _ (s : UnitsState) (t : Table) (i : IsSound s) (k : IsTableOf s t) where
         | Some v ↦ λ found. least_found asking r v (holder_over-least t asking k.in_order r v found)
       ] refl
 
-  -- what no other unit holds is free for the unit that acts
+  -- what no other unit owns is free for the unit that acts
   pub table_free : (u : Option ℕ) (r : Resource) → holder_over r u t ≡ None → IsFreeFor t r (unit_or_next u s.outcomes)
   table_free None r none = λ q v meets at. absurd (true≢false (free_where_none t r None none q v meets at))
   table_free (Some u) r none = free_for t r u (free_where_none t r (Some u) none)

@@ -1,4 +1,5 @@
--- The empty places of files, through a command: an empty place more is that of an image that the unit keeps.
+-- The empty places of files, through a command: an empty place more is that of an image that the
+-- unit keeps.
 use Rattle.std.specs.Prelude.{◌≡◌, Bool, true, false, not, ◌&&◌, ◌||◌, if◌then◌else◌, Option, Some, None, is_some, option_map, IfSome, [], ◌∷◌, refl}
 use Rattle.std.proofs.Common.{sym, ap, ◌∙◌}
 use Rattle.std.proofs.lemmas.Bool.{true≢false}

@@ -1,4 +1,5 @@
--- What the update reads hold, after one is opened and after some are ended, and that a unit has one of a file at most.
+-- What the update reads hold, after one is opened and after some are ended, and that a unit has one
+-- of a file at most.
 use Rattle.std.proofs.Common.{◌≡◌, ℕ, Bool, true, false, ◌&&◌, ◌||◌, not, Some, is_some, List, [], ◌∷◌, refl, ap, sym, subst, ◌∙◌, eqb, inl, inr}
 use Rattle.std.specs.Prelude.{if◌then◌else◌, ◌==◌, All, filter}
 use Rattle.std.specs.List.{list_any}
@@ -162,7 +163,7 @@ read_keys (x ∷ xs) u f k once h =
 -- ---- What the update reads hold
 
 module _ (o : OpeningState) (n : ℕ) (r : Resource) where
-  -- an update read makes the unit hold the resource
+  -- an update read makes the unit own the resource
   abbrev pub by_read : UpdateRead → Bool
   by_read x = list_any (is_one r) (held_by_read o n x)
 
@@ -258,14 +259,14 @@ covers-key v _ x = sym (and-false (is_read_of v [] x))
 pub covers-own : (v : ℕ) (op : Op) (x : UpdateRead) → covers v op x ≡ true → is_read_of v (file_of op) x ≡ true
 covers-own v op x h = (and_parts (is_read_of v (file_of op) x) (covers_key op x.key) (sym (covers-key v op x) ∙ h)).0
 
--- a command that covers a read acts on a file, and on something recoverable just where that file is
+-- a command that covers a read acts on a file, and on something recoverable just if that file is
 covers-recoverable : (o : OpeningState) (v : ℕ) (op : Op) (x : UpdateRead) → covers v op x ≡ true → is_recoverable o op ≡ file_recoverable o (file_of op)
 covers-recoverable o v (Rewrite f k r) x h = refl
 covers-recoverable o v (Delete f k) x h = refl
 covers-recoverable o v (DeleteGeneric f p) x h = refl
 covers-recoverable o v _ x h = absurd (false≢true h)
 
--- the same where it covers any
+-- the same if it covers any
 pub covering-recoverable : (o : OpeningState) (v : ℕ) (op : Op) (xs : List UpdateRead) → list_any (covers v op) xs ≡ true →
     is_recoverable o op ≡ file_recoverable o (file_of op)
 covering-recoverable o v op [] some = absurd (false≢true some)
@@ -274,7 +275,7 @@ covering-recoverable o v op (x ∷ xs) some = elim (or_cases (covers v op x) (li
   | inr later ↦ covering-recoverable o v op xs later
 ]
 
--- where a unit has one read of a file at most, one that passes a test is the one that is found
+-- if a unit has one read of a file at most, one that passes a test is the one that is found
 pub read_found : (test : Bytes → Bool) (xs : List UpdateRead) (v : ℕ) (f : Bytes) → AreOnce xs →
     list_any (λ x. is_read_of v f x && test x.key) xs ≡ true → (k : Bytes) × (read_at xs v f ≡ Some k) × (test k ≡ true)
 read_found test [] v f once h = absurd (false≢true h)
@@ -295,7 +296,7 @@ read_found test (x ∷ xs) v f once h =
           (rest.0, ap (λ b. if b then Some x.key else read_at xs v f) other ∙ rest.1, rest.2)
     ]
 
--- the reads that a command covers are the unit's read of its file, where it covers any
+-- the reads that a command covers are the unit's read of its file, if it covers any
 module _ (v : ℕ) (op : Op) (xs : List UpdateRead) (once : AreOnce xs) (some : list_any (covers v op) xs ≡ true) where
   abbrev covered_found : (k : Bytes) × (read_at xs v (file_of op) ≡ Some k) × (covers_key op k ≡ true)
   covered_found = read_found (covers_key op) xs v (file_of op) once (ap (λ p. list_any p xs) (λ i x. sym (covers-key v op x) i) ∙ some)

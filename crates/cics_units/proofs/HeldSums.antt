@@ -1,4 +1,4 @@
--- What a unit holds, as one test: by its entries, its update reads and its counts.
+-- What a unit owns, as one test: by its entries, its update reads and its counts.
 use Rattle.std.proofs.Common.{◌≡◌, ℕ, Bool, true, false, ◌&&◌, ◌||◌, Option, List, [], ◌∷◌, ◌++◌, refl, ap, sym, subst, ◌∙◌, eqb, inl, inr}
 use Rattle.std.specs.Prelude.{if◌then◌else◌, ◌==◌, flat_map}
 use Rattle.std.specs.List.{list_any}
@@ -28,7 +28,7 @@ use Rattle.cics_history.proofs.Outcomes.{outcome_of-with}
 use Rattle.cics_units.proofs.HeldReads.{any_if_one}
 
 module _ (o : OpeningState) (n : ℕ) (p : Resource → Bool) where
-  -- what passes a test is held by an entry, by an update read, by a count
+  -- what passes a test is owned by an entry, by an update read, by a count
   abbrev pub in_entries : List Entry → Bool
   in_entries es = list_any (λ e. list_any p (held_by_entry o n e)) es
 
@@ -58,7 +58,7 @@ held_sum s n p =
       | false ↦ refl
     ]
 
--- ---- A record of a file that isn't recoverable is held by update reads alone
+-- ---- A record of a file that isn't recoverable is owned by update reads alone
 
 -- what a command uses of recoverable files and queues
 uses_apart : (o : OpeningState) (f k : Bytes) → file_recoverable o f ≡ false → (op : Op) →
@@ -116,7 +116,7 @@ module _ (o : OpeningState) (n : ℕ) (r : Resource) (f k : Bytes) (same : is_on
 
 -- ---- One entry more
 
--- a command on a file acts on something recoverable just where its file is
+-- a command on a file acts on something recoverable just if its file is
 pub recoverable_op : (o : OpeningState) (op : Op) → is_file_op op ≡ true → is_recoverable o op ≡ file_recoverable o (file_of op)
 recoverable_op o (Write f k r) file = refl
 recoverable_op o (Rewrite f k r) file = refl
@@ -130,11 +130,11 @@ module _ (s : UnitsState) (u : Option ℕ) (op : Op) (a : Answer) (n : ℕ) (p :
   abbrev pub entry_of : Entry
   entry_of = record { unit = unit_or_next u s.outcomes; op = op; answer = a }
 
-  -- what the entry makes the unit hold
+  -- what the entry makes the unit own
   abbrev pub by_entry : Bool
   by_entry = list_any p (held_by_entry s.opening n entry_of)
 
-  -- what a unit holds after a command
+  -- what a unit owns after a command
   pub entered_sum :
       list_any p (held_by (entered s u op a) n)
       ≡ (is_open (outcome_of s.outcomes n)
@@ -149,7 +149,8 @@ module _ (s : UnitsState) (u : Option ℕ) (op : Op) (a : Answer) (n : ℕ) (p :
       || in_reads s.opening n p (reads_after (unit_or_next u s.outcomes) op a.condition s.reads))
       || in_counts s.opening n p s.counts))
 
-  -- a command that is refused, or acts on something that isn't recoverable, holds nothing by its entry
+  -- a command that is refused, or acts on something that isn't recoverable, holds nothing by its
+  -- entry
   pub by_entry-none : (is_normal a.condition && is_recoverable s.opening op) ≡ false → by_entry ≡ false
   by_entry-none none = ap (λ b. list_any p (if b then uses_of s.opening op else [])) (and_right (unit_or_next u s.outcomes == n) _ none)
 

@@ -1,4 +1,5 @@
--- Each call keeps the units: what their state says, what the files, the queues and the images hold, and what the table tells.
+-- Each call keeps the units: what their state says, what the files, the queues and the images hold,
+-- and what the table tells.
 use Rattle.std.proofs.Common.{◌≡◌, ℕ, ◌<◌, ◌≤◌, Bool, true, false, Option, Some, None, List, [], ◌∷◌, length, length-append, zero, suc, refl, ap, sym, subst, ◌∙◌, arith}
 use Rattle.std.specs.Prelude.{is_some, IsSome, map, option_map, IsTrue, fold}
 use Rattle.std.proofs.lemmas.Bool.{false≢true, true≢false, and_parts}
@@ -88,7 +89,7 @@ module _ (s : UnitsState) (st : StoreWithImages) (t : Table) (is : AreValid s st
   same_definition : (f : Bytes) → option_map (λ x. x.definition) (value_at f st.store.files) ≡ option_map (λ file. file.definition) (value_at f s.opening.files)
   same_definition f = is.defined.files f
 
-  -- a file is there just where it is defined, and is recoverable just where its definition is
+  -- a file is there just if it is defined, and is recoverable just if its definition is
   pub recoverable_alike : (f : Bytes) → is_recoverable_in (value_at f st.store.files) ≡ file_recoverable s.opening f
   recoverable_alike f = by (value_at f st.store.files) (value_at f s.opening.files) (same_definition f) ∙ sym (defined_recoverable (value_at f s.opening.files) refl)
     where
@@ -106,7 +107,7 @@ module _ (s : UnitsState) (st : StoreWithImages) (t : Table) (is : AreValid s st
       by (Some x) None e = absurd (none_some (sym e))
       by (Some x) (Some y) e = let d : x.definition ≡ y.definition = cc in ap (λ z. z.recoverable) d
 
-  -- it is LOGICAL just where it is defined so
+  -- it is LOGICAL just if it is defined so
   pub logical_alike : (q : Bytes) → queue_logical s.opening q ≡ is_logical_in (value_at q st.store.trans_data)
   logical_alike q = by (value_at q s.opening.queues) refl (value_at q st.store.trans_data) (is.defined.queues q)
     where
@@ -312,7 +313,8 @@ module _ (s : UnitsState) (st : StoreWithImages) (t left : Table) (is : AreValid
   abbrev changed : UnitsState
   changed = record s { reads = reads; counts = counts }
 
-  -- the units keep all with other reads and counts that leave them apart and in order, and that the table has
+  -- the units keep all with other reads and counts that leave them apart and in order, and that the
+  -- table has
   pub kept_with : IsSound changed → IsInOrder changed → IsTableOf changed left → AreValid changed st left
   kept_with sound order table = record {
     in_order = is.in_order;
@@ -382,7 +384,7 @@ module _ (s : UnitsState) (st new : StoreWithImages) (t : Table) (is : AreValid 
   kept_backed_out led keeps fixed held whole = kept_ended s st new t is u live BackedOut refl others
       (backed_out_ended s st.store new.store st.images new.images u is.in_order is.sound live is.place is.canonical is.rows gone others led keeps fixed held whole)
 
-  -- the three once the ends are settled that the unit's images are of
+  -- the store in place once the ends are settled that the unit's images are of
   abbrev settled : StoreValue
   settled = ends_settled st.store (kept_by st.images u)
 

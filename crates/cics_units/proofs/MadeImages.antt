@@ -26,9 +26,9 @@ use Rattle.cics_units.specs.Parts.{of_files}
 use Rattle.cics_units.proofs.StoreInPlace.{shown_key, AreReady, ready_where}
 use Rattle.cics_units.proofs.StoreExecuted.{all_of}
 
--- ---- Images of files among those of the three
+-- ---- Images of files among those of the store in place
 
--- where the files keep some cells and nothing else changes, the three keep those cells
+-- if the files keep some cells and nothing else changes, the store in place keeps those cells
 pub files_kept : (p : Cell → Bool) (s : StoreValue) (n : Map FileValue) → FilesKeep (λ c. p (file_cell c)) s.files n → AnyKeep p s (with_files s n)
 files_kept p s n kept = record {
   files = kept;
@@ -42,7 +42,8 @@ ready_with : (s : StoreValue) (n : Map FileValue) (c : Cell) (i : FilesImage) (i
 ready_with s n c i is image ready =
     (image.ready, ready_where (λ x. true) s (with_files s (files_undone n i)) is (files_kept (λ x. true) s (files_undone n i) image.back) (all_of is) ready)
 
--- each image, the newest first, is of a change of the files from those that the images before it left
+-- each image, the newest first, is of a change of the files from those that the images before it
+-- left
 abbrev pub AreMadeInTurn : Map FileValue → Map FileValue → List FilesImage → Type 0
 AreMadeInTurn old new [] = old ≡ new
 AreMadeInTurn old new (i ∷ is) = (mid : Map FileValue) × IsFilesImage mid new (cell_of_image i) i × AreMadeInTurn old mid is
@@ -93,6 +94,6 @@ module _ (s : StoreValue) (op : Op) (one : is_generic op ≡ false) where
       own = subst (λ c. IsImageOfChange (record { cell = cell_of_op op; before = before (cell_of_op op); made = c }) i) made_here
           (subst (λ x. IsImageOfChange (record { cell = x; before = before x; made = content (shown_store n) x }) i) (sym on) stands)
 
-  -- where it changed nothing there is none
+  -- if it changed nothing there is none
   pub without_image : changes op (before (cell_of_op op)) ≡ false → AreImagesOf (images_by (shown_store s) op before) [] []
   without_image unchanged = (images_if false unchanged, refl)

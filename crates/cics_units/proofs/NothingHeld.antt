@@ -1,4 +1,5 @@
--- Recovery: whatever files and queues hold back is held back for an open unit; so where no unit is open nothing is.
+-- Recovery: whatever files and queues hold back is held back for an open unit; so if no unit is
+-- open nothing is.
 use Rattle.std.specs.Prelude.{◌≡◌, ℕ, ◌-◌, ◌<◌, ◌≤◌, Bool, true, false, not, ◌&&◌, Some, is_some, unwrap_or, nat_lt, List, [], ◌∷◌, length, drop, refl}
 use Rattle.std.specs.List.{list_any}
 use Rattle.std.proofs.Common.{sym, ap, subst, ◌∙◌, inl, inr, arith}
@@ -42,12 +43,12 @@ use Rattle.cics_units.proofs.KeptUnits.{logical_alike}
 
 -- ---- Images of a unit that did nothing
 
--- where no cell is named there is no image
+-- if no cell is named there is no image
 none_named : (l : List Image) → ((x : Cell) → names x l ≡ false) → l ≡ []
 none_named [] none = refl
 none_named (i ∷ l) none = absurd (true≢false (sym (or_left _ _ (same_cell-refl i.cell)) ∙ none i.cell))
 
--- where no end of a queue is marked there is no image of a mark
+-- if no end of a queue is marked there is no image of a mark
 none_marked : (o : OpeningState) (l : List MarkImage) → ((q : Bytes) → queue_logical o q ≡ false → marks_queue q l ≡ false) →
     ((q : Bytes) → queue_logical o q ≡ true → list_any (is_of_reading q) l ≡ false) →
     ((q : Bytes) → queue_logical o q ≡ true → list_any (is_of_writing q) l ≡ false) → l ≡ []

@@ -170,7 +170,7 @@ module _ (u : ℕ) (change : List UpdateRead → List UpdateRead)
       ap (λ r. reads_of n row ++ r) (in_row old new here (suc n) i rows (omega (arith, e)) there)
       ∙ sym (skips n row (reads_from (suc n) rows) (omega (arith, e)))
 
-  -- it changes nothing where the unit has no row
+  -- it changes nothing if the unit has no row
   without_row : change [] ≡ [] → (n i : ℕ) (rows : Rows) → u ≡ n + i → slice_get rows i ≡ None → reads_from n rows ≡ change (reads_from n rows)
   without_row none n i [] e past = sym none
   without_row none n zero (row ∷ rows) e past = let wrong : Some row ≡ None = past in cc

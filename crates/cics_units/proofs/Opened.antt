@@ -1,4 +1,5 @@
--- The files of an opening: each has loaded records alone, and they are the files that a region begins with.
+-- The files of an opening: each has loaded records alone, and they are the files that a region
+-- begins with.
 use Rattle.std.specs.Prelude.{◌≡◌, ◌+◌, Bool, true, false, not, cond, if◌then◌else◌, ◌&&◌, T, IsTrue, IfSome, All, Option, Some, None, is_some, option_map, option_copied, List, [], ◌∷◌, ◌++◌, length, map, refl}
 use Rattle.std.proofs.Common.{Bor, sym, ap, ◌∙◌, subst}
 use Rattle.std.proofs.lemmas.List.Elements.{All-cons, All-nil, All-head, All-tail}
@@ -183,7 +184,7 @@ with_record-found : (o : OpeningState) (name r : Bytes) (f : FileOpening) → va
     with_record o name r ≡ record { files = with_value name (loaded_file f r) o.files; prefixes = o.prefixes; queues = o.queues }
 with_record-found o name r f found = rw found refl
 
--- a record that is written to a file is loaded into it, where its key is new
+-- a record that is written to a file is loaded into it, if its key is new
 pub opened_with-written : (m : Map FileValue) (ps : List Bytes) (qs : Map TransState) (name r : Bytes) (f : FileValue) → value_at name m ≡ Some f →
     has_key (key_of f.definition r) f.records ≡ false → opened_with (with_value name (written f r) m) ps qs ≡ with_record (opened_with m ps qs) name r
 opened_with-written m ps qs name r f found new =
@@ -217,7 +218,7 @@ module _ (qs : Map TransState) (are : AreLoadedQueues qs) where
     loaded = All-with_value (λ e. IsLoadedQueue e.1) name q qs is are.loaded;
   }
 
-  -- and where a record is loaded into one of them
+  -- and if a record is loaded into one of them
   pub AreLoadedQueues-loaded : (name d : Bytes) → AreLoadedQueues (changed_at (λ q. loaded_with q d) name qs)
   AreLoadedQueues-loaded name d = by (value_at name qs) refl
     where
@@ -286,14 +287,14 @@ module _ (m : Map FileValue) (ps : List Bytes) (qs : Map TransState) (o : Openin
   pub queue_seen : (q : Option TransState) → q ≡ value_at name qs → value_at name o.queues ≡ option_map queue_opening q
   queue_seen q there = ap (λ p. value_at name p.queues) (sym is) ∙ value_at-each queue_opening name qs ∙ ap (option_map queue_opening) (sym there)
 
-  -- a file is recoverable where its definition says so, and one that isn't there is not
+  -- a file is recoverable if its definition says so, and one that isn't there is not
   pub recoverable_there : (f : FileValue) → Some f ≡ value_at name m → f.definition.recoverable ≡ file_recoverable o name
   recoverable_there f there = recoverable_of o name (opening_of f) (file_seen (Some f) there)
 
   pub recoverable_nowhere : None ≡ value_at name m → false ≡ file_recoverable o name
   recoverable_nowhere gone = unrecoverable o name (file_seen None gone)
 
-  -- a queue is recoverable where it is LOGICAL, and one that isn't there is not
+  -- a queue is recoverable if it is LOGICAL, and one that isn't there is not
   pub logical_there : (q : TransState) → Some q ≡ value_at name qs → is_logical q.kind ≡ queue_logical o name
   logical_there q there = logical_of o name (queue_opening q) (queue_seen (Some q) there)
 

@@ -1,4 +1,5 @@
--- Worked examples of what a region opens with: the faults of definitions and of what is loaded, each in its order.
+-- Worked examples of what a region opens with: the faults of definitions and of what is loaded,
+-- each in its order.
 use Rattle.std.specs.Prelude.{◌≡◌, true, false, Some, None, [], ◌∷◌, refl}
 use Rattle.cics_names.specs.Keyed.{Bytes, value_at}
 use Rattle.cics_ksds.specs.declared.definition.FileDef.{FileDef}

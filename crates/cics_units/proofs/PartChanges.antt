@@ -22,7 +22,7 @@ abbrev pub is_read_with : (Bytes → Bool) → Option Bytes → Bool
 is_read_with test None = false
 is_read_with test (Some key) = test key
 
--- where a unit has one read of a file at most, one that passes a test is the one that is found
+-- if a unit has one read of a file at most, one that passes a test is the one that is found
 pub covered-read_at : (test : Bytes → Bool) (u : ℕ) (f : Bytes) (reads : List UpdateRead) → AreOnce reads →
     list_any (λ r. is_read_of u f r && test r.key) reads ≡ is_read_with test (read_at reads u f)
 covered-read_at test u f [] once = refl
@@ -76,7 +76,7 @@ module _ (u : ℕ) where
   uncovered_any op reads no_rewrite no_delete no_generic =
       ap (λ p. list_any p reads) (λ i r. covers-false op no_rewrite no_delete no_generic r i) ∙ any_never reads
 
--- where a command covers a read, the reads of its unit in its file are those that it covers
+-- if a command covers a read, the reads of its unit in its file are those that it covers
 module _ (u : ℕ) (op : Op) where
   same_test : (x : UpdateRead) → (is_read_of u (file_of op) x ≡ true → covers u op x ≡ true) → is_read_of u (file_of op) x ≡ covers u op x
   same_test x all =

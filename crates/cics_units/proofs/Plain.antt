@@ -1,4 +1,4 @@
--- Files and queues in plain maps: what a command leaves of them where it is applied in place.
+-- Files and queues in plain maps: what a command that is applied in place leaves of them.
 use Rattle.std.specs.Prelude.{◌≡◌, ℕ, ◌-◌, ◌<◌, ◌≤◌, Bool, true, false, not, cond, if◌then◌else◌, T, Option, Some, None, is_some, unwrap_or, List, [], ◌∷◌, ◌++◌, length, drop, slice_set, nat_lt, refl}
 use Rattle.std.proofs.Common.{sym, ap, ◌∙◌, subst, arith}
 use Rattle.std.proofs.lemmas.Bool.{le-ltb, lt-ltb}
@@ -25,7 +25,7 @@ absent None e = refl
 absent (Some x) e = cc
 
 module _ {X : Type 0} where
-  -- the first entry of a key is the only one where the keys rise
+  -- the first entry of a key is the only one if the keys rise
   pub remove_entry-without : (k : Bytes) (es : Map X) → T (is_rising es) → remove_entry (is_at (bytes_cmp k)) es ≡ without k es
   remove_entry-without k [] rising = refl
   remove_entry-without k (e ∷ es) rising =
@@ -46,7 +46,7 @@ module _ {X : Type 0} where
     pub put_here : (y : X) (new : Map X) → new ≡ set_value (is_at (bytes_cmp k)) es y → new ≡ with_value k y es
     put_here y new set = with_value-set k y x es new rising here set
 
--- what a REWRITE in place leaves of records: the same where the key has none, else its record replaced
+-- what a REWRITE in place leaves of records: the same if the key has none, else its record replaced
 module _ (k r : Bytes) (es m : Map Bytes) (is : es ≡ m) where
   pub records_rewritten_absent : None ≡ lookup (is_at (bytes_cmp k)) es → (new : Map Bytes) → new ≡ es → new ≡ records_after_rewrite m k r
   records_rewritten_absent missing new same = same ∙ is ∙ sym (ap (λ o. if is_some o then with_value k r m else m) (value_at-looked_up k es m None missing is))
@@ -115,7 +115,7 @@ module _ (files new_files : Map (Map Bytes)) (ts : Map Queue) (td : Map (List By
         ∙ ap (λ o. (apply_delete (store_of files ts td) f k o).store) (sym there)
         ∙ ap (λ s. (apply_delete s f k (value_at f s.files)).store) is
 
--- where no record is under a prefix, all are beside it
+-- if no record is under a prefix, all are beside it
 beside_all : (p : Bytes) (m : Map Bytes) → under p m ≡ [] → outside p m ≡ m
 beside_all p [] none = refl
 beside_all p (e ∷ m) none =

@@ -1,4 +1,5 @@
--- What a plain replay begins with: the files and queues of an opening, each with what was loaded into it.
+-- What a plain replay begins with: the files and queues of an opening, each with what was loaded
+-- into it.
 use Rattle.std.specs.Prelude.{◌≡◌, ℕ, ◌<◌, ◌≤◌, length, take, IsTrue, T, All, true, List, [], ◌∷◌, fold, refl}
 use Rattle.std.proofs.Common.{sym, ap, ◌∙◌, subst, get_or}
 use Rattle.std.proofs.lemmas.List.{take_all}

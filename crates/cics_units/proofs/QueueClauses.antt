@@ -1,5 +1,5 @@
--- What the calls of a transient data queue promise is a change of it as `IsTransChange` says, and what the table of enqueues has
--- tells whether a unit holds the writing end.
+-- What the calls of a transient data queue promise is a change of it as `IsTransChange` says, and
+-- what the table of enqueues has tells whether a unit owns the writing end.
 use Rattle.std.proofs.Common.{◌≡◌, ℕ, Bool, true, false, not, ◌&&◌, Option, refl, ap, sym, ◌∙◌}
 use Rattle.std.specs.Prelude.{IfSome, IfNone}
 use Rattle.std.proofs.lemmas.Bool.{false≢true}
@@ -20,7 +20,7 @@ use Rattle.cics_units.specs.StoreInPlace.{holds_end}
 use Rattle.cics_units.specs.QueueChanges.{IsTransChange}
 use Rattle.cics_units.proofs.TransChanges.{kind_after}
 
--- the table has a unit as the holder of an end where the unit, which is open, holds it
+-- the table has a unit as the owner of an end if the unit, which is open, owns it
 pub end_by_table : (s : UnitsState) (table : Table) → IsTableOf s table → (unit : ℕ) → is_open (outcome_of s.outcomes unit) ≡ true → (q : Bytes) (end : End) →
     is_holder unit (holder_of (end_resource q end) table) ≡ holds_end s unit q end
 end_by_table s table of unit on q end =

@@ -1,5 +1,5 @@
--- What a command on a queue holds back: an empty row of temporary storage, where its unit keeps an image of the queue, and nothing
--- of transient data.
+-- What a command on a queue holds back: an empty row of temporary storage, if its unit keeps an
+-- image of the queue, and nothing of transient data.
 use Rattle.std.specs.Prelude.{◌≡◌, ℕ, zero, suc, Bool, true, false, not, ◌&&◌, ◌-◌, nat_lt, Option, Some, is_some, option_map, length, slice_set, List, [], ◌∷◌, ◌++◌}
 use Rattle.std.proofs.Common.{sym, ap, ◌∙◌, subst, refl, inl, inr}
 use Rattle.std.proofs.lemmas.Bool.{cases_Bool, false≢true, and_parts}
@@ -60,7 +60,7 @@ not_newest o is c unnamed i some same =
     let other : not (bytes_eq (temp_cell c) (temp_cell i.name)) ≡ true = (and_parts _ _ whole).0 in
     false≢true (ap not (sym (same_bytes-eq (temp_cell c) (temp_cell i.name) (ap temp_cell same))) ∙ other)
 
--- a command holds a row back only where it gives an image of it
+-- a command holds a row back only if it gives an image of it
 pub rows_held : (op : Op) (keep : Bool) (rows : Map Row) (is : List AnyImage) (c : images.Cell) →
     is_unnamed cell_of_any (with_image (option_map TempStorage (rows_image op keep rows)) is) (temp_cell c) ≡ true →
     holds_row (rows_after op keep rows) c ≡ true → holds_row rows c ≡ true
@@ -89,7 +89,7 @@ rows_held (TsDelete q) true rows is c unnamed = elim (cases_Bool (is_there (queu
     rows_some there = rw there (_, refl, refl)
 rows_held _ keep rows is c unnamed = λ held. held
 
--- a command on a temporary storage queue holds back more only where its unit keeps an image
+-- a command on a temporary storage queue holds back more only if its unit keeps an image
 pub temp_held : (m : StoreValue) (op : Op) (keep : Bool) (is : List AnyImage) (c : images.Cell) →
     is_unnamed cell_of_any (with_image (option_map TempStorage (rows_image op keep m.temp_storage)) is) c ≡ true →
     any_holds (with_temp_storage m (rows_after op keep m.temp_storage)) c ≡ true → any_holds m c ≡ true

@@ -1,4 +1,4 @@
--- Entries that are put into an empty map one after the other, where their keys rise, are the map.
+-- Entries that are put into an empty map one after the other, if their keys rise, are the map.
 use Rattle.std.specs.Prelude.{◌≡◌, Bool, true, false, ◌&&◌, T, [], ◌∷◌, ◌++◌, fold, refl}
 use Rattle.std.proofs.Common.{sym, ap, ◌∙◌}
 use Rattle.std.specs.declared.cmp.Ordering.{Ordering}

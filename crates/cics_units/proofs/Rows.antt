@@ -12,7 +12,8 @@ use lib.Chars.{codes}
 
 -- ---- Update reads
 
--- unit 0 has read a log entry, and unit 7 a record of each file; the files of a unit are in the order of their names
+-- unit 0 has read a log entry, and unit 7 a record of each file; the files of a unit are in the
+-- order of their names
 abbrev reads_open : List UpdateRead
 reads_open = reads_of 0 ((log, k1) ∷ []) ++ reads_of 7 ((acct, k2) ∷ (log, k1) ∷ [])
 

@@ -166,7 +166,7 @@ module _ (o : OpeningState) (trace : List Entry) (outcomes : List UnitState) (co
   abbrev state_before : UnitsState
   state_before = state_shown o trace outcomes commits p
 
-  -- units with these commands, outcomes, commits, reads, counts and NEXT places
+  -- units with these commands, outcomes, commits, reads, counts and NEXT cursors
   abbrev shows : List Entry → List UnitState → List ℕ → List UpdateRead → Table → Map ℕ → UnitsState
   shows entries outs turns reads t next = record { opening = o; trace = entries; outcomes = outs; commits = turns; reads = reads; counts = counts_in t; next = next }
 
@@ -198,7 +198,7 @@ module _ (o : OpeningState) (trace : List Entry) (outcomes : List UnitState) (co
     pub waits_open : (h : ℕ) → in_way ≡ Some h → IsOpenUnit state_before h
     waits_open h held = awaited_open state_before p.table is.sound is.table u op h (awaited_is ∙ held)
 
-    -- where there is none, what it uses is free for the unit that acts
+    -- if there is none, what it uses is free for the unit that acts
     pub free_way : in_way ≡ None → AreFreeFor p.table (uses_if (is_recoverable o op) op) (unit_or_next u outcomes)
     free_way none = subst (λ rs. AreFreeFor p.table rs (unit_or_next u outcomes)) (sym (uses_alike o op))
         (uses_free state_before p.table is.sound is.table u op (awaited_is ∙ none))
@@ -215,14 +215,14 @@ module _ (o : OpeningState) (trace : List Entry) (outcomes : List UnitState) (co
       abbrev roomy_parts : CoreValue
       roomy_parts = record { stores = done.roomy; table = p.table; reads = p.reads }
 
-      -- room changes no NEXT place
+      -- room changes no NEXT cursor
       roomy_state : state_shown o trace outcomes commits roomy_parts ≡ state_before
       roomy_state = λ i. record state_before { next = ap (λ (m : StoreValue). places_of m.temp_storage) done.room.store i }
 
       roomy_kept : AreValid (state_shown o trace outcomes commits roomy_parts) done.roomy p.table
       roomy_kept = subst (λ s. AreValid s done.roomy p.table) (sym roomy_state) (kept_roomier state_before p.stores p.table is done.roomy done.room.store done.room.kept done.room.longer)
 
-      -- so the command may go on where the room is
+      -- so the unit may act with that room too
       roomy_acts : may_act (state_shown o trace outcomes commits roomy_parts) u ≡ true
       roomy_acts = ap (λ s. may_act s u) roomy_state ∙ acts
 
@@ -283,7 +283,7 @@ module _ (o : OpeningState) (trace : List Entry) (outcomes : List UnitState) (co
           ∙ ap (λ n. unit_in_way p.table p.stores.store.trans_data (is_recoverable o b.op.now) u n b.op.now) acting;
     }
 
--- READ UPDATE is ready where the unit has no record of the file read for update
+-- READ UPDATE is ready if the unit has no record of the file read for update
 pub none_open_of : (s : UnitsState) (u : Option ℕ) (op : Op) → ((v : ℕ) → list_any (λ r. r.unit == v) s.reads ≡ true → v < length s.outcomes) → is_ready_op s u op ≡ true → is_read op ≡ true → read_at s.reads (unit_or_next u s.outcomes) (file_of op) ≡ None
 none_open_of s u (ReadUpdate f k) known ready read = by u (and_parts _ _ ready).1
   where

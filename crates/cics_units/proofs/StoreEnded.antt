@@ -1,5 +1,6 @@
--- What the end of a unit leaves of files, temporary storage and transient data: for a backout and for a commit the one
--- record of all that it keeps, from what is told of undoing the unit's images, or of giving them up.
+-- What the end of a unit leaves of files, temporary storage and transient data: for a backout and
+-- for a commit the one record of all that it keeps, from what is told of undoing the unit's images,
+-- or of giving them up.
 use Rattle.std.proofs.Common.{◌≡◌, ◌≢◌, ℕ, true, List, [], refl, ap, sym, subst, ◌∙◌, T, Some, inl, inr, ◌≤◌, Bool, false, ◌&&◌, Option, None, ◌++◌, length}
 use Rattle.std.specs.Prelude.{fold, filter, option_map, unwrap_or, is_some, slice_set}
 use Rattle.cics_names.specs.Keyed.{value_at, has_key, Bytes, is_rising}
@@ -52,7 +53,8 @@ use Rattle.cics_images.specs.StoreCells.{file_cell, temp_cell, trans_cell}
 use Rattle.cics_history.proofs.States.{one_at_each_end}
 use Rattle.cics_units.specs.FilesImagesLaws as files
 
--- ---- A commit: the images are given up, and then the ends are settled, the writing end before the reading end
+-- ---- A commit: the images are given up, and then the ends are settled, the writing end before the
+-- reading end
 -- two queues that stand at one name are one
 same_queue : (t u : TransState) (o : Option TransState) → o ≡ Some t → o ≡ Some u → t ≡ u
 same_queue t u o a b = ap (λ x. unwrap_or x t) (sym a ∙ b)
@@ -85,14 +87,14 @@ module _ (s : UnitsState) (m mid n : StoreValue) (images after_images : List (Ke
   queue_mid : (q : Bytes) → value_at q mid.trans_data ≡ value_at q m.trans_data
   queue_mid q = ap (λ (x : StoreValue). value_at q x.trans_data) whole ∙ all_swept_queue m (kept_by images v) q
 
-  -- what the unit has read isn't marked as written, where it isn't the writer itself
+  -- what the unit has read isn't marked as written, if it isn't the writer itself
   room : (q : Bytes) → queue_logical s.opening q ≡ true → used s.trace v (Td q) Reading ≡ true → used s.trace v (Td q) Writing ≡ false →
       (place.marks.queues q).taken ≤ length (place.marks.queues q).settled
   room q l reads writes = (place.ends.queues q l).apart (λ u on a b.
       let same : u ≡ v = one_at_each_end s sound.one (Td q) l Reading u v on open_then a reads in
       true≢false (sym (subst (λ x. used s.trace x (Td q) Writing ≡ true) same b) ∙ writes))
 
-  -- so no record of a queue of which it holds the reading end alone has both marks
+  -- so no record of a queue of which it owns the reading end alone has both marks
   apart_at : (q : Bytes) (t : TransState) → value_at q mid.trans_data ≡ Some t → holds_end s v q Reading ≡ true → holds_end s v q Writing ≡ false → IsApart t
   apart_at q t is reads writes =
       let parts = and_parts (queue_logical s.opening q) (used s.trace v (Td q) Reading) reads in
@@ -100,7 +102,7 @@ module _ (s : UnitsState) (m mid n : StoreValue) (images after_images : List (Ke
       subst IsApart (same_queue queue.0 t (value_at q mid.trans_data) (queue_mid q ∙ queue.1) is)
       (apart_by_marks (place.marks.queues q) queue.0 queue.2 (room q parts.0 parts.1 (ap (λ b. b && used s.trace v (Td q) Writing) (sym parts.0) ∙ writes)))
 
-  -- the ends that the unit doesn't hold are kept
+  -- the ends that the unit doesn't own are kept
   free_kept : AnyKeep (is_free s v) mid n
   free_kept = record {
     files = subst (FilesKeep (λ c. is_free s v (file_cell c)) mid.files) (sym same_files) (files.keeps_itself (λ c. is_free s v (file_cell c)) mid.files);
@@ -157,7 +159,7 @@ module _ (s : UnitsState) (m mid n : StoreValue) (images after_images : List (Ke
       marks_settled
 
 -- ---- A backout: the images are undone, the newest first, and then their cells are swept
--- what an image of the three leads back to is one content
+-- what an image of the store in place leads back to is one content
 determined : (i : AnyImage) (after x y : Shown) → AnyLeads i after x → AnyLeads i after y → x ≡ y
 determined = store.determined (λ i. FileLeads i.image) QueueLeads (λ i. EndLeads i.image) (λ i. file.determined i.image) rows.determined
     (λ i. queue.determined i.image)
@@ -194,7 +196,8 @@ module _ (s : UnitsState) (m n : StoreValue) (images after_images : List (Kept A
       (place.marks.queues q) to before.2 unmarks in
       (then.0, queue_then q ∙ then.1, subst (λ k. HasMarks k then.0) (sym (marks_undone-at (place.marks.images v) q place.marks.queues to unmarks)) then.2)
 
-  -- what the images lead a cell back to is what stands there, where the cell is there in both or in neither
+  -- what the images lead a cell back to is what stands there, if the cell is there in both or in
+  -- neither
   led_to : (x : Cell) → shown_records (content (shown_store m) x) ≡ any_content m (bytes_of x) → shown_records (content (shown_store n) x) ≡ any_content n (bytes_of x) →
       (to : Store) → is_some (content to x) ≡ is_some (content (shown_store n) x) → Leads (place.changes v) x (standing x) (content to x) →
       content to x ≡ content (shown_store n) x
@@ -248,7 +251,7 @@ module _ (s : UnitsState) (m n : StoreValue) (images after_images : List (Kept A
       marks_then
 
 -- ---- Either end
--- where all is in place and in order, the three show what the history gives
+-- if all is in place and in order, the store in place shows what the history gives
 pub shows_store : (s : UnitsState) (m : StoreValue) (images : List (Kept AnyImage)) → IsOpeningInOrder s.opening → AreInPlace s m images →
     IsCanonical (shown_store m) → shown_store m ≡ store_of s
 shows_store s m images in_order place canonical = same_store (shown_store m) (store_of s) canonical
@@ -260,7 +263,7 @@ pub others_apart : (images after_images : List (Kept AnyImage)) (v : ℕ) → Ar
     (w : ℕ) → w ≢ v → kept_by after_images w ≡ kept_by images w
 others_apart images after_images v others w other = ap (λ o. (unwrap_or o kept_none).newest_first) (others.rows w other)
 
--- the NEXT places after a unit's end are those of the queues that are shown then
+-- the NEXT cursors after a unit's end are those of the queues that are shown then
 next_after_end : (s : UnitsState) (m n : StoreValue) (v : ℕ) (outcome : UnitState) → shown_store n ≡ store_of (after_end s v outcome) →
     places_of n.temp_storage ≡ places_there (queues_of n.temp_storage) (places_of m.temp_storage) →
     s.next ≡ places_of m.temp_storage → (after_end s v outcome).next ≡ places_of n.temp_storage
@@ -282,7 +285,7 @@ module _ (s : UnitsState) (m n : StoreValue) (images after_images : List (Kept A
   rows_then = subst AreInOrder (sym (rows_backed_out m n (kept_by images v) whole))
       (in_order_backed_out m.temp_storage (ts_images (kept_by images v)) rows)
 
-  -- the NEXT places are those of the queues that are there
+  -- the NEXT cursors are those of the queues that are there
   pub places_then : places_of n.temp_storage ≡ places_there (queues_of n.temp_storage) (places_of m.temp_storage)
   places_then = subst (λ r. places_of r ≡ places_there (queues_of r) (places_of m.temp_storage)) (sym (rows_backed_out m n (kept_by images v) whole))
       (places_of-backed_out m.temp_storage (ts_images (kept_by images v)) rows)
@@ -315,7 +318,7 @@ module _ (s : UnitsState) (m mid : StoreValue) (images after_images : List (Kept
     (fixed : any_fixed mid ≡ any_fixed m)
     (held : AreHeldForImages any_holds cell_of_any m images → AreHeldForImages any_holds cell_of_any mid after_images)
     (whole : mid ≡ all_swept any_swept cell_of_any m (kept_by images v)) where
-  -- the three once the ends are settled
+  -- the store in place once the ends are settled
   abbrev committed_store : StoreValue
   committed_store = ends_settled mid (kept_by images v)
 
@@ -332,7 +335,7 @@ module _ (s : UnitsState) (m mid : StoreValue) (images after_images : List (Kept
   rows_ended : AreInOrder committed_store.temp_storage
   rows_ended = subst AreInOrder (sym rows_settled) rows_mid
 
-  -- no NEXT place changes
+  -- no NEXT cursor changes
   pub places_kept : places_of committed_store.temp_storage ≡ places_of m.temp_storage
   places_kept = ap places_of (rows_settled ∙ rows_committed m mid (kept_by images v) whole)
       ∙ places_of-committed m.temp_storage (ts_images (kept_by images v)) rows.rising

@@ -1,5 +1,5 @@
--- The end of a unit, part by part: files, temporary storage and transient data go by the images of their own kind, and
--- stay in order.
+-- The end of a unit, part by part: files, temporary storage and transient data go by the images of
+-- their own kind, and stay in order.
 use Rattle.std.proofs.Common.{◌≡◌, true, Option, Some, None, List, [], ◌∷◌, T, refl, ap, sym, subst, ◌∙◌}
 use Rattle.std.specs.Prelude.{fold, option_map}
 use Rattle.std.specs.Option.{option_and_then}
@@ -29,7 +29,7 @@ use Rattle.cics_units.specs.StoreEnds.{file_images, ts_images, td_images}
 use Rattle.cics_units.proofs.Opened.{value_at-each, rising-each}
 
 -- ---- the parts
--- the three with each part undone by the images of its kind
+-- the store in place with each part undone by the images of its kind
 abbrev undone_of : StoreValue → List AnyImage → StoreValue
 undone_of m is = record {
   files = fold files_undone m.files (file_images is);
@@ -37,7 +37,8 @@ undone_of m is = record {
   trans_data = fold (λ s i. named_undone queue_undone s i) m.trans_data (td_images is);
 }
 
--- the three with each part swept by the images of its kind; of transient data nothing is held back
+-- the store in place with each part swept by the images of its kind; of transient data nothing is
+-- held back
 abbrev pub swept_of : StoreValue → List AnyImage → StoreValue
 swept_of m is = record {
   files = all_swept files_swept cell_of_image m.files (file_images is);
@@ -45,7 +46,7 @@ swept_of m is = record {
   trans_data = m.trans_data;
 }
 
--- the three after images are undone
+-- the store in place after images are undone
 undone_parts : (is : List AnyImage) (m : StoreValue) → fold any_undone m is ≡ undone_of m is
 undone_parts [] m = refl
 undone_parts (File i ∷ is) m = undone_parts is (any_undone m (File i))
@@ -150,7 +151,7 @@ never_empty rows rising q is =
     by None e = cc
     by (Some row) e = of_items row.items e
 
--- where the names of each kind rise and the keys of each file, what is shown is in order
+-- if the names of each kind rise and the keys of each file, what is shown is in order
 pub canonical_from : (n : StoreValue) → is_rising n.files ≡ true → AreKeysRising n.files → T (is_rising n.temp_storage) →
     is_rising n.trans_data ≡ true → IsCanonical (shown_store n)
 canonical_from n files keys rows queues = record {

@@ -9,8 +9,8 @@ use Rattle.cics_history.specs.MarkImages.{OfReading, OfWriting}
 use Rattle.cics_units.specs.StoreMatching.{StoreValue, shown_store, shown_records, bytes_of, bytes_of_end, AnyImage, cell_of_any, any_undone, AreImagesOf}
 use Rattle.cics_units.specs.StoreInPlace.{ends_committed}
 
--- no file, a temporary storage queue with an item and the row of one that is absent, and a transient data queue with three
--- records, the first marked as read and the last as written
+-- no file, a temporary storage queue with an item and the row of one that is absent, and a
+-- transient data queue with three records, the first marked as read and the last as written
 few : StoreValue
 few = record {
   files = [];
@@ -96,7 +96,7 @@ written_undone : content (shown_store (any_undone few written)) (Td (7 ∷ [])) 
 unfolding few written
 written_undone = refl
 
--- the three images are kept for one change and two marks, in their order
+-- the three images stand for one change and two marks, in their order
 merged : AreImagesOf (record { cell = Ts (5 ∷ []); before = Some []; made = Some ((9 ∷ []) ∷ []) } ∷ [])
     (OfWriting (7 ∷ []) [] ((3 ∷ []) ∷ []) ∷ OfReading (7 ∷ []) 0 1 ∷ []) (written ∷ added ∷ taken ∷ [])
 unfolding added taken written

@@ -1,4 +1,5 @@
--- The images of an executed command, each of a change of a cell of the three, before those that were kept.
+-- The images of an executed command, each of a change of a cell of the store in place, before those
+-- that were kept.
 use Rattle.std.proofs.Common.{◌≡◌, ℕ, true, false, List, [], ◌∷◌, ◌++◌, refl, sym, subst, ◌∙◌}
 use Rattle.std.proofs.lemmas.Bool.{true≢false}
 use Rattle.cics_names.specs.Keyed.{Bytes}
@@ -37,6 +38,6 @@ kept_joined (c ∷ cs) ms (TempStorage i ∷ is) kept ds ns js more = (kept.0, k
 kept_joined cs [] (TransData i ∷ is) kept ds ns js more = absurd kept
 kept_joined cs (m ∷ ms) (TransData i ∷ is) kept ds ns js more = (kept.0, kept_joined cs ms is kept.1 ds ns js more)
 
--- an image of a change of a cell of the three
+-- an image of a change of a cell of the store in place
 abbrev pub IsAnyImage : StoreValue → StoreValue → List ℕ → AnyImage → Type 0
 IsAnyImage old new c image = IsImageOf any_content cell_of_any AnyLeads IsAnyReady any_undone AnyKeep old new c image

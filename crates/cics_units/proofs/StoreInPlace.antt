@@ -1,4 +1,5 @@
--- The beginning, a commit and a backout keep files, temporary storage, transient data and the images in place.
+-- The beginning, a commit and a backout keep files, temporary storage, transient data and the
+-- images in place.
 use Rattle.std.proofs.Math.Seq.{take-length, drop-length}
 use Rattle.std.proofs.lemmas.List.{append-nil}
 use Rattle.std.proofs.Common.{arith, ◌-◌, take, drop, length, ◌++◌, ◌≡◌, ◌≢◌, ℕ, Bool, true, false, ◌&&◌, not, cond, T, Option, Some, None, List, [], ◌∷◌, refl, ap, sym, subst, ◌∙◌, eqb, inl, inr}
@@ -47,7 +48,7 @@ use Rattle.cics_units.specs.StoreMatching.{StoreValue, AnyImage, shown_store, sh
 use Rattle.cics_units.specs.StoreInPlace.{HasMarks, IsUnmarked, AreInPlace, holds_end, is_free_end, is_free_split, is_free}
 use Rattle.cics_units.proofs.StoreMatched.{is_of_end, none_of_end, each_passes, unnamed_kept, unmarked_kept}
 
--- ---- what the three show of a cell
+-- ---- what the store in place shows of a cell
 -- of a key
 pub shown_key : (m : StoreValue) (f k : Bytes) → shown_records (content (shown_store m) (Key f k)) ≡ any_content m (bytes_of (Key f k))
 shown_key m f k = ap (λ o. shown_records (record_in k o)) (value_at_each (λ x. x.records) f m.files) ∙ by (value_at f m.files) ∙ sym (content_of_cell m.files f k)
@@ -100,7 +101,7 @@ AreReady m is = AreReadyInTurn IsAnyReady any_undone m is
 abbrev QueuesKeep : (images.Cell → Bool) → Map TransState → Map TransState → Type 0
 QueuesKeep p s n = NamedKeep KeepsEnds p s n
 
--- images stay ready where their cells are kept
+-- images stay ready if their cells are kept
 pub ready_where : (p : images.Cell → Bool) (m n : StoreValue) (is : List AnyImage) → AnyKeep p m n → AreOf cell_of_any p is → AreReady m is → AreReady n is
 ready_where p m n is keeps own ready = in_turn_kept cell_of_any IsAnyReady any_undone AnyKeep
     (store.keeps_ready FilesKeep KeepsQueues QueuesKeep cell_of_image name_of_image (λ i. value_cell i.name (end_of i.image))
@@ -147,7 +148,7 @@ module _ (s : UnitsState) (m : StoreValue) (images : List (Kept AnyImage)) (soun
       (false_from_ne_true (list_any (is_of_end q end) (place.marks.images v))
       (λ y. other (one_at w v (Td q) end also on (marked_used w also q end t).0 (marked_used w also q end t).1 (marked_used v on q end y).1))))
 
-  -- and of no end that this unit holds
+  -- and of no end that this unit owns
   pub others_free : (v w : ℕ) → w ≢ v → is_open (outcome_of s.outcomes v) ≡ true → is_open (outcome_of s.outcomes w) ≡ true → AreOf cell_of_any
       (is_free s v) (kept_by images w)
   others_free v w other on also = each_passes (is_free s v) (place.changes w) (place.marks.images w) (kept_by images w) (place.kept w) (λ x t. plain_free x)
@@ -193,7 +194,7 @@ module _ (s : UnitsState) (m n : StoreValue) (images after_images : List (Kept A
   each_unit : (P : ℕ → Type 0) → P v → ((w : ℕ) → w ≢ v → P w) → (w : ℕ) → P w
   each_unit P own others w = elim (cases_Bool (eqb w v)) [ inl t ↦ subst P (sym (eqb-true w v t)) own | inr t ↦ others w (eqb-false w v t) ]
 
-  -- all is in place after the unit's end, where the cells and the queues are
+  -- all is in place after the unit's end, if the cells and the queues are
   pub ended_in_place : (queues : Queues) →
       IsPlaceOf (after_end s v outcome) (record { cells = content (shown_store n); images = without_images place.changes v }) →
       AreMarksOf (after_end s v outcome) (record { queues = queues; images = mark_images_without place.marks.images v }) →
@@ -237,7 +238,8 @@ unmarked_has settled t none shows =
       marks = λ i. record { settled = front i; fresh = back i; taken = sym none.read i };
     }
 
--- where the three show what the opening has, each LOGICAL queue stands there with the marks that it opens with, none
+-- if the store in place shows what the opening has, each LOGICAL queue stands there with the marks
+-- that it opens with, none
 opened_marks : (o : OpeningState) (m : StoreValue) → shown_store m ≡ initial_store o →
     ((q : Bytes) (t : TransState) → queue_logical o q ≡ true → value_at q m.trans_data ≡ Some t → IsUnmarked t) →
     (q : Bytes) → queue_logical o q ≡ true → (t : TransState) × (value_at q m.trans_data ≡ Some t) × HasMarks ((marks_opened o).queues q) t
@@ -269,7 +271,7 @@ beginning_in_place o m same loaded = record {
   over = λ u shut. refl;
 }
 
--- where all is in place, each cell holds what the history gives
+-- if all is in place, each cell holds what the history gives
 pub shows_history : (s : UnitsState) (m : StoreValue) (images : List (Kept AnyImage)) → AreInPlace s m images → (x : Cell) → content
     (shown_store m) x ≡ content (store_of s) x
 shows_history s m images place x = elim (cases_Bool (is_plain s.opening x)) [

@@ -1,5 +1,5 @@
--- Cells of the store are told apart by their bytes, what is shown of a cell tells its content, and the images that are kept
--- lead each cell back as the changes do that they stand for.
+-- Cells of the store are told apart by their bytes, what is shown of a cell tells its content, and
+-- the images that are kept lead each cell back as the changes do that they stand for.
 use Rattle.std.specs.Prelude.{◌≡◌, ℕ, Bool, true, false, not, Option, Some, None, List, [], ◌∷◌, is_some, refl}
 use Rattle.std.proofs.Common.{sym, ap, ◌∙◌, subst, inl, inr}
 use Rattle.std.specs.List.{list_any}
@@ -69,13 +69,13 @@ read_back (Td q) = ap queue_from (split_cell q [])
 pub one_cell : (x y : Cell) → bytes_of x ≡ bytes_of y → x ≡ y
 one_cell x y e = let both : Some x ≡ Some y = sym (read_back x) ∙ ap cell_from e ∙ read_back y in cc
 
--- two cells are one exactly where their bytes are
+-- two cells are one exactly if their bytes are
 pub same_bytes : (x y : Cell) → bytes_eq (bytes_of x) (bytes_of y) ≡ same_cell x y
 same_bytes x y = one_test (bytes_eq (bytes_of x) (bytes_of y)) (same_cell x y)
     (λ t. subst (λ z. same_cell x z ≡ true) (one_cell x y (told_equal (bytes_of x) (bytes_of y) t)) (same_cell-refl x))
     (λ t. same_bytes-eq (bytes_of x) (bytes_of y) (ap bytes_of (same_cell-true x y t)))
 
--- a cell's content is told by what is shown of it, where the cell is there in both or in neither
+-- a cell's content is told by what is shown of it, if the cell is there in both or in neither
 pub told_by_shown : (a b : Content) → is_some a ≡ is_some b → shown_records a ≡ shown_records b → a ≡ b
 told_by_shown None None there same = refl
 told_by_shown None (Some b) there same = absurd (false≢true there)
@@ -157,7 +157,7 @@ rest_from : Option (Bytes × images.Cell) → images.Cell
 rest_from None = []
 rest_from (Some e) = e.1
 
--- ends are one where their names and their bytes are
+-- ends are one if their names and their bytes are
 same_ends : (q r : Bytes) (e d : images.Cell) → trans_cell (value_cell q e) ≡ trans_cell (value_cell r d) → (q ≡ r) × (e ≡ d)
 unfolding name_from rest_from
 same_ends q r e d same =
@@ -166,7 +166,7 @@ same_ends q r e d same =
       ap rest_from (sym (split_cell q e)) ∙ ap (λ c. rest_from (split c)) behind ∙ ap rest_from (split_cell r d),
     )
 
--- one end of a name is another exactly where the names are one
+-- one end of a name is another exactly if the names are one
 named_end : (q r : Bytes) (end : End) → bytes_eq (bytes_of_end q end) (bytes_of_end r end) ≡ is_same q r
 named_end q r end = one_test (bytes_eq (bytes_of_end q end) (bytes_of_end r end)) (is_same q r)
     (λ t. subst (λ x. is_same q x ≡ true) (same_ends q r (end_cell end) (end_cell end) (told_equal (bytes_of_end q end) (bytes_of_end r end) t)).0
@@ -250,7 +250,7 @@ each_passes p cs (m ∷ ms) (TransData i ∷ is) kept named marked = (
     own (OfReading q before made) = is_same-self q
     own (OfWriting q before made) = is_same-self q
 
--- where no image that is kept is of these bytes, they are none that the images name
+-- if no image that is kept is of these bytes, they are none that the images name
 pub unnamed_by : (b : images.Cell) (named : Image → Bool) (marked : MarkImage → Bool) →
     ((c : Image) (i : AnyImage) → IsImageOfChange c i → bytes_eq (cell_of_any i) b ≡ named c) →
     ((m : MarkImage) (i : QueuesImage) → IsImageOfMark m i → bytes_eq (cell_of_any (TransData i)) b ≡ marked m) →

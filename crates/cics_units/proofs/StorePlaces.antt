@@ -1,4 +1,4 @@
--- The NEXT places of the queues as they stand are those of the units, through each call.
+-- The NEXT cursors of the queues as they stand are those of the units, through each call.
 use Rattle.std.proofs.Common.{◌≡◌, ℕ, Bool, true, false, Option, None, refl, ap, sym, ◌∙◌}
 use Rattle.std.specs.Prelude.{if◌then◌else◌}
 use Rattle.cics_names.specs.Keyed.{Bytes, Map, has_key, with_value, without}
@@ -38,7 +38,7 @@ module _ (rows : Map Row) (in_order : AreInOrder rows) where
       by true there = refl
       by false absent = sym (without-absent_queue rows in_order.rising q absent)
 
-  -- a delete answers NORMAL where the queue is there
+  -- a delete answers NORMAL if the queue is there
   normal_there : (b : Bool) (queue : Queue) → is_there queue ≡ b → is_normal (delete_condition queue) ≡ b
   normal_there true queue there = rw there refl
   normal_there false queue absent = rw absent refl
@@ -55,7 +55,8 @@ module _ (rows : Map Row) (in_order : AreInOrder rows) where
   places_after _ keep store same = refl
 
 module _ (s : UnitsState) (rows : Map Row) (have : HavePlaces s rows) where
-  -- an executed command keeps the places those of the units; one that is on no temporary storage queue leaves the rows
+  -- an executed command keeps the cursors those of the units; one that is on no temporary
+  -- storage queue leaves the rows
   pub executed_places : (u : Option ℕ) (op : Op) (keep : Bool) → (store_of s).ts ≡ queues_of rows → awaited s u op ≡ None →
       HavePlaces (after_execution s u op) (rows_after op keep rows)
   executed_places u op keep same free = record {

@@ -1,4 +1,5 @@
--- An executed command on a transient data queue keeps files, temporary storage, transient data and the images in place.
+-- An executed command on a transient data queue keeps files, temporary storage, transient data and
+-- the images in place.
 use Rattle.std.proofs.Common.{◌≡◌, ℕ, Bool, true, false, ◌&&◌, Option, Some, None, List, [], ◌∷◌, ◌++◌, refl, ap, sym, subst, ◌∙◌, inl, inr, ◌⊎◌}
 use Rattle.std.specs.Prelude.{if◌then◌else◌, option_map, IfSome, IfNone}
 use Rattle.std.proofs.lemmas.Bool.{true≢false, cases_Bool}
@@ -40,9 +41,9 @@ use Rattle.cics_units.proofs.StoreInPlace.{AreReady, ready_where}
 use Rattle.cics_units.proofs.StoreExecuted.{IsAnyImage, all_of}
 use Rattle.cics_units.proofs.TransChanges.{IsToldEnough, AreOfQueue}
 
--- ---- a changed queue among the three
+-- ---- a changed queue among the store in place
 module _ (m : StoreValue) (q : Bytes) (t new : TransState) (there : value_at q m.trans_data ≡ Some t) where
-  -- the three with the queue changed
+  -- the store in place with the queue changed
   abbrev changed_in : StoreValue
   changed_in = with_trans_data m (with_value q new m.trans_data)
 
@@ -53,7 +54,7 @@ module _ (m : StoreValue) (q : Bytes) (t new : TransState) (there : value_at q m
       (subst (λ o. KeepsIn KeepsEnds (λ c. p (value_cell q c)) o (option_map (λ _. new) o)) (sym there) kept)
       (λ r apart. named.keeps_itself_in KeepsEnds queue.keeps_itself (λ c. p (value_cell r c)) (value_at r m.trans_data)))
 
-  -- and so do the three
+  -- and so does the store in place
   pub trans_keeps : (p : images.Cell → Bool) → KeepsEnds (λ c. p (trans_cell (value_cell q c))) t new → AnyKeep p m changed_in
   trans_keeps p kept = record {
     files = files.keeps_itself (λ c. p (file_cell c)) m.files;
@@ -61,7 +62,7 @@ module _ (m : StoreValue) (q : Bytes) (t new : TransState) (there : value_at q m
     trans_data = queues_keep (λ c. p (trans_cell c)) kept;
   }
 
-  -- an image of the change of an end is one of the three
+  -- an image of the change of an end is one of the store in place
   pub trans_any_image : (end : images.Cell) (i : TdImage) → IsTransImage t new end i → IsAnyImage m changed_in (trans_cell (value_cell q end)) (in_queue q i)
   trans_any_image end i is = trans_data_image files_content queue_content (λ s c. named_content end_content s c)
       cell_of_image name_of_image (λ i. named_cell end_of_image i)
@@ -91,7 +92,7 @@ ready_with m n q end (Some i) is ready undoes kept =
     (undoes.ready, ready_where (λ c. true) m (any_undone n (in_queue q i)) is undoes.back (all_of is) ready)
 
 -- ---- the ends that a command leaves
--- a command that changes an end uses it, or the unit holds it
+-- a command that changes an end uses it, or the unit owns it
 pub uses_or_own : (op : Op) (own writer : Bool) (end : End) → IsOwn op writer own → leaves_end op own end ≡ false → (uses op end ≡ true) ⊎ ((end ≡ Writing) × (writer ≡ true))
 uses_or_own (TdWrite q d) own writer Reading is changed = absurd (true≢false changed)
 uses_or_own (TdRead q) true writer Writing is changed = inr (refl, sym is)
@@ -105,7 +106,7 @@ left_end : (op : Op) (own : Bool) (end : End) → is_left_end op own (end_cell e
 left_end op own Reading = refl
 left_end op own Writing = refl
 
--- a cell of the queue, among the cells of the three
+-- a cell of the queue, among the cells of the store in place
 pub left_here : (op : Op) (own : Bool) (c : images.Cell) → is_left op own (trans_cell (value_cell (queue_of op) c)) ≡ is_left_end op own c
 left_here op own c =
     ap (is_left_split op own) (split_cell (queue_of op) c) ∙ ap (λ b. if b then is_left_end op own c else true) (is_same-self (queue_of op))
@@ -131,7 +132,7 @@ pub no_more : {X : Type 0} (b : Bool) (more rest : X) → (if b && false then mo
 no_more true more rest = refl
 no_more false more rest = refl
 
--- a task that need not wait for its command is told enough by the ends that its unit holds
+-- a task that need not wait for its command is told enough by the ends that its unit owns
 pub told_by_use : (s : UnitsState) (m : StoreValue) (images : List (Kept AnyImage)) (u : Option ℕ) (op : Op) → IsSound s → (place : AreInPlace s m images) →
     awaited s u op ≡ None → queue_logical s.opening (queue_of op) ≡ true →
     IsToldEnough op (used s.trace (unit_or_next u s.outcomes) (Td (queue_of op)) Writing) (place.marks.queues (queue_of op))

@@ -1,5 +1,5 @@
--- What a unit's end does to each transient data queue: undoing its images undoes the marks that they stand for, sweeping
--- changes nothing, and a commit settles the ends that the unit holds.
+-- What a unit's end does to each transient data queue: undoing its images undoes the marks that
+-- they stand for, sweeping changes nothing, and a commit settles the ends that the unit owns.
 use Rattle.std.specs.Prelude.{◌≡◌, ◌≤◌, Bool, true, false, not, Some, List, [], ◌∷◌, length, take, fold, refl}
 use Rattle.std.proofs.Common.{arith, sym, ap, ◌∙◌, subst, inl, inr}
 use Rattle.std.specs.Option.{option_map}
@@ -87,7 +87,7 @@ undone_marks q cs (m ∷ ms) (TransData i ∷ is) kept s t there from to has un 
 ]
 
 -- ---- a unit commits
--- its writing end is settled where it holds it
+-- the writing end is settled if w says so
 writer_has : (w : Bool) (m : MarkedQueue) (t : TransState) → HasMarks m t → HasMarks (writer_settled w m) (writer_ended w t)
 writer_has false m t has = has
 writer_has true m t has = record {
@@ -96,7 +96,7 @@ writer_has true m t has = record {
   marks = ap (writer_settled true) has.marks ∙ sym (marks_of-writer t);
 }
 
--- and its reading end, where what it read was written by no other open unit
+-- the reading end is settled if r says so, and what was read was written by no other open unit
 reader_has : (r : Bool) (m : MarkedQueue) (t : TransState) → HasMarks m t → (r ≡ true → m.taken ≤ length m.settled) → HasMarks (reader_settled r m)
     (reader_ended r t)
 reader_has false m t has room = has
@@ -112,14 +112,14 @@ pub committed_marks : (r w : Bool) (m : MarkedQueue) (t : TransState) → HasMar
     (r ≡ true → (writer_settled w m).taken ≤ length (writer_settled w m).settled) → HasMarks (queue_committed r w m) (ends_committed r w t)
 committed_marks r w m t has room = reader_has r (writer_settled w m) (writer_ended w t) (writer_has w m t has) room
 
--- where what is read isn't marked as written no record has both marks
+-- if what is read isn't marked as written no record has both marks
 pub apart_by_marks : (m : MarkedQueue) (t : TransState) → HasMarks m t → m.taken ≤ length m.settled → IsApart t
 apart_by_marks m t has room =
     let here : t.read ≤ length (take (unwritten t) t.placed) = subst (λ (m : MarkedQueue). m.taken ≤ length m.settled) has.marks room in
     let front = length-take-le (unwritten t) t.placed (omega arith) in
     omega (arith, here, front, has.within.written)
 
--- a commit keeps each end that the unit doesn't hold
+-- a commit keeps each end that the unit doesn't own
 pub committed_keeps : (p : images.Cell → Bool) (r w : Bool) (t : TransState) → p reading_end ≡ not r → p writing_end ≡ not w → (r ≡ true → w ≡ false →
     IsApart t) →
     KeepsEnds p t (ends_committed r w t)

@@ -1,5 +1,5 @@
--- A commit settles the ends that the images of its unit are of, which come to all that the unit holds: an end that it holds
--- without an image has no mark.
+-- A commit settles the ends that the images of its unit are of, which come to all that the unit
+-- owns: an end that it owns without an image has no mark.
 use Rattle.std.proofs.Common.{arith, ◌≡◌, ◌≤◌, ℕ, zero, suc, Bool, true, false, ◌&&◌, ◌||◌, if◌then◌else◌, Option, Some, None, List, [], ◌∷◌, length, length-drop, drop, refl, ap, sym, subst, ◌∙◌, inl, inr}
 use Rattle.std.specs.Prelude.{fold, option_map, min}
 use Rattle.std.specs.List.{list_any}
@@ -48,7 +48,7 @@ committed_again Reading t =
     let same : min (min t.written (length (queue_of t))) (length (queue_of t)) ≡ min t.written (length (queue_of t)) = omega arith in
     λ i. record { kind = t.kind; placed = queue_of t; read = 0; written = same i }
 
--- a queue that may be committed twice is committed where it is once
+-- a queue that is committed twice, or not, is committed if it is once
 ended_twice : (end : End) (first second : Bool) (o : Option TransState) →
     option_map (end_ended end second) (option_map (end_ended end first) o) ≡ option_map (end_ended end (first || second)) o
 ended_twice end first second None = refl
@@ -66,11 +66,11 @@ ends_leave f reader writer true false (Some t) = ap Some (reader t)
 ends_leave f reader writer true true (Some t) = ap Some (reader (writer_committed t) ∙ writer t)
 
 module _ (end : End) where
-  -- the three after this end is settled where the images are of it
+  -- the store in place after this end is settled if the images are of it
   abbrev settled : StoreValue → List AnyImage → StoreValue
   settled m is = fold (λ s i. end_settled end s i) m is
 
-  -- one image of a queue commits the queue of its name where it is of the end
+  -- one image of a queue commits the queue of its name if it is of the end
   one_settled : (s : StoreValue) (i : QueuesImage) (q : Bytes) →
       value_at q (end_settled end s (TransData i)).trans_data
       ≡ option_map (end_ended end (is_at_end end i.image && is_same i.name q)) (value_at q s.trans_data)
@@ -84,7 +84,7 @@ module _ (end : End) where
           (λ q apart. sym (option_map_id (value_at q s.trans_data))
           ∙ ap (λ b. option_map (end_ended end b) (value_at q s.trans_data)) (sym (is_same-other i.name q (λ e. apart (sym e))))) q
 
-  -- the images commit the end of a queue where one of them is of it
+  -- the images commit the end of a queue if one of them is of it
   settled_at : (is : List AnyImage) (m : StoreValue) (q : Bytes) →
       value_at q (settled m is).trans_data ≡ option_map (end_ended end (has_end q end is)) (value_at q m.trans_data)
   settled_at [] m q = sym (option_map_id (value_at q m.trans_data))
@@ -135,7 +135,7 @@ module _ (m : StoreValue) (is : List AnyImage) where
   ends_kinds q = ap (option_map (λ t. t.kind)) (ends_at q)
       ∙ ends_leave (λ t. t.kind) (λ t. refl) (λ t. refl) (has_end q Reading is) (has_end q Writing is) (value_at q m.trans_data)
 
-  -- and shows what it showed, so that the three do
+  -- and shows what it showed, so that the store in place does
   pub ends_shown : is_rising m.trans_data ≡ true → shown_store (ends_settled m is) ≡ shown_store m
   ends_shown rising = λ i. record {
     files = ap (λ files. (shown_store (record m { files = files })).files) ends_files i;
@@ -158,7 +158,7 @@ module _ (m : StoreValue) (is : List AnyImage) where
   ends_held (suc (suc zero) ∷ c) = refl
   ends_held (suc (suc (suc n)) ∷ c) = refl
 
--- ---- the ends that the unit holds
+-- ---- the ends that the unit owns
 -- the images that are kept are of the ends that the marks are of
 kept_ends : (q : Bytes) (end : End) (cs : List Image) (ms : List MarkImage) (is : List AnyImage) → AreImagesOf cs ms is →
     has_end q end is ≡ list_any (is_of_end q end) ms
@@ -180,14 +180,14 @@ kept_ends q end cs (m ∷ ms) (TransData i ∷ is) kept =
     by (Taken n) (OfWriting r before made) end carries named = absurd carries
     by Written (OfReading r before made) end carries named = absurd carries
 
--- where no image is of the reading end, the images lead from no number of marks to another
+-- if no image is of the reading end, the images lead from no number of marks to another
 taken_stays : (is : List MarkImage) (q : Bytes) (t to : ℕ) → list_any (is_of_reading q) is ≡ false → LeadsTaken is q t to → t ≡ to
 taken_stays [] q t to none h = h
 taken_stays (OfReading r before made ∷ is) q t to none h =
     let parts = or_parts (is_same r q) (list_any (is_of_reading q) is) none in taken_stays is q t to parts.1 (rw parts.0 at h)
 taken_stays (OfWriting r before made ∷ is) q t to none h = taken_stays is q t to none h
 
--- and where none is of the writing end, from no written records to others
+-- and if none is of the writing end, from no written records to others
 fresh_stays : (is : List MarkImage) (q : Bytes) (f to : List Bytes) → list_any (is_of_writing q) is ≡ false → LeadsFresh is q f to → f ≡ to
 fresh_stays [] q f to none h = h
 fresh_stays (OfWriting r before made ∷ is) q f to none h =
@@ -246,7 +246,8 @@ module _ (s : UnitsState) (m mid : StoreValue) (images : List (Kept AnyImage)) (
       none end = kept_ends q end (place.changes v) (place.marks.images v) (kept_by images v) (place.kept v)
           ∙ none_of_end q end (place.marks.images v) (place.ends.bare q plain v)
 
-  -- of a LOGICAL queue the unit has images of ends that it holds, and an end that it holds without an image has no mark
+  -- of a LOGICAL queue the unit has images of ends that it owns, and an end that it owns without an
+  -- image has no mark
   logical_settled : (q : Bytes) → queue_logical s.opening q ≡ true → (t : TransState) → HasMarks (place.marks.queues q) t →
       reader_ended (has_end q Reading (kept_by images v)) (writer_ended (has_end q Writing (kept_by images v)) t)
       ≡ reader_ended (used s.trace v (Td q) Reading) (writer_ended (used s.trace v (Td q) Writing) t)

@@ -1,4 +1,5 @@
--- What the table of enqueues becomes where a unit holds a record more, a record less, or nothing any more.
+-- What the table of enqueues becomes if a unit owns a record more, a record less, or nothing any
+-- more.
 use Rattle.std.proofs.Common.{◌≡◌, ℕ, ◌≤◌, Bool, true, false, cond, ◌&&◌, ◌||◌, not, Option, Some, None, List, [], ◌∷◌, ◌-◌, length, refl, ap, sym, ◌∙◌, eqb, ltb}
 use Rattle.std.specs.Prelude.{if◌then◌else◌, ◌==◌, T, nat_le, All, filter}
 use Rattle.std.specs.List.{list_any}
@@ -87,7 +88,7 @@ counts_in-released u (e ∷ es) = step (counts_in-released u es) e.0
 
 -- ---- A record more in the table, a record less, all of a unit less
 
--- who holds what another unit doesn't
+-- who owns what another unit doesn't
 without_is : (n v : ℕ) (h : Option ℕ) → is_holder n (holder_without v h) ≡ (is_holder n h && not (v == n))
 without_is n v None = refl
 without_is n v (Some w) =
@@ -105,7 +106,7 @@ without_is n v (Some w) =
     apart true false h = refl
     apart false b h = refl
 
--- what a unit takes, where it is free, is held by that unit too
+-- what a unit acquires, if it is free, is owned by that unit too
 is_holder-taken : (t : Table) (q : Resource) (v : ℕ) → IsFreeFor t q v → (r : Resource) (n : ℕ) →
     is_holder n (holder_of r (taken t q v)) ≡ (is_holder n (holder_of r t) || ((v == n) && is_one r q))
 is_holder-taken t q v free r n =
@@ -124,7 +125,7 @@ is_holder-taken t q v free r n =
     own None only = and-true (v == n)
     own (Some w) only = ap (λ z. (z == n) || ((v == n) && true)) (only w refl) ∙ either (v == n)
 
--- what a unit takes stands in no way of its own
+-- what a unit acquires leaves free for it what was free
 pub free-taken : (t : Table) (q x : Resource) (v : ℕ) → IsFreeFor t x v → IsFreeFor (taken t q v) x v
 free-taken t q x v free = λ r w meets at.
     elim (is_one r q) as (λ b. (if b then Some v else holder_of r t) ≡ Some w → w ≡ v) [
@@ -139,7 +140,7 @@ free-taken_all : (t : Table) (q : Resource) (v : ℕ) (qs : List Resource) → A
 free-taken_all t q v [] free = tt
 free-taken_all t q v (x ∷ xs) free = (free-taken t q x v free.0, free-taken_all t q v xs free.1)
 
--- what a unit takes one after another
+-- what a unit acquires one after another
 is_holder-taken_all : (t : Table) (v : ℕ) (qs : List Resource) → AreFreeFor t qs v → (r : Resource) (n : ℕ) →
     is_holder n (holder_of r (taken_all t v qs)) ≡ (is_holder n (holder_of r t) || ((v == n) && list_any (is_one r) qs))
 is_holder-taken_all t v [] free r n =
@@ -172,7 +173,7 @@ counts_in-taken_all t v (q ∷ qs) plain =
 
 module _ (s next : UnitsState) (t : Table) (k : IsTableOf s t) (once : AreOnce next.reads)
     (keys : All (λ r. length r.key ≤ 255) next.reads) where
-  -- where the units hold the same, the table stays
+  -- if the units own the same, the table stays
   pub table_same : next.counts ≡ s.counts →
       ((r : Resource) (n : ℕ) → list_any (is_one r) (held_by next n) ≡ list_any (is_one r) (held_by s n)) →
       IsTableOf next t
@@ -185,7 +186,7 @@ module _ (s next : UnitsState) (t : Table) (k : IsTableOf s t) (once : AreOnce n
     keys = keys;
   }
 
-  -- where a unit holds more what is free and no value, it takes that
+  -- if a unit owns more what is free and no value, it acquires that
   pub table_taken : next.counts ≡ s.counts → (v : ℕ) (qs : List Resource) → list_any is_user qs ≡ false → AreFreeFor t qs v →
       ((r : Resource) (n : ℕ) → list_any (is_one r) (held_by next n)
       ≡ (list_any (is_one r) (held_by s n) || ((v == n) && list_any (is_one r) qs))) →
@@ -201,7 +202,7 @@ module _ (s next : UnitsState) (t : Table) (k : IsTableOf s t) (once : AreOnce n
     keys = keys;
   }
 
-  -- where a unit holds a record less, it gives it back
+  -- if a unit owns a record less, it releases it
   pub table_given : next.counts ≡ s.counts → (v : ℕ) (f l : Bytes) →
       ((r : Resource) (n : ℕ) → list_any (is_one r) (held_by next n)
       ≡ (list_any (is_one r) (held_by s n) && not ((v == n) && is_one r (record_of f l)))) →
@@ -227,7 +228,7 @@ module _ (s next : UnitsState) (t : Table) (k : IsTableOf s t) (once : AreOnce n
     keys = keys;
   }
 
-  -- where a unit holds nothing any more, all that it held is free
+  -- if a unit owns nothing any more, all that it owned is free
   pub table_released : (v : ℕ) → next.counts ≡ filter (λ c. not (c.unit == v)) s.counts →
       ((r : Resource) (n : ℕ) → list_any (is_one r) (held_by next n) ≡ (list_any (is_one r) (held_by s n) && not (v == n))) →
       IsTableOf next (released t v)

@@ -1,4 +1,4 @@
--- The table of enqueues and the open update reads tell who holds what, as the history does.
+-- The table of enqueues and the open update reads tell who owns what, as the history does.
 use Rattle.std.proofs.Common.{◌≡◌, ◌≢◌, ℕ, ◌≤◌, Bool, true, false, ◌&&◌, ◌||◌, not, Option, Some, None, is_some, List, [], ◌∷◌, length, refl, ap, sym, subst, ◌∙◌, eqb, ltb, inl, inr, arith}
 use Rattle.std.specs.Prelude.{if◌then◌else◌, ◌==◌, All, filter, slice_set}
 use Rattle.std.specs.List.{list_any}
@@ -49,7 +49,7 @@ table_begins o = record {
 
 -- ---- A command
 
--- what a unit holds more, and the sum of what it held
+-- what a unit owns more, and the sum of what it owned
 held_more : (live entries reads counts more : Bool) → (more ≡ true → live ≡ true) →
     (live && (((entries || more) || reads) || counts)) ≡ ((live && ((entries || reads) || counts)) || more)
 held_more true entries reads counts true h = held entries reads counts
@@ -73,7 +73,7 @@ read_more live entries reads counts more h = ap (λ b. live && (b || counts)) (t
     turned true b c = refl
     turned false b c = refl
 
--- what a unit doesn't hold any more was held by an update read alone
+-- what a unit doesn't own any more was owned by an update read alone
 read_less : (live entries reads counts less : Bool) → (less ≡ true → entries ≡ false) → (less ≡ true → counts ≡ false) →
     (live && ((entries || (reads && not less)) || counts)) ≡ ((live && ((entries || reads) || counts)) && not less)
 read_less false entries reads counts less e c = refl
@@ -102,7 +102,7 @@ module _ (s : UnitsState) (t : Table) (u : Option ℕ) (op : Op) (a : Answer) (i
   live_if : (n : ℕ) (b : Bool) → ((acting == n) && b) ≡ true → is_open (outcome_of s.outcomes n) ≡ true
   live_if n b own = subst (λ m. is_open (outcome_of s.outcomes m) ≡ true) (eqb-true acting n (and_parts (eqb acting n) b own).0) (acting_open s u acts)
 
-  -- where READ UPDATE is ready none of its file is open
+  -- if READ UPDATE is ready none of its file is open
   none_open : is_read op ≡ true → list_any (is_read_of acting (file_of op)) s.reads ≡ false
   none_open reads = none_at u op reads ready
     where
@@ -241,7 +241,7 @@ module _ (s : UnitsState) (t : Table) (u : Option ℕ) (op : Op) (a : Answer) (i
       else if rec || reads then taken_all t acting (uses_if rec op)
       else table_given_back false acting (file_of op) (if some then read_at s.reads acting (file_of op) else None) t
 
-  -- what the command takes is what it uses
+  -- what the command acquires is what it uses
   takes_asked : (rec : Bool) → is_recoverable s.opening op ≡ rec → asked ≡ uses_if rec op
   takes_asked rec q = sym (uses_alike s.opening op) ∙ ap (λ b. uses_if b op) q
 
@@ -261,7 +261,7 @@ module _ (s : UnitsState) (t : Table) (u : Option ℕ) (op : Op) (a : Answer) (i
       at_choice (is_normal a.condition) (is_recoverable s.opening op) (is_read op)
       (list_any (covers acting op) s.reads) refl refl refl refl
 
--- a command of a unit that need not wait makes of the table what it takes and gives back
+-- a command of a unit that need not wait makes of the table what it acquires and releases
 pub table_entered : (s : UnitsState) (t : Table) (u : Option ℕ) (op : Op) (a : Answer) → IsSound s → IsTableOf s t →
     may_act s u ≡ true → awaited s u op ≡ None → is_ready_op s u op ≡ true →
     length (key_of op) ≤ 255 →

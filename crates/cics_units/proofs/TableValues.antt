@@ -125,7 +125,7 @@ module _ (v : Bytes) (u : ℕ) where
   gone_after : (e : Resource × Held) (es : Table) → T (below_all resource_cmp e.0 es) → value_of v ≡ e.0 → held_at (value_of v) es ≡ None
   gone_after e es below same = ap (λ q. held_at q es) same ∙ held_below e.0 es below
 
-  -- what a unit doesn't hold stays as it is
+  -- what a unit doesn't own stays as it is
   uncounted_foreign : (t : Table) → T (is_in_order t) →
       ((g : Held) → held_at (value_of v) t ≡ Some g → (g.unit == u) ≡ false) → uncounted (counts_in t) u v ≡ counts_in t
   uncounted_foreign [] rises foreign = refl
@@ -145,7 +145,7 @@ module _ (v : Bytes) (u : ℕ) where
             ∙ ap (counted_before e.0 e.1) (rest (λ g there. foreign g (later_at e es other ∙ there)))
       ] refl
 
-  -- what a unit holds is counted once less where the table has it once less
+  -- what a unit owns is counted once less if the table has it once less
   module _ (h : Held) (own : (h.unit == u) ≡ true) (less : Table → Table)
       (skips : (e : Resource × Held) (es : Table) → resource_cmp (value_of v) e.0 ≡ Greater → counts_in (less (e ∷ es)) ≡ counted_before e.0 e.1 (counts_in (less es)))
       (hits : (es : Table) → held_at (value_of v) es ≡ None → counts_in (less ((value_of v, h) ∷ es))
@@ -203,9 +203,9 @@ counts_in-given_back_value t v u rises =
     fewer : Held → Held
     fewer h = record { unit = u; count = h.count - 1 }
 
--- ---- Who holds a value
+-- ---- Who owns a value
 
--- the counts tell who holds a value
+-- the counts tell who owns a value
 pub in_counts-value : (o : OpeningState) (n : ℕ) (v : Bytes) (t : Table) → T (is_in_order t) →
     in_counts o n (is_one (value_of v)) (counts_in t) ≡ is_holder n (holder_of (value_of v) t)
 in_counts-value o n v [] rises = refl
@@ -290,7 +290,7 @@ holder_open : (s : UnitsState) (t : Table) → IsTableOf s t → (r : Resource) 
     is_open (outcome_of s.outcomes n) ≡ true
 holder_open s t k r n h = (and_parts (is_open (outcome_of s.outcomes n)) _ (sym (held_sum s n (is_one r)) ∙ (k.holders r n ∙ h))).0
 
--- an ENQ that takes its value
+-- an ENQ that acquires its value
 pub table_enqueued_of : (s : UnitsState) (t : Table) (u : Option ℕ) (v : Bytes) (unit : ℕ) → IsSound s → IsTableOf s t →
     may_act s u ≡ true → enqueue s u v ≡ Taken unit →
     IsTableOf (after_enqueued s u v (Taken unit)) (taken t (value_of v) unit)
@@ -326,7 +326,7 @@ table_enqueued_of s t u v unit i k acts takes =
       | false ↦ λ h. holder_open s t k (value_of w) n h
     ]
 
--- a DEQ, whether the unit holds the value or not
+-- a DEQ, whether the unit owns the value or not
 pub table_dequeued_of : (s : UnitsState) (t : Table) (u : ℕ) (v : Bytes) → IsTableOf s t →
     IsTableOf (after_dequeue s u v) (given_back t (value_of v) u)
 table_dequeued_of s t u v k =

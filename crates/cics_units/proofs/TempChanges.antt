@@ -1,5 +1,5 @@
--- A command on a temporary storage queue where it stands: its rows rise, it gives an image exactly where it changes something
--- recoverable, and the store and the answer are those of the command.
+-- A command on a temporary storage queue where it stands: its rows rise, it gives an image exactly
+-- if it changes something recoverable, and the store and the answer are those of the command.
 use Rattle.std.proofs.Common.{◌≡◌, ℕ, Bool, true, false, T, Option, Some, None, [], ◌∷◌, ◌++◌, length, refl, ap, sym, ◌∙◌, inl, inr}
 use Rattle.std.specs.Prelude.{if◌then◌else◌, nat_lt, slice_set, ◌-◌}
 use Rattle.std.proofs.lemmas.Bool.{true≢false, false≢true, cases_Bool}
@@ -61,7 +61,7 @@ rows_rise (TsRewrite q n d) keep rows rising = rising_rewritten rows rising q n 
 rows_rise (TsDelete q) keep rows rising = rising_deleted rows rising q keep
 rows_rise _ keep rows rising = rising
 
--- where it isn't answered NORMAL the rows stay, and there is no image
+-- if it isn't answered NORMAL the rows stay, and there is no image
 pub rows_stay : (op : Op) (keep : Bool) (rows : Map Row) → is_temp op ≡ true → is_done op rows ≡ false →
     (rows_after op keep rows ≡ rows) × (rows_image op keep rows ≡ None)
 rows_stay (TsWrite q d) keep rows is none = elim (cases_Bool (nat_lt (length (queue_at q rows)) most_items)) [
@@ -95,7 +95,7 @@ refused : (b : Bool) → is_normal (if b then Itemerr else Qiderr) ≡ false
 refused true = refl
 refused false = refl
 
--- and a recoverable one does where the command is answered NORMAL
+-- and a recoverable one does if the command is answered NORMAL
 pub rows_imaged : (op : Op) (rows : Map Row) → is_temp op ≡ true → is_done op rows ≡ true → (i : TsImage) × (rows_image op true rows ≡ Some i)
 rows_imaged (TsWrite q d) rows is done = elim (cases_Bool (nat_lt (length (queue_at q rows)) most_items)) [
   | inl room ↦ (record { name = q; before = Added }, rw room refl)
@@ -177,7 +177,7 @@ temp_answered (TsRewrite q n d) m is rising = ap (λ c. (apply_ts_rewrite (shown
 temp_answered (TsDelete q) m is rising = ap (λ c. (apply_ts_delete (shown_store m) q c).answer) (items_there m rising q)
 temp_answered _ m is rising = absurd (false≢true is)
 
--- it changes its cell where it is answered NORMAL
+-- it changes its cell if it is answered NORMAL
 pub temp_changes : (op : Op) (m : StoreValue) → is_temp op ≡ true → T (is_rising m.temp_storage) →
     changes op (content (shown_store m) (cell_of_op op)) ≡ is_done op m.temp_storage
 temp_changes (TsWrite q d) m is rising = ap (λ c. is_normal (write_condition c)) (items_there m rising q)

@@ -1,5 +1,5 @@
--- A command on a transient data queue where it stands: what the queue shows then, its marks and its image, and that the store
--- and the answer are those of the command.
+-- A command on a transient data queue where it stands: what the queue shows then, its marks and its
+-- image, and that the store and the answer are those of the command.
 use Rattle.std.proofs.Common.{arith, ◌≡◌, ℕ, zero, suc, ◌+◌, ◌≤◌, ◌<◌, Bool, true, false, not, T, Option, Some, None, List, [], ◌∷◌, ◌++◌, length, drop, take, refl, ap, sym, subst, ◌∙◌, inl, inr}
 use Rattle.std.specs.Prelude.{if◌then◌else◌, slice_get, nat_lt, option_map}
 use Rattle.std.proofs.Math.Seq.{drop-length}
@@ -29,7 +29,8 @@ use Rattle.cics_units.specs.StoreMatching.{StoreValue, shown_store}
 use Rattle.cics_units.specs.QueueChanges.{is_trans, queue_of, trans_after, trans_image, trans_answer}
 use Rattle.cics_units.proofs.Opened.{value_at-each, with_value-each}
 
--- what a command is told of a transient data queue is enough: its reader sees a record exactly where the queue shows one
+-- what a command is told of a transient data queue is enough: its reader sees a record exactly if
+-- the queue shows one
 abbrev pub IsToldEnough : Op → Bool → MarkedQueue → Type 0
 IsToldEnough (TdRead q) own m = is_nothing (seen false (not own) m) ≡ is_nothing (shown m)
 IsToldEnough _ own m = Unit {0}
@@ -105,7 +106,7 @@ nothing_first : (xs : List Bytes) → is_nothing xs ≡ true → slice_get xs 0 
 nothing_first [] e = refl
 nothing_first (x ∷ xs) e = absurd (false≢true e)
 
--- where a list is empty exactly if it is with more behind it, it begins as that does
+-- if a list is empty exactly if it is with more behind it, it begins as that does
 same_first : (n : ℕ) (xs ys : List Bytes) → is_nothing (drop n (xs ++ [])) ≡ is_nothing (drop n (xs ++ ys)) →
     slice_get (drop n (xs ++ [])) 0 ≡ slice_get (drop n (xs ++ ys)) 0
 same_first zero [] ys e = sym (nothing_first ys (sym e))
@@ -113,7 +114,7 @@ same_first zero (x ∷ xs) ys e = refl
 same_first (suc n) [] ys e = sym (nothing_first (drop (suc n) ys) (sym e))
 same_first (suc n) (x ∷ xs) ys e = same_first n xs ys e
 
--- the reader is given the first record of the queue, or finds none where the queue shows none
+-- the reader is given the first record of the queue, or finds none if the queue shows none
 pub first_shown : (q : Bytes) (own : Bool) (t : TransState) → IsToldEnough (TdRead q) own (marks_of t) → first_of t own ≡ slice_get (records_of t) 0
 first_shown q own t told = first_of-seen t own ∙ by own told ∙ ap (λ c. slice_get c 0) (sym (queue_of-shown t))
   where
@@ -311,6 +312,6 @@ trans_cell_of = trans_each (λ op. cell_of_op op ≡ Td (queue_of op)) (λ q d. 
 pub trans_single : (op : Op) → is_trans op ≡ true → is_generic op ≡ false
 trans_single = trans_each (λ op. is_generic op ≡ false) (λ q d. refl) (λ q. refl) (λ q. refl)
 
--- and is recoverable where the queue is LOGICAL
+-- and is recoverable if the queue is LOGICAL
 pub trans_recoverable : (o : OpeningState) (op : Op) → is_trans op ≡ true → is_recoverable o op ≡ queue_logical o (queue_of op)
 trans_recoverable o = trans_each (λ op. is_recoverable o op ≡ queue_logical o (queue_of op)) (λ q d. refl) (λ q. refl) (λ q. refl)

@@ -1,4 +1,4 @@
--- READQ TS keeps the units: a NEXT place changes, and nothing else.
+-- READQ TS keeps the units: a NEXT cursor changes, and nothing else.
 use Rattle.std.proofs.Common.{◌≡◌, ℕ, ◌+◌, ◌≤◌, Bool, true, false, T, Option, Some, None, List, length, refl, ap, sym, subst, ◌∙◌, []}
 use Rattle.std.specs.Prelude.{if◌then◌else◌, unwrap_or}
 use Rattle.std.specs.Option.{option_and_then}
@@ -46,10 +46,10 @@ use Rattle.cics_units.proofs.StoreInPlace.{ready_where, place_by}
 use Rattle.cics_units.proofs.StoreExecuted.{all_of}
 
 module _ (s : UnitsState) (m : StoreValue) (images : List (Kept AnyImage)) (place : AreInPlace s m images) where
-  -- READQ TS changes a NEXT place alone
+  -- READQ TS changes a NEXT cursor alone
   module _ (new : List (Bytes × Row)) (kept : KeepsQueues (λ q. true) m.temp_storage new)
       (rising_before : T (is_rising m.temp_storage)) (rising_after : T (is_rising new)) where
-    -- the three after it
+    -- the store in place after it
     abbrev n : StoreValue
     n = with_temp_storage m new
 
@@ -96,14 +96,14 @@ queues_same rows new rising_before rising_after kept =
         by None = refl
         by (Some row) = refl
 
--- the units with other NEXT places alone
+-- the units with other NEXT cursors alone
 next_alone : (s : UnitsState) (b : Bool) (next later : Map ℕ) → next ≡ (if b then record s { next = later } else s).next →
     record s { next = next } ≡ (if b then record s { next = later } else s)
 next_alone s true next later same = λ i. record s { next = same i }
 next_alone s false next later same = λ i. record s { next = same i }
 
 module _ (s : UnitsState) (st : StoreWithImages) (t : Table) (is : AreValid s st t) where
-  -- the NEXT place that the rows tell is that of the units
+  -- the NEXT cursor that the rows tell is that of the units
   pub place_told : (q : Bytes) → place_at s q ≡ unwrap_or (value_at q (places_of st.store.temp_storage)) 0
   place_told q = ap (λ m. unwrap_or (value_at q m) 0) is.places
 
@@ -156,7 +156,7 @@ module _ (s : UnitsState) (st : StoreWithImages) (t : Table) (is : AreValid s st
       | false ↦ is.begun
     ]
 
-    -- the NEXT places are those of the units
+    -- the NEXT cursors are those of the units
     pub places_then : HavePlaces (after_ts_reading s q n) new
     places_then = read_places s st.store.temp_storage (record { in_order = is.rows; places = sym is.places }) q n (ap (λ (m : Store). m.ts) (sym (store_is s st t is)))
 

@@ -103,7 +103,7 @@ module _ (f : Bytes) (es now : Map Bytes) (view : es ≡ now) (rising : T (is_ri
       ap (value_at f) (sym view)
       ∙ not_there f es rising (λ x here. let wrong : Some x ≡ None = sym here ∙ ap (slice_get es) (sym at_place) ∙ none in cc)
 
--- where an entry doesn't come behind a file that it isn't of, the file goes in before it
+-- if an entry doesn't come behind a file that it isn't of, the file goes in before it
 first : (f k : Bytes) (x : Bytes × Bytes) (es : Map Bytes) (o : Ordering) → is_lt (ordering_reverse o) ≡ false → is_eq o ≡ false →
     (f, k) ∷ x ∷ es ≡ by_order o ((f, k) ∷ x ∷ es) ((x.0, k) ∷ es) (x ∷ with_value f k es)
 first f k x es Less past other = refl

@@ -1,5 +1,5 @@
--- The prefixes of the recoverable temporary storage queues: a name without the blanks that fill it up, one byte further at
--- its end, and what it is for a prefix to be among those that are defined.
+-- The prefixes of the recoverable temporary storage queues: a name without the blanks that fill it
+-- up, one byte further at its end, and what it is for a prefix to be among those that are defined.
 use Rattle.std.proofs.Common.{◌≡◌, ℕ, suc, ◌+◌, ◌-◌, ◌<◌, ◌≤◌, ◌≢◌, Bool, false, ◌==◌, ◌||◌, cond, List, [], ◌∷◌, ◌++◌, length, take, drop, get_or, nat_eq, refl, ap, sym, ◌∙◌, arith, drop-cons}
 use Rattle.std.specs.List.{list_any, starts_with}
 use Rattle.std.proofs.lemmas.Bool.Decides.{nat_tests}
@@ -28,7 +28,7 @@ unpadded-other [] c other = ap (λ t. cond t [] (c ∷ [])) other
 unpadded-other (b ∷ []) c other = stays_in_front b c (c ∷ []) [] (unpadded-other [] c other)
 unpadded-other (b ∷ d ∷ bytes) c other = stays_in_front b d ((d ∷ bytes) ++ c ∷ []) (bytes ++ c ∷ []) (unpadded-other (d ∷ bytes) c other)
 
--- the bytes up to an index, where that index is not 0
+-- the bytes up to an index, if that index is not 0
 take-last : (name : Bytes) (end : ℕ) → 0 < end → end ≤ length name → take end name ≡ take (end - 1) name ++ get_or name (end - 1) 0 ∷ []
 take-last name end some fits =
     let again : end ≡ (end - 1) + 1 = omega arith in

@@ -1,4 +1,4 @@
--- While no unit holds a prefix of keys, only equal resources conflict.
+-- While no unit owns a prefix of keys, only equal resources conflict.
 use Rattle.std.proofs.Common.{◌≡◌, ℕ, Bool, true, false, ◌&&◌, not, List, [], ◌∷◌, refl, ◌∙◌}
 use Rattle.std.specs.Prelude.{if◌then◌else◌, ◌==◌}
 use Rattle.std.specs.List.{list_any}

@@ -41,7 +41,7 @@ uses_plain true _ = refl
 
 -- ---- Who is in its way
 
--- where the first of two isn't there, neither of them is
+-- if the first of two isn't there, neither of them is
 pub first_none : (a b : Option ℕ) → first_some a b ≡ None → (a ≡ None) × (b ≡ None)
 first_none None b none = (refl, none)
 first_none (Some v) b none = let wrong : Some v ≡ None = none in absurd (some_none wrong)
@@ -55,12 +55,13 @@ first_either P None b h is one other = other is
 first_either P (Some v) b h is one other = one is
 
 module _ (s : UnitsState) (t : Table) (i : IsSound s) (k : IsTableOf s t) where
-  -- the unit that is found in the history is the one that is found in the table, over each of what is used
+  -- the unit that is found in the history is the one that is found in the table, over each of what
+  -- is used
   pub table_holder_all : (asking : Option ℕ) (rs : List Resource) → blocker_among (owned s) asking rs ≡ holder_over_all rs asking t
   table_holder_all asking [] = refl
   table_holder_all asking (r ∷ rs) = λ j. first_some (table_holder s t i k asking r j) (table_holder_all asking rs j)
 
-  -- where none is found all of it is free for the unit that acts
+  -- if none is found all of it is free for the unit that acts
   pub table_free_all : (u : Option ℕ) (rs : List Resource) → holder_over_all rs u t ≡ None → AreFreeFor t rs (unit_or_next u s.outcomes)
   table_free_all u [] none = tt
   table_free_all u (r ∷ rs) none =
@@ -77,7 +78,8 @@ module _ (s : UnitsState) (t : Table) (i : IsSound s) (k : IsTableOf s t) where
       first_either (IsOpenUnit s) (holder_over r asking t) (holder_over_all rs asking t) h found
       (holder_open s t i k asking r h) (holder_open_all asking rs h)
 
-  -- a command waits for the first unit in the way of what it uses, else for the writer of what it would read
+  -- a command waits for the first unit in the way of what it uses, else for the writer of what it
+  -- would read
   pub awaited-uses : (u : Option ℕ) (op : Op) →
       awaited s u op ≡ first_some (holder_over_all (uses_of s.opening op) u t) (writer_awaited s u op)
   awaited-uses u op = λ j. first_some (table_holder_all u (uses_of s.opening op) j) (writer_awaited s u op)
@@ -99,7 +101,7 @@ module _ (s : UnitsState) (t : Table) (i : IsSound s) (k : IsTableOf s t) where
           ] found
       writer_open _ none = absurd (none_some none)
 
-  -- where it awaits none, all that it uses is free for the unit that acts
+  -- if it awaits none, all that it uses is free for the unit that acts
   pub uses_free : (u : Option ℕ) (op : Op) → awaited s u op ≡ None → AreFreeFor t (uses_of s.opening op) (unit_or_next u s.outcomes)
   uses_free u op none = table_free_all u (uses_of s.opening op)
       (first_none (holder_over_all (uses_of s.opening op) u t) (writer_awaited s u op) (sym (awaited-uses u op) ∙ none)).0

@@ -1,5 +1,4 @@
--- Recovery and task control: whom a command must wait for, read off the table of enqueues and the
--- queues themselves.
+-- Which unit blocks a command, read off the table of enqueues and the queues in place.
 use Rattle.std.specs.Prelude.{◌≡◌, ℕ, Bool, false, ◌&&◌, if◌then◌else◌, Option, Some, None, is_none}
 use Rattle.cics_names.specs.Keyed.{Bytes, Map, value_at}
 use Rattle.cics_enqueue.specs.Table.{Table, holder_of, holder_over}
@@ -11,7 +10,7 @@ use Rattle.cics_history.specs.declared.ops.Op.TheVariants.{TdRead}
 use Rattle.cics_units.specs.Uses.{uses_if, holder_over_all}
 use Rattle.cics_units.specs.TableInPlace.{is_holder}
 
--- a unit owns the writing end of a queue: it reads past the records that it wrote itself
+-- a unit owns the writing end of a queue, and so may read what it wrote itself
 abbrev pub is_writer : Table → ℕ → Bytes → Bool
 is_writer t u q = is_holder u (holder_of (WritingEnd q) t)
 
@@ -31,12 +30,12 @@ abbrev pub has_none_for : Bool → Option TransState → Bool
 has_none_for past_fresh None = false
 has_none_for past_fresh (Some t) = is_logical t.kind && is_none (first_of t past_fresh)
 
--- if a reader of a LOGICAL queue finds no record that it may read: the unit at the writing end that
--- isn't the one asking
+-- the owner, other than asking, of the writing end of a LOGICAL queue, if a reader finds no record
+-- there that it may read
 abbrev pub writer_of : Table → Option TransState → Bytes → Option ℕ → ℕ → Option ℕ
 writer_of t queue q asking acting = if has_none_for (is_writer t acting q) queue then holder_over (WritingEnd q) asking t else None
 
--- READQ TD that finds no record which it may read waits for the writer of its queue
+-- the writer for which READQ TD waits, as it finds no record that it may read
 abbrev pub writer_over : Table → Map TransState → Option ℕ → ℕ → Op → Option ℕ
 writer_over t queues asking acting (TdRead q) = writer_of t (value_at q queues) q asking acting
 writer_over t queues asking acting _ = None

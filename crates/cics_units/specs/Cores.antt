@@ -1,4 +1,4 @@
--- Task control: the core of the units as the laws see it, and a command that is bound to it.
+-- The core of the units as the laws see it, and a command with what was looked up for it.
 use Rattle.std.specs.Prelude.{◌≡◌, ◌<◌, ◌≤◌, ℕ, false}
 use Rattle.cics_units.specs.Applied.{IsBound, IsSeen}
 use Rattle.cics_units.specs.Awaiting.{is_writer, IsOwn}
@@ -14,7 +14,7 @@ use Rattle.cics_units.specs.declared.units_core.UnitsCore.{UnitsCore}
 abbrev pub core_value : UnitsCore → CoreValue
 core_value c = record { stores = record { store = c.store; images = c.rows.items }; table = c.locks; reads = c.reads }
 
--- what was looked up for a command of a unit is as it stands
+-- what was looked up for a command of a unit is right
 pub record IsBoundFor (core : CoreValue) (unit : ℕ) (b : BoundOp) : Type 0 where
   pub bound : IsBound core.stores.store b.op.now b.recoverable
   pub used : listed b.uses ≡ uses_if b.recoverable b.op.now
@@ -22,7 +22,7 @@ pub record IsBoundFor (core : CoreValue) (unit : ℕ) (b : BoundOp) : Type 0 whe
   -- either
   pub own : IsOwn b.op.now (is_writer core.table unit (queue_of b.op.now)) b.own
 
--- a command that isn't READ UPDATE can be applied. What it acts on is there, READQ TD needn't wait,
+-- a command other than READ UPDATE can be applied. What it acts on is there, READQ TD needn't wait,
 -- and there is room for its images
 pub record CanApply (s : StoreValue) (b : BoundOp) (room : ℕ) : Type 0 where
   pub change : is_read b.op.now ≡ false

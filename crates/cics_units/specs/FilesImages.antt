@@ -1,4 +1,4 @@
--- Recovery (chapter on recovery): the files of a region as one value whose changes are undone:
+-- The files of a region as one value whose changes are undone (the manual's chapter on recovery):
 -- values by name, each of them a file. A cell is a key of a file.
 use Rattle.std.specs.Prelude.{Bool, Option, None}
 use Rattle.cics_names.specs.Keyed.{Bytes, Map, is_key_in}
@@ -33,7 +33,7 @@ files_content files c = named_content content_at files c
 abbrev pub files_hold : Map FileValue → Cell → Bool
 files_hold files c = named_holds (λ f key. is_key_in key f.empties) files c
 
--- an image is ready if its file is there and finds it ready
+-- an image is ready if its file is there and it is ready for that
 abbrev pub IsReadyIn : Option FileValue → ImageValue → Type 0
 IsReadyIn o i = IsValueReady IsReadyImage o i
 

@@ -1,4 +1,4 @@
--- Recovery: what files and queues hold back for undoing alone, beside what they show.
+-- What files and queues hold for undoing alone, beside what they show.
 use Rattle.std.specs.Prelude.{◌≡◌, true, Some, []}
 use Rattle.cics_names.specs.Keyed.{Bytes, value_at}
 use Rattle.cics_ksds.specs.Files.{FileValue}

@@ -41,7 +41,7 @@ abbrev pub is_recoverable_in : Option FileValue → Bool
 is_recoverable_in None = false
 is_recoverable_in (Some f) = f.definition.recoverable
 
--- a record fits the file that is there, and lies in it under this key
+-- the file is there, the record fits it, and has this key
 abbrev pub IsRecordOf : Option FileValue → Bytes → Bytes → Type 0
 IsRecordOf None k r = ⊥
 IsRecordOf (Some f) k r = IsTrue (fits_file f.definition r) × (key_in f r ≡ k)
@@ -102,7 +102,7 @@ abbrev pub most_images : Map FileValue → Op → ℕ
 most_images files (DeleteGeneric f p) = most_in p (value_at f files)
 most_images files op = 1
 
--- a key of a file, under a prefix
+-- whether a cell is a key of a file that begins with a prefix
 abbrev pub is_below_prefix : Bytes → Bytes → Option (Bytes × Cell) → Bool
 is_below_prefix f p None = false
 is_below_prefix f p (Some e) = is_same f e.0 && has_prefix p e.1
@@ -113,12 +113,12 @@ abbrev pub leaves : Op → Cell → Bool
 leaves (DeleteGeneric f p) c = not (is_below_prefix f p (split c))
 leaves op c = is_other (cell_of (file_of op) (key_of op)) c
 
--- the cells of the three that a command on a file leaves: any cell of a queue, and of the files
+-- the cells of the store that a command on a file leaves: any cell of a queue, and of the files
 -- those above
 abbrev pub leaves_any : Op → Cell → Bool
 leaves_any op c = by_part true (leaves op) (λ q. true) (λ q. true) c
 
--- images of files among those of the three
+-- images of files among those of the store
 abbrev pub of_files : List FilesImage → List AnyImage
 of_files is = map File is
 

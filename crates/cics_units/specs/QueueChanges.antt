@@ -94,7 +94,7 @@ abbrev pub is_left_split : Op → Bool → Option (Bytes × images.Cell) → Boo
 is_left_split op own None = true
 is_left_split op own (Some e) = if is_same e.0 (queue_of op) then is_left_end op own e.1 else true
 
--- a cell of the three that isn't an end which the command changes
+-- a cell of the store that isn't an end which the command changes
 abbrev pub is_left : Op → Bool → images.Cell → Bool
 is_left op own c = by_part true (λ c. true) (λ c. true) (λ c. is_left_split op own (split c)) c
 
@@ -145,7 +145,7 @@ abbrev pub with_image : Option AnyImage → List AnyImage → List AnyImage
 with_image None is = is
 with_image (Some i) is = i ∷ is
 
--- an image of a transient data queue, among those of the three
+-- an image of a transient data queue, among those of the store
 abbrev pub in_queue : Bytes → TdImage → AnyImage
 in_queue q i = TransData (record { name = q; image = i })
 

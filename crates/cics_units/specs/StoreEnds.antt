@@ -51,8 +51,7 @@ td_images (TransData i ∷ is) = i ∷ td_images is
 abbrev pub kind_at : StoreValue → Bytes → Option Recovery
 kind_at s q = named_fixed (λ t. t.kind) s.trans_data q
 
--- what was fixed when the three were made: the definition of each file and the recovery of each
--- queue
+-- what no command changes of the store: the definition of each file and the recovery of each queue
 abbrev pub any_fixed : StoreValue → Three (Bytes → Option FileDef) (Unit {0}) (Bytes → Option Recovery)
 any_fixed s = stores_fixed definitions_of (λ rows. tt) (λ s. named_fixed (λ t. t.kind) s) s
 
@@ -69,22 +68,22 @@ is_at_end Reading Written = false
 is_at_end Writing (Taken before) = false
 is_at_end Writing Written = true
 
--- the three after this end of an image's queue is committed, if the image is of that end
+-- the store after this end of an image's queue is committed, if the image is of that end
 abbrev pub end_settled : End → StoreValue → AnyImage → StoreValue
 end_settled end s (File i) = s
 end_settled end s (TempStorage i) = s
 end_settled end s (TransData i) =
     if is_at_end end i.image then with_trans_data s (changed_at (λ t. end_committed end t) i.name s.trans_data) else s
 
--- the three after the writing end is committed of each queue with an image
+-- the store after the writing end is committed of each queue with an image of it
 abbrev pub writers_settled : StoreValue → List AnyImage → StoreValue
 writers_settled s is = fold (λ s i. end_settled Writing s i) s is
 
--- and after the reading end of each such queue
+-- the store after the reading end is committed of each queue with an image of it
 abbrev pub readers_settled : StoreValue → List AnyImage → StoreValue
 readers_settled s is = fold (λ s i. end_settled Reading s i) s is
 
--- the three after a unit with these images has settled its ends. The writing ends come first: so no
+-- the store after a unit with these images has settled its ends. All writing ends come first: so no
 -- record has both marks when a reading end is committed
 abbrev pub ends_settled : StoreValue → List AnyImage → StoreValue
 ends_settled s is = readers_settled (writers_settled s is) is

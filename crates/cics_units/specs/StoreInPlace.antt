@@ -80,6 +80,6 @@ abbrev pub is_free_split : UnitsState → ℕ → Option (Bytes × images.Cell) 
 is_free_split s u None = true
 is_free_split s u (Some e) = is_free_end s u e.0 e.1
 
--- a cell of the three that isn't an end which the unit owns
+-- a cell of the store that isn't an end which the unit owns
 abbrev pub is_free : UnitsState → ℕ → images.Cell → Bool
 is_free s u c = by_part true (λ c. true) (λ c. true) (λ c. is_free_split s u (split c)) c

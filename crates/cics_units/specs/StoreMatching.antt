@@ -1,6 +1,6 @@
--- Recovery: files, temporary storage and transient data as one value, and the program's before
--- images of it. Images of keys and of temporary storage queues stand for changes of cells of the
--- store. Those of transient data stand for marks at the ends of LOGICAL queues.
+-- Recovery: files, temporary storage and transient data as one value, the store in place, and the
+-- before images of it. Images of keys and of temporary storage queues stand for changes of cells.
+-- Those of transient data stand for marks at the ends of LOGICAL queues.
 use Rattle.std.specs.Prelude.{◌≡◌, Bool, false, Some, None, List, [], ◌∷◌, map}
 use Rattle.cics_names.specs.Keyed.{Bytes, Map}
 use Rattle.cics_images.specs.Cells.{Kept, Content as Shown}
@@ -27,7 +27,8 @@ use Rattle.cics_history.specs.MarkImages.{MarkImage, queue_of as queue_of_mark}
 use Rattle.cics_history.specs.Carried.{Carries}
 use Rattle.cics_units.specs.FilesImages.{FilesImage, cell_of_image, files_content, files_hold, files_swept, IsReadyFor, files_undone, FilesKeep}
 
--- the files by name, the rows of temporary storage and the transient data queues by name
+-- the store in place: the files by name, the rows of temporary storage and the transient data
+-- queues by name
 abbrev pub StoreValue : Type 0
 StoreValue = Stores (Map FileValue) (Map Row) (Map TransState)
 
@@ -35,7 +36,7 @@ StoreValue = Stores (Map FileValue) (Map Row) (Map TransState)
 abbrev pub QueuesImage : Type 0
 QueuesImage = NamedImage TdImage
 
--- an image of a change of any of the three
+-- an image of a change of the store in place
 abbrev pub AnyImage : Type 0
 AnyImage = StoreImage FilesImage TsImage QueuesImage
 
@@ -44,7 +45,7 @@ pub record StoreWithImages : Type 0 where
   pub store : StoreValue
   pub images : List (Kept AnyImage)
 
--- what the three show of each file and queue
+-- what the store in place shows of each file and queue
 abbrev pub shown_store : StoreValue → Store
 shown_store s = record {
   files = map (λ e. (e.0, e.1.records)) s.files;
@@ -63,12 +64,12 @@ abbrev pub end_cell : End → images.Cell
 end_cell Reading = reading_end
 end_cell Writing = writing_end
 
--- an end of a transient data queue, among the cells of the three
+-- an end of a transient data queue, among the cells of the store in place
 abbrev pub bytes_of_end : Bytes → End → images.Cell
 bytes_of_end q end = trans_cell (value_cell q (end_cell end))
 
--- a cell of the store among the cells of the three; no image is of a transient data queue as a
--- whole
+-- a cell of the definitions' store, among the cells of the store in place; no image is of a
+-- transient data queue as a whole
 abbrev pub bytes_of : Cell → images.Cell
 bytes_of (Key f k) = file_cell (value_cell f k)
 bytes_of (Ts q) = temp_cell q
@@ -82,19 +83,19 @@ cell_of_any i = image_cell cell_of_image name_of_image (λ i. named_cell end_of 
 abbrev pub AnyLeads : AnyImage → Shown → Shown → Type 0
 AnyLeads i after before = image_leads (λ i. FileLeads i.image) QueueLeads (λ i. EndLeads i.image) i after before
 
--- what a cell of the three contains
+-- what a cell of the store in place contains
 abbrev pub any_content : StoreValue → images.Cell → Shown
 any_content s c = stores_content files_content queue_content (λ s c. named_content end_content s c) s c
 
--- an image is ready for the three
+-- an image is ready to be undone in the store in place
 abbrev pub IsAnyReady : StoreValue → AnyImage → Type 0
 IsAnyReady s i = IsStoresReady IsReadyFor IsQueueReady (λ s i. IsNamedReady IsEndReady s i) s i
 
--- the three after an image is undone
+-- the store in place after an image is undone
 abbrev pub any_undone : StoreValue → AnyImage → StoreValue
 any_undone s i = stores_undone files_undone rows_undone (λ s i. named_undone queue_undone s i) s i
 
--- the three after a cell is swept; of transient data nothing is held back, so that stays as it is
+-- the store in place after a cell is swept; of transient data nothing is held back, so that stays
 abbrev pub any_swept : StoreValue → images.Cell → StoreValue
 any_swept s c = stores_swept files_swept ts_swept (λ s c. s) s c
 
@@ -103,7 +104,7 @@ any_swept s c = stores_swept files_swept ts_swept (λ s c. s) s c
 abbrev pub any_holds : StoreValue → images.Cell → Bool
 any_holds s c = stores_hold files_hold holds_row (λ s c. false) s c
 
--- at the cells that pass, the second three have what the first have, and what an undo there needs
+-- at the cells that pass, the second store has what the first has, and what an undo there needs
 abbrev pub AnyKeep : (images.Cell → Bool) → StoreValue → StoreValue → Type 0
 AnyKeep p s n = StoresKeep FilesKeep KeepsQueues (λ p s n. NamedKeep KeepsEnds p s n) p s n
 

@@ -1,5 +1,4 @@
--- Task control: the table of enqueues and the open update reads tell who owns what, as the history
--- does.
+-- The table of enqueues and the open update reads say who owns what, as the history does.
 use Rattle.std.specs.Prelude.{◌≡◌, ℕ, ◌==◌, ◌≤◌, Bool, true, false, not, ◌||◌, if◌then◌else◌, T, Option, Some, None, All, List, [], ◌∷◌, length, nat_le}
 use Rattle.std.specs.List.{list_any}
 use Rattle.cics_names.specs.Keyed.{Bytes}
@@ -25,8 +24,8 @@ record_of f k = FileKey f (bytes_of k)
 abbrev pub value_of : Bytes → Resource
 value_of v = User (bytes_of v)
 
--- a command is READ UPDATE, which acquires its record in any file; other commands do so only in a
--- recoverable one
+-- a command is READ UPDATE, which acquires its record in any file; others acquire only what is
+-- recoverable
 abbrev pub is_read : Op → Bool
 is_read (ReadUpdate f k) = true
 is_read _ = false
@@ -38,7 +37,7 @@ abbrev pub is_holder : ℕ → Option ℕ → Bool
 is_holder u None = false
 is_holder u (Some v) = v == u
 
--- a value that is owned is counted
+-- the counts with that of a resource, if it is a value
 abbrev pub counted_before : Resource → Held → List EnqCount → List EnqCount
 counted_before (User v) h counts = record { value = v.items; unit = h.unit; count = h.count } ∷ counts
 counted_before _ h counts = counts

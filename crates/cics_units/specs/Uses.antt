@@ -1,5 +1,4 @@
--- Task control and recovery: what a command uses of files and queues, how a unit acquires it, and
--- which unit blocks it.
+-- What a command uses of files and queues, how a unit acquires it, and which unit blocks it.
 use Rattle.std.specs.Prelude.{ℕ, Bool, if◌then◌else◌, Option, None, List, [], ◌∷◌, ◌++◌}
 use Rattle.cics_history.specs.Resources.{bytes_of}
 use Rattle.cics_enqueue.specs.Table.{Table, IsFreeFor, holder_over, taken, given_back}
@@ -29,7 +28,7 @@ uses_if recoverable (TdRead q) = named_if recoverable (ReadingEnd q)
 uses_if recoverable (TdDelete q) = named_if recoverable (ReadingEnd q) ++ named_if recoverable (WritingEnd q)
 
 -- the table after a unit acquired resources, one after another. What it owns already stays as it
--- is, but for the counts of values
+-- is, but the count of a value rises
 abbrev pub taken_all : Table → ℕ → List Resource → Table
 taken_all t u [] = t
 taken_all t u (r ∷ rs) = taken_all (taken t r u) u rs

@@ -18,8 +18,9 @@ pub(crate) type Files = Named<File>;
 pub(crate) type FilesImage = NamedImage<FileImage>;
 
 impl Named<File> {
-    /// Returns files with the same names, definitions and contents. It takes memory for each
-    /// record. The only error is `NoMemory`.
+    /// Returns files with the same names, definitions and contents.
+    ///
+    /// Errors: `NoMemory`. Cost: O(bytes copied).
     pub(crate) fn copy(&self) -> Result<Files, NoMemory>
         ensures { IfOk result (λ files. files ≡ self.now) }
     {

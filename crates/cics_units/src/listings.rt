@@ -92,9 +92,11 @@ fn listed_td(
 }
 
 impl Listing {
-    /// Returns what stands in a region's files and queues, the changes of open units included,
-    /// and no task. `opening` says what of it is recoverable. `alloc` gives the memory for copies
-    /// of all records. The only error is `NoMemory`.
+    /// Returns what stands in a region's files and queues, the changes of open units included, and
+    /// no task. `opening` says what of it is recoverable. `alloc` gives the memory for copies of
+    /// all records.
+    ///
+    /// Errors: `NoMemory`. Cost: O(bytes copied).
     pub(crate) fn of_store(
         alloc: Global,
         opening: &Opening,

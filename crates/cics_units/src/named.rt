@@ -1,4 +1,4 @@
-//! Values by name, as one value whose changes are undone.
+//! Values by name, as one value whose changes before images undo.
 
 ghost use Rattle.std.specs.Prelude.{◌≡◌, ◌<◌, ◌^◌, [], length, T, IfOk, OnOk, OnErr, None};
 ghost use Rattle.std.specs.Prelude.{Some, IsSome};

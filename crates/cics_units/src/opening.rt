@@ -36,7 +36,7 @@ pub enum DefineFault {
 }
 
 impl DefineFault {
-    /// Returns the number of the fault, from 1 on, by which a journal tells it.
+    /// Returns the number of the fault, from 1 on, that a journal prints.
     pub fn number(&self) -> u64
         ensures { result ≡ fault_number self.now }
     {
@@ -73,14 +73,14 @@ fn is_record_size(size: u64) -> bool
 fn is_key(definition: FileDef) -> bool
     ensures { result ≡ is_key definition }
 {
-    // The key's end is never summed up, since the two numbers may be any.
+    // The key's end is never summed up: offset and length may be any, and their sum might wrap.
     1 <= definition.key_length
         && definition.key_length <= 255
         && definition.key_length <= definition.record_size
         && definition.key_offset <= definition.record_size - definition.key_length
 }
 
-/// Writes a record that is loaded to the file of a name: no unit of work ever undoes it.
+/// Writes a loaded record to the file of a name. No unit of work ever undoes that.
 fn write_loaded(files: &mut Files, name: &Name8, content: Record) -> Result<(), NoMemory>
     requires { IsFitFor (value_at name.now files.old) content }
     ensures files { OnOk result (files.new
@@ -91,8 +91,8 @@ fn write_loaded(files: &mut Files, name: &Name8, content: Record) -> Result<(), 
     Ok(())
 }
 
-/// Adds a record that is loaded to the queue of a name, as the last one. It has no mark, and no
-/// unit ever undoes it.
+/// Adds a loaded record to the queue of a name, as the last one. It counts as committed, and no
+/// unit of work ever undoes it.
 fn add_loaded(queues: &mut Queues, name: &Name4, content: Record) -> Result<(), NoMemory>
     requires { IsSome (value_at name.now queues.old) }
     ensures queues { OnOk result (queues.new
@@ -109,8 +109,8 @@ fn add_loaded(queues: &mut Queues, name: &Name4, content: Record) -> Result<(), 
 /// on error.
 ///
 /// Contracts see the files by name, each with its definition and its records by key. They see the
-/// prefixes of recoverable temporary storage queues in the order in which they were defined. And
-/// they see the transient data queues by name, each with its recovery and its records.
+/// prefixes of recoverable temporary storage queues in the order in which they were defined. They
+/// see the transient data queues by name, each with its recovery and its records.
 pub struct Opening {
     files: Files,
     prefixes: Items<Name8>,
@@ -118,7 +118,7 @@ pub struct Opening {
     alloc: Global,
 }
 
-// By hand: a derived drop is taken apart wherever an opening is dropped.
+// By hand: so each place that drops an opening is one call, not a drop of each field.
 impl Drop for Opening {
     fn drop(self) {
         let Opening {
@@ -281,7 +281,8 @@ impl Opening {
 
     /// Returns the files that are defined, with what was loaded into each.
     ///
-    /// Their names rise, and so do the keys of each; each key is lawful.
+    /// Their names rise, and so do the keys of each file's records. Each definition has a lawful
+    /// key.
     pub(crate) fn files(&self) -> &Files
         ensures files { result.now ≡ opened_files self.now.files }
         ensures in_order { IsOpeningInOrder self.now }
@@ -305,7 +306,9 @@ impl Opening {
     }
 
     /// Returns the defined files in the order of their names. Each has its definition and copies of
-    /// its loaded records, in the order of their keys. The only error is `NoMemory`.
+    /// its loaded records, in the order of their keys.
+    ///
+    /// Errors: `NoMemory`. Cost: O(bytes copied).
     pub fn defined_files(&self) -> Result<Items<(Name8, FileDef, Items<Record>)>, NoMemory>
         ensures { IfOk result (λ files. files ≡ defined_files self.now) }
     {
@@ -317,7 +320,9 @@ impl Opening {
     }
 
     /// Returns the defined transient data queues in the order of their names. Each has its recovery
-    /// and copies of its loaded records, first to last. The only error is `NoMemory`.
+    /// and copies of its loaded records, first to last.
+    ///
+    /// Errors: `NoMemory`. Cost: O(bytes copied).
     pub fn defined_queues(&self) -> Result<Items<(Name4, Recovery, Items<Record>)>, NoMemory>
         ensures { IfOk result (λ queues. queues ≡ defined_queues self.now) }
     {
@@ -374,7 +379,8 @@ impl Opening {
         }
     }
 
-    /// Returns whether a command acts on a recoverable temporary storage queue, by its prefix.
+    /// Returns whether a command acts on a recoverable temporary storage queue, by the queue's
+    /// prefix. False for every other command.
     #[inline(always)]
     pub(crate) fn is_prefixed(&self, op: &Op) -> bool
         ensures { is_temp op.now ≡ true → result ≡ is_recoverable self.now op.now }

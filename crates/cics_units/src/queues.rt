@@ -107,7 +107,7 @@ impl Queues {
         self.rows.get_mut(name).unwrap()
     }
 
-    /// Commits the unit at the reading end of the queue of a name, if there is one.
+    /// Commits the unit at the reading end of the queue of a name, if there is such a queue.
     pub(crate) fn commit_reader(&mut self, name: &Name4)
         ensures { self.new ≡ changed_at reader_committed name.now self.old }
     {
@@ -117,7 +117,7 @@ impl Queues {
         queue.commit_reader();
     }
 
-    /// Commits the unit at the writing end of the queue of a name, if there is one.
+    /// Commits the unit at the writing end of the queue of a name, if there is such a queue.
     pub(crate) fn commit_writer(&mut self, name: &Name4)
         ensures { self.new ≡ changed_at writer_committed name.now self.old }
     {
@@ -152,8 +152,9 @@ impl Queues {
         self.rows.iter()
     }
 
-    /// Returns queues with the same names, recoveries, records and marks. It takes memory for each
-    /// record.
+    /// Returns queues with the same names, recoveries, records and marks.
+    ///
+    /// Errors: `NoMemory`. Cost: O(bytes copied).
     pub(crate) fn copy(&self) -> Result<Queues, NoMemory>
         ensures { IfOk result (λ queues. queues ≡ self.now) }
     {

@@ -1,4 +1,4 @@
-//! The store of files and queues: applies updating commands in place, and adds what undoes them.
+//! Applies updating commands to files and queues in place, and adds the images that undo them.
 
 ghost use Rattle.std.specs.Prelude.{◌≡◌, ◌<◌, ◌≤◌, ◌++◌, true, [], length, IfOk, OnErr};
 ghost use Rattle.std.specs.Prelude.{IsSome, option_map};
@@ -156,7 +156,7 @@ pub(crate) fn bind(store: &Store, op: &Op, recoverable: bool) -> bool
     }
 }
 
-// Applies a command on a file in place, but for READ UPDATE, as `apply` does.
+// Applies a command on a file other than READ UPDATE, as `apply` does.
 fn apply_to_file(
     store: &mut Store,
     bound: &BoundOp<'_>,
@@ -199,10 +199,11 @@ fn apply_to_file(
     }
 }
 
-/// Applies a command other than READ UPDATE in place, and returns its answer as definition `apply`
-/// does. Adds to its unit's images what undoes it, if it acts on something recoverable. On
-/// `NoMemory` nothing has changed: after the change no memory is requested, since images have their
-/// room.
+/// Applies a command other than READ UPDATE in place, and returns its answer, as the definition
+/// `apply` says. Adds to its unit's images what undoes it, if it acts on something recoverable.
+///
+/// Errors: `NoMemory`, which changes nothing. After the change no memory is requested, since images
+/// have their room.
 pub(crate) fn apply(
     store: &mut Store,
     bound: &BoundOp<'_>,

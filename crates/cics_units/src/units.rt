@@ -42,7 +42,7 @@ use std::mem;
 /// Result of `submit`.
 #[derive(Drop)]
 pub enum Submitted {
-    /// The unit that executed the command, a new one if none was given, and the answer.
+    /// The unit that executed the command, a new one if none was given, and its answer.
     Answered(UnitId, Answer),
     /// The blocker, another open unit, and the command, which wasn't executed.
     MustWait(UnitId, Op),
@@ -57,12 +57,12 @@ pub enum Submitted {
 /// After every call two clauses hold:
 ///
 /// - `headline`: the store equals a replay of the surviving entries, the trace without what
-///   backed-out units did to recoverable files and queues. Each entry has in the replay the answer
+///   backed-out units did to recoverable files and queues. The replay gives each entry the answer
 ///   that it has here.
 /// - `serializable`: committed units are serializable in commit order. Run so, their NORMAL
 ///   commands on recoverable files and queues give what would stand if the open units were backed
-///   out. With the open units after them, in any order, they give what stands. Each of them has the
-///   same answer.
+///   out. With the open units after them, in any order, they give what stands. Each is answered as
+///   it is here.
 ///
 /// The invariant behind it is `AreValid`: it ties store, images, locks and reads to the history. By
 /// its `place`, undoing an open unit's images leaves what the others did. By its `table`, units own
@@ -76,7 +76,7 @@ pub struct Units {
     alloc: Global,
 }
 
-// By hand: a derived drop is taken apart wherever units are dropped.
+// By hand: so each place that drops units is one call, not a drop of each field.
 impl Drop for Units {
     fn drop(self) {
         let Units {
@@ -121,7 +121,7 @@ fn unit_or_next(unit: Option<UnitId>, outcomes: &[UnitState]) -> UnitId
     }
 }
 
-// Makes room for one more unit, and for the commits of it and of all that have begun.
+// Makes room for one more unit, and in `commits` for it and all that have begun.
 fn reserve_unit(outcomes: &mut Vec<UnitState>, commits: &mut Vec<UnitId>) -> Result<(), NoMemory>
     ensures outcomes { outcomes.new.items ≡ outcomes.old.items }
     ensures commits { commits.new.items ≡ commits.old.items }
@@ -137,7 +137,7 @@ fn reserve_unit(outcomes: &mut Vec<UnitState>, commits: &mut Vec<UnitId>) -> Res
     Ok(())
 }
 
-// Begins a unit for a task that has none.
+// Begins a unit, if `unit` is None.
 fn begin(outcomes: &mut Vec<UnitState>, unit: Option<UnitId>)
     requires room { vec_len outcomes.old < vec_capacity outcomes.old }
     ensures { outcomes.new.items ≡ outcomes_with unit outcomes.old.items }
@@ -147,7 +147,7 @@ fn begin(outcomes: &mut Vec<UnitState>, unit: Option<UnitId>)
     }
 }
 
-// Adds an executed command to the trace, and the unit that began with it, if one did.
+// Adds an executed command to the trace. Begins a unit with it, if `unit` is None.
 #[inline(always)]
 fn enter(trace: &mut Vec<Entry>, outcomes: &mut Vec<UnitState>, unit: Option<UnitId>, entry: Entry)
     requires trace_room { vec_len trace.old < vec_capacity trace.old }
@@ -175,7 +175,7 @@ fn read_ts(queues: &mut TempStore, queue: &Name8, item: Option<u64>) -> Result<T
     }
 }
 
-// Takes the images of a unit out of its row, and leaves the row empty.
+// Takes the images of a unit out of its row, which is then empty.
 fn take_images(rows: &mut Vec<Images<Store>>, alloc: Global, unit: UnitId) -> Images<Store>
     requires begun { unit < length rows.old.items }
     ensures images { result.newest_first ≡ kept_by rows.old.items unit }
@@ -188,9 +188,11 @@ fn take_images(rows: &mut Vec<Images<Store>>, alloc: Global, unit: UnitId) -> Im
 
 impl Units {
     /// Starts with a copy of an opening's files and queues: no command is executed, and no unit has
-    /// begun. If memory is refused, returns the opening.
+    /// begun.
     ///
     /// - `in_order`: the opening's names rise, and so do the keys of each file. Laws suppose it.
+    ///
+    /// Errors: the opening, if memory is refused.
     pub fn start(opening: Opening) -> Result<Units, Opening>
         ensures state { IfOk result (λ units. units.state ≡ beginning opening) }
         ensures in_order { IfOk result (λ units. IsOpeningInOrder units.state.opening) }
@@ -222,9 +224,13 @@ impl Units {
 
     /// Returns the blocker of a command, if any: another unit that owns something that conflicts
     /// with what it uses. If none does, the writer of its queue blocks READQ TD, if there is no
-    /// record that the task may read. `asking` is None for a task without a unit. Requires what
-    /// `submit` does of unit and command. Takes no memory. By `sound` the open units are isolated:
-    /// a command that has to wait for a writer has to, however the others end.
+    /// record that the task may read. Takes no memory.
+    ///
+    /// `asking` is the task's unit, None if it has none. It has to be open, and the command ready,
+    /// as for `submit`.
+    ///
+    /// - `sound`: the open units are isolated. So a command that has to wait for a writer has to,
+    ///   however the others end.
     pub fn awaited(&self, asking: Option<UnitId>, op: &Op) -> Option<UnitId>
         requires is_open { IsOpenOrNone self.now.state asking }
         requires ready { IsTrue (is_ready_op self.now.state asking op.now) }
@@ -241,7 +247,9 @@ impl Units {
         self.core.blocker(asking, &bound)
     }
 
-    /// Executes a copy of a command, as `submit` does, and requires what `submit` does.
+    /// Executes a copy of a command as `submit` does, on the same conditions.
+    ///
+    /// Errors: `NoMemory`, which changes nothing.
     pub fn execute(&mut self, unit: Option<UnitId>, op: &Op) -> Result<Done, NoMemory>
         requires is_open { IsOpenOrNone self.old.state unit }
         requires ready { IsTrue (is_ready_op self.old.state unit op.now) }
@@ -252,7 +260,7 @@ impl Units {
         ensures serializable { IsSerializable self.new }
         ensures err { OnErr result (self.new ≡ self.old) }
     {
-        // The invariant is known once a field is used.
+        // The proof knows the invariant once a field is used.
         let _ = &self.opening;
         match self.submit(unit, op.copy()?)? {
             Submitted::Answered(unit, answer) => Ok(Done::Answered(unit, answer)),
@@ -262,13 +270,18 @@ impl Units {
 
     /// Executes a command for a unit, or for the next one, which begins with it. If another unit
     /// blocks the command, returns that unit and the command, and changes nothing. Nothing waits
-    /// here: the region keeps the command, and submits a copy once `awaited` finds no blocker.
+    /// here: the region keeps the command, and submits a copy once `awaited` finds no blocker. An
+    /// executed command moves into the trace, with its answer.
     ///
-    /// An executed command moves into the trace, with its answer. The command has to be ready. Its
-    /// unit is open, and its file or transient data queue is defined. A record for a file fits the
-    /// file under the command's key. One for a queue has 1 to 32,767 bytes, and a key or a prefix
-    /// at most 255. REWRITE is of the record that the unit has read for update, and READ UPDATE
-    /// finds none open in its file. On `NoMemory` nothing changes, and the command is gone.
+    /// The unit has to be open, and the command ready:
+    ///
+    /// - Its file or transient data queue is defined.
+    /// - A record for a file fits the file under the command's key. One for a queue has 1 to 32,767
+    ///   bytes. A key or a prefix has at most 255.
+    /// - REWRITE is of the record that the unit has read for update. READ UPDATE is of a file of
+    ///   which the unit has no open update read.
+    ///
+    /// Errors: `NoMemory`. Nothing changes, and the command is dropped.
     pub fn submit(&mut self, unit: Option<UnitId>, op: Op) -> Result<Submitted, NoMemory>
         requires is_open { IsOpenOrNone self.old.state unit }
         requires ready { IsTrue (is_ready_op self.old.state unit op) }
@@ -306,12 +319,14 @@ impl Units {
         Ok(Submitted::Answered(acting, answer))
     }
 
-    /// Enqueues on a value for a unit, or for the next one, which begins with it: ENQ. The unit has
-    /// to be open, and a value has at most 255 bytes. Unless it returns Taken, nothing changes.
+    /// Acquires a value for a unit, or for the next one, which begins with it: ENQ. The unit has to
+    /// be open, and a value has at most 255 bytes. Unless it returns Taken, nothing changes.
     ///
-    /// - Taken: the unit, which owns the value from now on, once more if it owned it already.
+    /// - Taken: the unit, which now owns the value, once more if it owned it already.
     /// - MustWait: the value's owner, another unit.
     /// - CountFull: the unit owns the value 65,535 times already.
+    ///
+    /// Errors: `NoMemory`.
     pub fn enq(&mut self, unit: Option<UnitId>, value: &[u8]) -> Result<Enqueued, NoMemory>
         requires is_open { IsOpenOrNone self.old.state unit }
         requires most { length value.now ≤ 255 }
@@ -339,7 +354,7 @@ impl Units {
     }
 
     /// Returns the owner of a value, if it is a unit other than `asking`: the blocker of an ENQ.
-    /// `asking` is None for a task without a unit, and a value has at most 255 bytes.
+    /// `asking` is the task's unit, None if it has none. A value has at most 255 bytes.
     pub fn value_holder(&self, asking: Option<UnitId>, value: &[u8]) -> Option<UnitId>
         requires most { length value.now ≤ 255 }
         ensures holder { result ≡ value_holder self.now.state asking value.now }
@@ -350,10 +365,11 @@ impl Units {
             .holder_over(&ResourceRef::value(value), asking)
     }
 
-    /// Dequeues from a value for a unit: DEQ. After as many as it enqueued the value is free.
+    /// Releases a value once for a unit: DEQ. The value is free once the unit has released it as
+    /// often as it acquired it.
     ///
-    /// A value that the unit doesn't own stays as it is, another unit's too. Takes no memory. The
-    /// unit has to be open, and a value has at most 255 bytes.
+    /// A value that the unit doesn't own stays as it is. Takes no memory. The unit has to be open,
+    /// and a value has at most 255 bytes.
     pub fn deq(&mut self, unit: UnitId, value: &[u8])
         requires is_open { IsOpenUnit self.old.state unit }
         requires most { length value.now ≤ 255 }
@@ -392,7 +408,9 @@ impl Units {
     /// queue, and ITEMERR if the queue has no such item.
     ///
     /// The number of the item that was read becomes the cursor. No unit acquires the queue for a
-    /// read. The item is copied, and on `NoMemory` nothing changes.
+    /// read.
+    ///
+    /// Errors: `NoMemory`, which changes nothing.
     pub fn read_ts(&mut self, queue: &Name8, item: Option<u64>) -> Result<Answer, NoMemory>
         ensures answer { IfOk result (λ answer. answer
             ≡ ts_reading self.old.state queue.now (item_asked self.old.state queue.now item)) }
@@ -413,8 +431,8 @@ impl Units {
     }
 
     /// Returns the cursor (NEXT) of a temporary storage queue: the number of the item that READQ TS
-    /// read last, for whichever task. It is 0 for an absent queue, again after DELETEQ TS, and once
-    /// WRITEQ TS has made the queue anew. A backout leaves it as it is.
+    /// read last, for whichever task. It is 0 for an absent queue. WRITEQ TS that makes the queue
+    /// sets it to 0, and so does DELETEQ TS. A backout leaves it as it is.
     pub fn next_place(&self, queue: &Name8) -> u16
         ensures { result ≡ place_at self.now.state queue.now }
     {
@@ -526,10 +544,12 @@ impl Units {
     }
 
     /// Returns what stands in the files and queues, the changes of open units included, and no
-    /// task. It copies each record. The only error is `NoMemory`.
+    /// task.
     ///
     /// - `replayed`: this is what `plain_replay` returns for the opening, the trace and the
     ///   outcomes.
+    ///
+    /// Errors: `NoMemory`. Cost: O(bytes copied).
     pub fn listing(&self) -> Result<Listing, NoMemory>
         ensures listing { IfOk result (λ listing. listing
             ≡ listing_of self.now.state.opening self.now.store) }

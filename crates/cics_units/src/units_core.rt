@@ -90,9 +90,9 @@ fn settle_reader(store: &mut Store, image: &AnyImage)
     }
 }
 
-/// Commits the ends of queues that a unit's images are of. The list has the oldest image first. The
-/// writing ends go first: so no record is marked as written and as read when a reading end is
-/// committed. What stands afterwards is the same in either order.
+/// Commits the ends of queues that a unit's images are of. The list has the oldest image first. All
+/// writing ends come first: so no record is marked both as written and as read when a reading end
+/// is committed. What stands afterwards is the same in either order.
 pub(crate) fn settle_ends(store: &mut Store, images: &[AnyImage])
     ensures { store.new ≡ ends_settled store.old (reverse images.now) }
 {
@@ -197,8 +197,8 @@ impl UnitsCore {
         }
     }
 
-    /// Looks up what a command of a unit uses, and whether it acts on something recoverable. Of a
-    /// command on temporary storage `recoverable` says so; for others it doesn't count.
+    /// Looks up what a command of a unit uses, and whether it acts on something recoverable. For a
+    /// command on temporary storage the argument `recoverable` says so; for others it is ignored.
     #[inline(always)]
     pub(crate) fn bind<'a>(&self, unit: UnitId, op: &'a Op, recoverable: bool) -> BoundOp<'a>
         requires fit { IsFitOp self.now.store op.now }
@@ -256,7 +256,8 @@ impl UnitsCore {
         }
     }
 
-    // Returns whether a command covers an update read of its unit.
+    // Returns whether a command covers an update read of its unit: whether it rewrites or deletes
+    // the record of the read, which so ends.
     #[inline(always)]
     fn covers(&self, unit: UnitId, op: &Op) -> bool
         requires once { AreOnce self.now.reads }
@@ -308,7 +309,8 @@ impl UnitsCore {
         }
     }
 
-    // Acquires the record and opens the unit's update read of it, or on `NoMemory` does neither.
+    // Acquires the record of a key and opens the unit's update read of it. On `NoMemory` does
+    // neither.
     fn open_read(
         &mut self,
         unit: UnitId,
@@ -339,9 +341,10 @@ impl UnitsCore {
     /// Executes a command that nothing blocks, and returns its answer. Its unit may be the next to
     /// begin.
     ///
-    /// READ UPDATE leaves the store: if there is a record (`given`), it acquires that and opens the
-    /// read. Every other command takes the same steps. Make room for its images. Acquire what it
-    /// uses if that is recoverable. Apply it to the store, and end the update read that it covers.
+    /// READ UPDATE leaves the store as it is: if there is a record (`given`), it acquires that and
+    /// opens the read. Every other command first gets room for its images, and acquires what it
+    /// uses if that is recoverable. Then it is applied to the store, and the update read that it
+    /// covers ends.
     ///
     /// If the answer isn't NORMAL, it releases what it acquired. So it does on `NoMemory`, which
     /// leaves nothing behind but room for images (`IsCoreAsBefore`).

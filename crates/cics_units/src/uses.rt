@@ -12,7 +12,7 @@ use cics_history::{Op, UnitId};
 use cics_names::NoMemory;
 
 /// What a command uses: two resources at most, the reading end of a queue before its writing end.
-/// Their bytes are those of the command.
+/// Their bytes are borrowed from the command.
 #[derive(Drop)]
 pub(crate) enum Uses<'a> {
     /// No resource.
@@ -42,9 +42,9 @@ impl WereFree {
     }
 }
 
-/// Returns what a command uses. In any file it is the record, there or not, or all under a prefix.
-/// In a recoverable temporary storage queue it is the name. In a LOGICAL queue it is the reading
-/// end for a read, the writing end for a write, both for a delete. In other queues it is nothing.
+/// Returns what a command uses. Of any file it is the record, there or not, or all under a prefix.
+/// Of a recoverable temporary storage queue it is the name. Of a LOGICAL queue it is the reading
+/// end for a read, the writing end for a write, both for a delete. Of other queues it is nothing.
 pub(crate) fn uses_of(op: &Op, recoverable: bool) -> Uses<'_>
     requires most { length (key_of op.now) ≤ 255 }
     ensures { listed result ≡ uses_if recoverable op.now }

@@ -1,4 +1,4 @@
--- The notes of the waiting commands are kept in order over each change.
+-- The notes of the waiting commands stay right after each change.
 use Rattle.std.specs.Prelude.{Result, Ok, Err, OnErr, IfSome, ◌≡◌, ◌<◌, ◌≤◌, ℕ, ◌+◌, ◌==◌, Bool, true, false, not, cond, Option, Some, None, is_some, if◌then◌else◌, take, drop, length, map, nat_eq, List, [], ◌∷◌, ◌++◌, Vec, slice_get, slice_set, refl}
 use Rattle.std.specs.Map.{lookup}
 use Rattle.std.specs.BTreeSet.{BTreeSet}
@@ -128,7 +128,7 @@ module _ (rows : List (Option Note)) (k : ℕ) (rs : List Resource) (bs : List (
     };
   }
 
-  -- where one note is none, or another, that waits for a unit as it is parked
+  -- one note is removed or replaced, and its blocker, if it has one, has it in its list
   parked_set : (at : ℕ) (c : Option Note) (cs : List (Option ℕ)) (more : Lists) → KeepParked parked more → ((n : Note) (u : ℕ) → c ≡ Some n → n.blocker ≡ Some u → IsParked more u (OfRow at)) →
       ((g u : ℕ) → of_line cs g ≡ Some u → IsParked more u (OfLine g)) → AreParked (slice_set rows at c) cs more
   parked_set at c cs more kept own lines = record {
@@ -183,11 +183,11 @@ module _ (rows : List (Option Note)) (k : ℕ) (rs : List Resource) (bs : List (
         ]);
   }
 
-  -- a command that needn't be looked at is noted as one that waits
+  -- the key of an index at which no command must be looked at is set to 1
   pub filed_passed : (at : ℕ) → ((n : Note) → slice_get rows at ≡ Some (Some n) → blocker_in bs n ≡ None → ⊥) → IsFiled rows k rs bs ms parked (slice_set keys at 1)
   filed_passed at passed = record { counted = is.counted; resources = is.resources; shown = shown_passed rows bs ms keys is.shown at passed; lists = is.lists }
 
-  -- a line more
+  -- one wait group more
   pub filed_new_line : (r : Resource) (s : BTreeSet ℕ) → ((i : ℕ) → has s i ≡ false) → IsFiled rows k (rs ++ r ∷ []) (bs ++ None ∷ []) (ms ++ s ∷ []) parked keys
   filed_new_line r s empty = record {
     counted = is.counted;
@@ -196,7 +196,7 @@ module _ (rows : List (Option Note)) (k : ℕ) (rs : List Resource) (bs : List (
     lists = record { rows_of = is.lists.rows_of; lines_of = λ g u own. is.lists.lines_of g u (sym (of_line_more bs g) ∙ own) };
   }
 
-  -- where a unit's list is taken out, and nothing in it waits for the unit
+  -- a unit's list is removed, and the unit blocks nothing of it any more
   module _ (u : ℕ) (list : Vec Parked Global) (there : lookup (nat_eq u) parked ≡ Some list) (ns : List (Option Note)) (cs : List (Option ℕ)) (re : IsReopening u rows ns bs cs) (gone : (j : ℕ) (p : Parked) → slice_get list.items j ≡ Some p → IsNotOf ns cs u p) where
     in_list : (what : Parked) → IsParked parked u what → IsNotOf ns cs u what
     in_list what was = gone was.place what (subst (λ l. slice_get l.items was.place ≡ Some what) (some_same (Vec Parked Global) was.list list (sym was.there ∙ there)) was.at)
@@ -221,14 +221,14 @@ module _ (rows : List (Option Note)) (k : ℕ) (rs : List Resource) (bs : List (
         still : (v : ℕ) (what : Parked) → (v ≡ u → ⊥) → IsParked parked v what → IsParked less v what
         still v what apart was = record { list = was.list; there = others v apart ∙ was.there; place = was.place; at = was.at }
 
-  -- where a unit has no list, nothing waits for it
+  -- if a unit has no list, it blocks nothing
   pub not_alone : (u : ℕ) → lookup (nat_eq u) parked ≡ None → (i : ℕ) → IsAlone rows i u → ⊥
   not_alone u absent i a = let was = is.lists.rows_of i u a in none_some (Vec Parked Global) was.list (sym absent ∙ was.there)
 
   pub not_lined : (u : ℕ) → lookup (nat_eq u) parked ≡ None → (g : ℕ) → of_line bs g ≡ Some u → ⊥
   not_lined u absent g own = let was = is.lists.lines_of g u own in none_some (Vec Parked Global) was.list (sym absent ∙ was.there)
 
--- the units of the lines where there is one more
+-- the blockers of the wait groups, with one group more
 pub blockers_more : (lines : List (Option ℕ)) → KeepsBlockers lines (lines ++ None ∷ [])
 blockers_more lines = record { kept = none_more lines; long = let is = longer lines in omega (arith, is) }
   where
@@ -248,7 +248,7 @@ module _ (ls ms : Lists) (u : ℕ) (w : Vec Parked Global) (h : (q : ℕ) → lo
   pub list_there : lookup (nat_eq u) ms ≡ Some w
   list_there = h u ∙ ap (λ b. cond b (Some w) (lookup (nat_eq u) ls)) (eq-eqb u u refl)
 
-  -- where a unit's list is written over by one that has what it had
+  -- a unit's list is replaced by one that has what it had
   pub list_kept : ((l : Vec Parked Global) (k : ℕ) (p : Parked) → lookup (nat_eq u) ls ≡ Some l → slice_get l.items k ≡ Some p → slice_get w.items k ≡ Some p) → KeepParked ls ms
   list_kept keeps v what was = by (nat_eq u v) refl
     where
@@ -281,7 +281,7 @@ none_from (Some x) e = cc
 
 -- ---- Forgotten
 
--- where no command has to wait for a unit all stays
+-- if a unit blocks no command, all stays
 unnoted : (u : ℕ) (b : Option ℕ) → (b ≡ Some u → ⊥) → b ≡ given_up (Some u) b
 unnoted u None none = refl
 unnoted u (Some v) none = by (v == u) refl
@@ -305,7 +305,7 @@ lines_unnoted u (b ∷ bs) none =
     let same = unnoted u b (none 0) in
     λ i. same i ∷ rest i
 
--- where no unit gave anything up
+-- if no unit released anything
 pub rows_none : (unit : Option ℕ) (ns : List (Option Note)) → unit ≡ None → ns ≡ map (forgotten unit) ns
 rows_none None [] none = refl
 rows_none None (None ∷ ns) none = ap (λ r. None ∷ r) (rows_none None ns refl)
@@ -367,7 +367,7 @@ pub not_of_kept : (u : ℕ) (rows ns : List (Option Note)) (bs cs : List (Option
 not_of_kept u rows ns bs cs (OfRow i) re none = λ a. none (re.rows_of i u a)
 not_of_kept u rows ns bs cs (OfLine g) re none = λ own. none (re.lines_of g u own)
 
--- a list written over another
+-- a list that replaces another
 refilled : {X : Type 0} (ws ns : List X) → length ws ≡ length ns → take (length ns) (ws ++ drop (length ws) ns) ≡ ws
 refilled [] [] even = refl
 refilled [] (n ∷ ns) even = cc
@@ -386,7 +386,7 @@ other_lists ls ms u h v apart = h v ∙ by (nat_eq u v) refl
     by true is = absurd (apart (sym (eqb-true u v is)))
     by false is = refl
 
--- the first command that has to be looked at
+-- the first command that must be looked at
 pub first_found : (rows : List (Option Note)) (rs : List Resource) (bs : List (Option ℕ)) (ms : List (BTreeSet ℕ)) (keys : List ℕ) → IsShown rows bs ms keys →
     (due : List ℕ) (o : Option (ℕ × Note)) → IfSome o (λ p. IsOpenAt rows bs p.0 p.1) →
     IfSome o (λ p. IsFirstOpen (record { rows = rows; resources = rs; blockers = bs; deadlines = due }) p.0 p.1)
@@ -429,7 +429,8 @@ pub other_unit : (o : Option ℕ) (u : ℕ) (t : Bool) → t ≡ option_eq nat_e
 other_unit None u t is fails own = none_some ℕ u own
 other_unit (Some v) u t is fails own = true≢false (sym (eq-eqb v u (some_same ℕ v u own)) ∙ sym is ∙ fails)
 
--- where a note was put whose unit is known stands none of a command that has to be looked at
+-- the index at which a note with a known blocker was put has no note of a command that must be
+-- looked at
 pub known_there : (rows : List (Option Note)) (at : ℕ) (bs : List (Option ℕ)) (m : Note) (u : ℕ) → blocker_in bs m ≡ Some u →
     (n : Note) → slice_get (slice_set rows at (Some m)) at ≡ Some (Some n) → blocker_in bs n ≡ None → ⊥
 known_there rows at bs m u known n is own = elim (get_set rows at at (Some m) (Some n) is) [

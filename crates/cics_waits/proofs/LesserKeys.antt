@@ -1,4 +1,5 @@
--- The levels above a row of keys: what one more key or another makes of them, and which way the first below a limit is.
+-- The levels above a row of keys: what they are after a key is added or replaced, and how the first
+-- key below a limit is found.
 use Rattle.std.specs.Prelude.{◌≡◌, ◌<◌, ◌≤◌, ℕ, ◌+◌, ◌-◌, ◌*◌, ◌/◌, ◌%◌, min, Some, None, List, [], ◌∷◌, ◌++◌, length, All, Vec, slice_get, slice_set, slice_index_or, refl}
 use Rattle.std.specs.declared.alloc.Global.{Global}
 use Rattle.std.proofs.Common.{zero, suc, sym, ap, ◌∙◌, subst, arith}
@@ -11,7 +12,7 @@ use Rattle.cics_waits.specs.Firsts.{lesser_of_pairs, last_of, level_at, AreAbove
 half : (n : ℕ) → suc (suc n) / 2 ≡ suc (n / 2)
 half n = omega arith
 
--- the pair at a place that the level has whole
+-- a pair of which the level has both keys
 pub lesser_at : (keys : List ℕ) (pair : ℕ) → pair * 2 + 1 < length keys → slice_get (lesser_of_pairs keys) pair ≡ Some (min (slice_index_or keys (pair * 2) 0) (slice_index_or keys (pair * 2 + 1) 0))
 lesser_at [] pair within = absurd (omega arith)
 lesser_at (a ∷ []) pair within = absurd (omega arith)
@@ -23,7 +24,7 @@ lesser_at (a ∷ b ∷ keys) (suc pair) within =
     lesser_at keys pair less
     ∙ (λ i. Some (min (slice_index_or (a ∷ b ∷ keys) (sym first i) 0) (slice_index_or (a ∷ b ∷ keys) (sym second i) 0)))
 
--- the last key, where it is alone
+-- the last key, if it is alone
 pub lesser_last : (keys : List ℕ) (pair : ℕ) → pair * 2 < length keys → length keys ≤ pair * 2 + 1 → slice_get (lesser_of_pairs keys) pair ≡ Some (slice_index_or keys (pair * 2) 0)
 lesser_last [] pair within last = absurd (omega arith)
 lesser_last (a ∷ []) zero within last = refl
@@ -61,7 +62,7 @@ key_within (a ∷ b ∷ keys) (suc pair) within =
 
 -- ---- Another key, and one more
 
--- another key changes its own pair alone
+-- a key that is replaced changes its own pair alone
 pair_set : (keys : List ℕ) (at key least : ℕ) → at < length keys → slice_get (lesser_of_pairs (slice_set keys at key)) (at / 2) ≡ Some least →
     slice_set (lesser_of_pairs keys) (at / 2) least ≡ lesser_of_pairs (slice_set keys at key)
 pair_set [] at key least within is = absurd (omega arith)
@@ -85,7 +86,7 @@ pair_opened (a ∷ b ∷ keys) key least even is =
     let there = subst (λ n. slice_get (min a b ∷ lesser_of_pairs (keys ++ key ∷ [])) n ≡ Some least) (half (length keys)) is in
     ap (λ l. min a b ∷ l) (pair_opened keys key least rest there)
 
--- and it makes a key that was alone a pair
+-- one more key makes a pair of a key that was alone
 pair_filled : (keys : List ℕ) (key least : ℕ) → length keys % 2 ≡ 1 → slice_get (lesser_of_pairs (keys ++ key ∷ [])) (length keys / 2) ≡ Some least →
     slice_set (lesser_of_pairs keys) (length keys / 2) least ≡ lesser_of_pairs (keys ++ key ∷ [])
 pair_filled [] key least odd is = absurd (omega arith)
@@ -113,7 +114,7 @@ odd_within (a ∷ b ∷ keys) odd =
     let rest : length keys / 2 < length (lesser_of_pairs keys) = odd_within keys (omega arith) in
     omega arith
 
--- so it does in the pairs as they are kept
+-- so it does in the pairs as they are stored
 pub alone_within : (keys pairs : List ℕ) (at : ℕ) → pairs ≡ lesser_of_pairs keys → at ≡ length keys → (at % 2 ≡ 0 → ⊥) → at / 2 < length pairs
 alone_within keys pairs at is counted odd =
     let there : length keys / 2 < length (lesser_of_pairs keys) = odd_within keys (not_even keys (λ even. odd (ap (λ n. n % 2) counted ∙ even))) in
@@ -148,7 +149,8 @@ module _ (limit : ℕ) where
     before = λ i x less is. first.before (suc i) x (omega arith) is;
   }
 
-  -- of the first pair whose lesser key is below the limit it is the first key if that is below the limit
+  -- of the first pair whose lesser key is below the limit the first key is found, if that is below
+  -- the limit
   pub first_key_of_pair : (keys : List ℕ) (pair : ℕ) → IsFirstBelow (lesser_of_pairs keys) limit pair → slice_index_or keys (pair * 2) 0 < limit → IsFirstBelow keys limit (pair * 2)
   first_key_of_pair [] pair first below = absurd (never first.there)
     where
@@ -202,7 +204,7 @@ module _ (limit : ℕ) where
       subst (IsFirstBelow (a ∷ b ∷ keys) limit) (sym place_1)
       (first_later a (b ∷ keys) (suc (pair * 2 + 1)) one (first_later b keys (pair * 2 + 1) two (second_key_of_pair keys pair rest more)))
 
-  -- where no pair has a key below the limit no key is
+  -- if no pair has a key below the limit, no key is below it
   pub no_pair : (keys : List ℕ) → All (λ k. limit ≤ k) (lesser_of_pairs keys) → All (λ k. limit ≤ k) keys
   no_pair [] none i d within = absurd (omega arith)
   no_pair (a ∷ []) none i d within = none i d within
@@ -210,12 +212,12 @@ module _ (limit : ℕ) where
   no_pair (a ∷ b ∷ keys) none (suc zero) d within = let least : limit ≤ min a b = none 0 0 (omega arith) in omega (arith, min-le_right a b)
   no_pair (a ∷ b ∷ keys) none (suc (suc i)) d within = no_pair keys (λ k e less. none (suc k) e (omega arith)) i d (omega arith)
 
-  -- where no key of the last level is below the limit no key is
+  -- if no key of the last level is below the limit, no key is
   pub none_below : (keys : List ℕ) (levels : List (Vec ℕ Global)) → AreAbove keys levels → All (λ k. limit ≤ k) (last_of keys levels) → All (λ k. limit ≤ k) keys
   none_below keys [] above none = none
   none_below keys (l ∷ ls) above none = no_pair keys (subst (All (λ k. limit ≤ k)) above.0 (none_below l.items ls above.1 none))
 
--- ---- The level at a place
+-- ---- The level so many above the keys
 
 -- it has the lesser keys of the level below it
 pub pairs_of_level : (keys : List ℕ) (levels : List (Vec ℕ Global)) (place : ℕ) → AreAbove keys levels → place < length levels → level_at keys levels (suc place) ≡ lesser_of_pairs (level_at keys levels place)
@@ -248,7 +250,7 @@ one_pair (a ∷ []) least two is = absurd (omega arith)
 one_pair (a ∷ b ∷ []) least two is = cc
 one_pair (a ∷ b ∷ c ∷ keys) least two is = absurd (omega arith)
 
--- the last of the levels where there is one
+-- the last of the levels, if there is one
 pub last_found : (keys : List ℕ) (levels : List (Vec ℕ Global)) (l : Vec ℕ Global) → Some l ≡ slice_get levels (length levels - 1) → l.items ≡ last_of keys levels
 last_found keys [] l is = absurd (never is)
   where
@@ -297,7 +299,7 @@ module _ (keys : List ℕ) (levels front back : List (Vec ℕ Global)) (d : Vec 
       by (l ∷ m ∷ ls) one = absurd (omega arith)
 
   module _ (level : Vec ℕ Global) (rest : List (Vec ℕ Global)) (are : AreAbove level.items rest) (read : List ℕ) (key least : ℕ) where
-    -- one key is another
+    -- one key is replaced
     pub set_above : (at : ℕ) → at < length keys → read ≡ slice_set keys at key → slice_get (lesser_of_pairs read) (at / 2) ≡ Some least →
         level.items ≡ slice_set (slice_index_or front 0 d).items (at / 2) least → AreAbove (slice_set keys at key) (slice_set front 0 level ++ rest)
     set_above at within is there put =

@@ -1,4 +1,4 @@
--- Which commands have to be looked at is kept over each change of the notes.
+-- After each change of the notes the commands that must be looked at have their keys.
 use Rattle.std.specs.Prelude.{All, ◌+◌, unwrap_or, IfSome, ◌≡◌, ◌<◌, ◌≤◌, ℕ, Bool, true, false, Option, Some, None, is_some, take, length, List, [], ◌∷◌, ◌++◌, slice_get, slice_set, refl}
 use Rattle.std.specs.BTreeSet.{BTreeSet, Updates}
 use Rattle.std.specs.BTreeMap.{is_at}
@@ -15,7 +15,7 @@ use Rattle.cics_waits.specs.Notes.{of_line, blocker_by, blocker_in, new_note, in
 use Rattle.cics_waits.specs.Firsts.{IsFirstBelow}
 use Rattle.cics_waits.specs.Filed.{has, IsMember, IsInLine, IsShownBy, IsShown, IsFirstShown, IsPut, HasLeft, IsLeft}
 
--- ---- Places
+-- ---- Indexes
 
 pub get_set : {X : Type 0} (xs : List X) (i j : ℕ) (x y : X) → slice_get (slice_set xs i x) j ≡ Some y → ((j ≡ i) × (x ≡ y)) ⊎ ((j ≡ i → ⊥) × (slice_get xs j ≡ Some y))
 get_set [] i j x y there = cc
@@ -122,7 +122,7 @@ closed_from bs [] known = tt
 closed_from bs (None ∷ ns) known = closed_from bs ns (λ i n there. known (suc i) n there)
 closed_from bs (Some n ∷ ns) known = (known 0 n refl, closed_from bs ns (λ i n there. known (suc i) n there))
 
--- a note that has to wait for a unit in no line, or none
+-- no note, or a note in no wait group that has a blocker
 abbrev pub IsAside : Option Note → Type 0
 IsAside None = Unit {0}
 IsAside (Some m) = (m.line ≡ None) × (m.blocker ≡ None → ⊥)
@@ -277,7 +277,7 @@ module _ (rows : List (Option Note)) (bs : List (Option ℕ)) (ms : List (BTreeS
       none : (q : BTreeSet ℕ) (i : ℕ) → s ≡ q → has q i ≡ true → ⊥
       none q i same member = absurd (true≢false (sym member ∙ ap (λ x. has x i) (sym same) ∙ empty i))
 
-  -- a command that needn't be looked at any more
+  -- the key of an index at which no command must be looked at is set to 1
   pub shown_passed : (at : ℕ) → ((n : Note) → slice_get rows at ≡ Some (Some n) → blocker_in bs n ≡ None → ⊥) → IsShown rows bs ms (slice_set keys at 1)
   shown_passed at passed = record {
     even = length_set keys at 1 ∙ is.even;
@@ -296,7 +296,7 @@ module _ (rows : List (Option Note)) (bs : List (Option ℕ)) (ms : List (BTreeS
         };
   }
 
-  -- a command in no line is looked at again
+  -- a command in no wait group must be looked at again
   pub shown_row : (at : ℕ) (n m : Note) → slice_get rows at ≡ Some (Some n) → m.line ≡ n.line → IsShown (slice_set rows at (Some m)) bs ms (slice_set keys at 0)
   shown_row at n m there line = record {
     even = length_set keys at 0 ∙ is.even ∙ sym (length_set rows at (Some m));
@@ -318,7 +318,7 @@ module _ (rows : List (Option Note)) (bs : List (Option ℕ)) (ms : List (BTreeS
     first = λ g s i put open_yet member. let was = is.first g s i put open_yet member in record { place = was.place; before = was.before; member = was.member; key = zero_kept keys at was.place was.key };
   }
 
-  -- the commands of a line are
+  -- the commands of a wait group must be looked at again
   pub shown_line : (g : ℕ) (s : BTreeSet ℕ) (new : List ℕ) → slice_get ms g ≡ Some s → IsFirstShown None s keys new → IsShown rows (slice_set bs g None) ms new
   shown_line g s new there fs = record {
     even = fs.even ∙ is.even;
@@ -334,7 +334,7 @@ module _ (rows : List (Option Note)) (bs : List (Option ℕ)) (ms : List (BTreeS
     ];
   }
 
-  -- where no key shows a command up to a place, the one there is closed
+  -- if no key up to an index is 0, the command there has a known blocker
   known : (i : ℕ) (n : Note) → ((j k : ℕ) → j ≤ i → slice_get keys j ≡ Some k → 1 ≤ k) → slice_get rows i ≡ Some (Some n) → is_some (blocker_in bs n) ≡ true
   known i n none there = by (blocker_in bs n) refl
     where
@@ -358,7 +358,7 @@ module _ (rows : List (Option Note)) (bs : List (Option ℕ)) (ms : List (BTreeS
   pub closed_before_shown : (at : ℕ) → ((j k : ℕ) → j < at → slice_get keys j ≡ Some k → 1 ≤ k) → AreClosed bs (take at rows)
   closed_before_shown at none = closed_from bs (take at rows) (λ i n there. let was = take_get at i rows (Some n) there in let less = was.0 in known i n (λ j k before. none j k (omega (arith, before, less))) was.1)
 
--- how many keys say that a command has to be looked at
+-- how many keys say that a command must be looked at
 abbrev pub looks : List ℕ → ℕ
 looks [] = 0
 looks (zero ∷ keys) = suc (looks keys)
@@ -382,12 +382,12 @@ pub passed_row : (bs : List (Option ℕ)) (rows : List (Option Note)) (at : ℕ)
     (n : Note) → slice_get rows at ≡ Some (Some n) → blocker_in bs n ≡ None → ⊥
 passed_row bs rows at c there closed n noted own = absurd (true≢false (sym (closed n (one (slice_get rows at) c (Some n) there noted)) ∙ ap is_some own))
 
--- an empty line has no place
+-- an empty wait group has no index
 pub none_in : (s : BTreeSet ℕ) → s.keys ≡ [] → (i : ℕ) → has s i ≡ false
 none_in s empty i = ap (list_any (is_at (nat_cmp i))) empty
 
 module _ (rows : List (Option Note)) (bs : List (Option ℕ)) (ms : List (BTreeSet ℕ)) (keys : List ℕ) (is : IsShown rows bs ms keys) where
-  -- the line of a note, if it is in one, is one of these
+  -- the wait group of a note, if it is in one, is one of these
   pub line_within : (at : ℕ) (n : Note) → slice_get rows at ≡ Some (Some n) → IfSome n.line (λ g. g < length ms)
   line_within at n there = by n.line refl
     where
@@ -395,7 +395,7 @@ module _ (rows : List (Option Note)) (bs : List (Option ℕ)) (ms : List (BTreeS
       by None own = tt
       by (Some g) own = let m = is.member at n g there own in slice_get_within ms g m.members m.there
 
-  -- a place of a line has a key
+  -- an index in a wait group has a key
   pub member_within : (g : ℕ) (s : BTreeSet ℕ) (i : ℕ) → slice_get ms g ≡ Some s → has s i ≡ true → i < length keys
   member_within g s i there member = let row = is.row g s i there member in subst (λ k. i < k) (sym is.even) (slice_get_within rows i (Some row.note) row.there)
 
@@ -438,6 +438,6 @@ not_at at i apart = elim (apart_order i at apart) [
   | inr more ↦ ap is_eq (sym (nat_cmp_is at i Less more))
 ]
 
--- a place that comes in
+-- an index that is added
 pub put_by : (at : ℕ) (s t : BTreeSet ℕ) → Updates nat_cmp s t at true → IsPut at true s t
 put_by at s t updates = record { here = updates.1; others = λ i apart. updates.2 i (not_at at i apart) }

@@ -1,5 +1,5 @@
--- How the notes are kept: what each unit blocks, and which commands must be looked at. Such a
--- command, in a wait group the first, has the key 0. Others may have it.
+-- How the notes are stored: what each unit blocks, and which commands must be looked at. Each such
+-- command has the key 0, in a wait group at least the first. Others may have it too.
 use Rattle.std.specs.Prelude.{◌≡◌, ◌≤◌, ℕ, Bool, true, false, Option, Some, None, length, map, List, Vec, slice_get, slice_set, nat_eq}
 use Rattle.std.specs.Map.{lookup}
 use Rattle.std.specs.BTreeSet.{BTreeSet, contains}
@@ -51,11 +51,11 @@ pub record IsParked (parked : List (ℕ × Vec Parked Global)) (u : ℕ) (what :
   pub place : ℕ
   pub at : slice_get list.items place ≡ Some what
 
--- each entry of the one is in the other
+-- each entry of a unit's list stays
 abbrev pub KeepParked : List (ℕ × Vec Parked Global) → List (ℕ × Vec Parked Global) → Type 0
 KeepParked parked more = (u : ℕ) (what : Parked) → IsParked parked u what → IsParked more u what
 
--- a note, in no wait group, has this blocker
+-- the note at an index has this blocker of its own
 pub record IsAlone (rows : List (Option Note)) (i u : ℕ) : Type 0 where
   pub note : Note
   pub there : slice_get rows i ≡ Some (Some note)
@@ -75,13 +75,13 @@ pub record IsFiled (rows : List (Option Note)) (k : ℕ) (rs : List Resource) (b
 
 -- ---- Changes
 
--- the first of these has the key 0, if no blocker is known, and each that had it keeps it
+-- if no blocker is known, the first of these indexes has the key 0; each that had it keeps it
 pub record IsFirstShown (b : Option ℕ) (s : BTreeSet ℕ) (keys new : List ℕ) : Type 0 where
   pub even : length new ≡ length keys
   pub kept : (i : ℕ) → slice_get keys i ≡ Some 0 → slice_get new i ≡ Some 0
   pub shown : (i : ℕ) → b ≡ None → has s i ≡ true → IsShownBy s new i
 
--- an index comes in, or goes
+-- an index is added if there, else removed, and every other stays
 pub record IsPut (at : ℕ) (there : Bool) (old new : BTreeSet ℕ) : Type 0 where
   pub here : has new at ≡ there
   pub others : (i : ℕ) → (i ≡ at → ⊥) → has new i ≡ has old i

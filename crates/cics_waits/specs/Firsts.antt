@@ -18,7 +18,7 @@ abbrev pub last_of : List ℕ → List (Vec ℕ Global) → List ℕ
 last_of keys [] = keys
 last_of keys (l ∷ ls) = last_of l.items ls
 
--- the keys, at 0, or the level that stands so many above them
+-- the level that stands so many levels above the keys, for 0 the keys themselves
 abbrev pub level_at : List ℕ → List (Vec ℕ Global) → ℕ → List ℕ
 level_at keys ls zero = keys
 level_at keys [] (suc n) = []

@@ -4,9 +4,9 @@ use Rattle.cics_names.specs.Keyed.{Bytes}
 use Rattle.cics_history.specs.declared.resources.Resource.{Resource}
 use Rattle.cics_waits.specs.declared.notes.Note.{Note}
 
--- the notes of the earliest waiting commands, in order, None for a command that waits no more; for
--- each wait group, a line, the one resource that its commands use, and its blocker, if known; for
--- each index the deadline
+-- rows has the notes of the earliest waiting commands, in order, None for one that waits no more;
+-- resources and blockers have for each wait group the one resource that its commands use, and its
+-- blocker, if known; deadlines has the deadline at each index. A note's wait group is its line
 pub record NotesValue : Type 0 where
   pub rows : List (Option Note)
   pub resources : List Resource
@@ -31,16 +31,16 @@ blocker_by bs (Some g) own = of_line bs g
 abbrev pub blocker_in : List (Option ℕ) → Note → Option ℕ
 blocker_in bs n = blocker_by bs n.line n.blocker
 
--- a known blocker, after a unit, if one is given, may have released something
+-- what is known of a blocker once a unit, if one is given, may have released something
 abbrev pub given_up : Option ℕ → Option ℕ → Option ℕ
 given_up None b = b
 given_up (Some u) b = if is_unit b u then None else b
 
--- a note, after a unit may have released something
+-- a note once a unit, if one is given, may have released something
 abbrev pub given_note : Option ℕ → Note → Note
 given_note unit n = record n { blocker = given_up unit n.blocker }
 
--- the note at an index, if there is one, after a unit may have released something
+-- the note at an index, if there is one, once a unit may have released something
 abbrev pub forgotten : Option ℕ → Option Note → Option Note
 forgotten unit None = None
 forgotten unit (Some n) = Some (given_note unit n)
@@ -57,7 +57,7 @@ alone u n = record { label = n.label; line = None; blocker = Some u }
 abbrev pub in_line : ℕ → Note → Note
 in_line g n = record { label = n.label; line = Some g; blocker = None }
 
--- how many commands there are notes of
+-- how many commands have a note
 abbrev pub count : List (Option Note) → ℕ
 count [] = 0
 count (None ∷ ns) = count ns
@@ -96,7 +96,8 @@ abbrev pub without : List (Option Note) → Option ℕ → List (Option Note)
 without ns None = ns
 without ns (Some at) = slice_set ns at None
 
--- the key of a task that waits without limit, and of an index without a note: no clock is above it
+-- the deadline of a task that may wait without limit, and of an index without a note: no clock is
+-- above it
 abbrev pub never : ℕ
 never = 2 ^ 64 - 1
 

@@ -16,8 +16,9 @@ use std::marker::Model;
 #[derive(Drop)]
 pub(crate) struct Firsts {
     keys: Vec<u64>,
-    // Levels above the keys: each has the lesser key of each pair of the level below it. The last
-    // has at most two keys. So there are O(log n) levels, for n the most keys that there were.
+    // Levels above the keys: each has the lesser key of each pair of the level below it, the first
+    // those of the keys. The last has at most two keys. So there are O(log n) levels, for n the
+    // most keys that there were.
     above: Vec<Vec<u64>>,
 }
 
@@ -45,7 +46,8 @@ fn lesser(level: &[u64], pair: usize) -> u64
     }
 }
 
-// Replaces a key. As soon as the lesser key of a pair stays, so does all above it.
+// Replaces a key of a level, and with it the lesser keys in the levels above. Stops at the first of
+// these that stays: all above it stays too.
 fn set(level: &mut Vec<u64>, above: &mut [Vec<u64>], at: usize, key: u64)
     requires within { at < length level.old.items }
     requires above { AreAbove level.old.items above.old }
@@ -64,7 +66,7 @@ fn set(level: &mut Vec<u64>, above: &mut [Vec<u64>], at: usize, key: u64)
     set(&mut next[0], rest, at / 2, least);
 }
 
-// Appends a key. Each level has room.
+// Adds a key to a level, last of all, and its lesser keys to the levels above. Each has room.
 fn append(level: &mut Vec<u64>, above: &mut [Vec<u64>], key: u64)
     requires room { vec_len level.old < vec_capacity level.old }
     requires rooms { HaveRoom above.old }
@@ -96,7 +98,7 @@ fn last_level<'a>(keys: &'a [u64], above: &'a [Vec<u64>]) -> &'a [u64]
     }
 }
 
-// Returns the keys for 0, else the level that stands so many above them.
+// Returns the level that stands `place` levels above the keys, for 0 the keys themselves.
 fn level_at<'a>(keys: &'a [u64], above: &'a [Vec<u64>], place: usize) -> &'a [u64]
     requires { place ≤ length above.now }
     ensures { result.now ≡ level_at keys.now above.now place }
@@ -108,7 +110,7 @@ fn level_at<'a>(keys: &'a [u64], above: &'a [Vec<u64>], place: usize) -> &'a [u6
     }
 }
 
-// Adds a level of one key above the last, if that has two. On error the levels stay as they are.
+// Adds a level of one key above the last level, if that has two. On error the levels stay.
 fn raise(keys: &Vec<u64>, above: &mut Vec<Vec<u64>>) -> Result<(), NoMemory>
     requires { AreAbove keys.now.items above.old.items }
     ensures { AreAbove keys.now.items above.new.items }
@@ -137,8 +139,8 @@ fn make_room_above(levels: &mut [Vec<u64>]) -> Result<(), NoMemory>
     make_room_above(above)
 }
 
-// Makes room for one more key, and adds a level of one key above the last, if that has two. The
-// keys stay, also on error.
+// Makes room for one more key at each level. First adds a level of one key above the last level, if
+// that has two. The keys stay, also on error.
 fn make_room(keys: &mut Vec<u64>, above: &mut Vec<Vec<u64>>) -> Result<(), NoMemory>
     requires { AreAbove keys.old.items above.old.items }
     ensures room { OnOk result (vec_len keys.new < vec_capacity keys.new) }
@@ -163,8 +165,8 @@ fn clear_all(levels: &mut [Vec<u64>])
     clear_all(above);
 }
 
-// Returns the index of the first key below a limit. It is in the first pair whose lesser key is
-// below the limit.
+// Returns the index of the first key below a limit. `pair` is the first pair whose lesser key is
+// below it.
 fn first_of_pair(level: &[u64], pair: usize, limit: u64) -> usize
     requires { IsFirstBelow (lesser_of_pairs level.now) limit pair }
     ensures { IsFirstBelow level.now limit result }
@@ -173,7 +175,8 @@ fn first_of_pair(level: &[u64], pair: usize, limit: u64) -> usize
     if level[at] < limit { at } else { at + 1 }
 }
 
-// Returns the index of the first key of a level that is below a limit. Looks at each key up to it.
+// Returns the index of the first key of a level that is below a limit, if there is one. Cost:
+// O(keys of the level).
 fn first_in(level: &[u64], limit: u64) -> Option<usize>
     ensures { MatchOption result
         (All (λ key. limit ≤ key) level.now) (λ at. IsFirstBelow level.now limit at) }
@@ -181,8 +184,8 @@ fn first_in(level: &[u64], limit: u64) -> Option<usize>
     level.iter().position(|key| *key < limit)
 }
 
-// Returns the index of the first key below a limit, if there is one. If there is none, it reads
-// only the last level.
+// Returns the index of the first key below a limit, if there is one: finds it in the last level,
+// and in each level below looks at one pair. If there is none, reads only the last level.
 fn first_below(keys: &[u64], above: &[Vec<u64>], limit: u64) -> Option<usize>
     requires { AreAbove keys.now above.now }
     ensures { MatchOption result

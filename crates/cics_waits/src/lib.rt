@@ -1,8 +1,9 @@
-//! The notes of waiting commands: which command must be looked at, and whose time is over.
+//! Notes of waiting commands: which command must be looked at, and whose task has waited too long.
 //!
-//! `specs/Notes` says what the notes are and how each call changes them, `specs/Filed` how they are
-//! kept so that a look finds the first command at once, `specs/Firsts` a row of keys of which the
-//! first below a limit is found.
+//! - `notes`: the notes, and what each unit blocks. `specs/Notes` says what callers see of them,
+//!   `specs/Filed` how they are stored.
+//! - `firsts`: a row of keys that finds the first key below a limit (`specs/Firsts`). By it notes
+//!   find the first command that must be looked at, and the first deadline that is past.
 #![tactic(auto)]
 
 mod firsts;

@@ -33,7 +33,7 @@ pub struct Note {
     pub label: Name8,
     /// The index of its wait group. `None` if it is in none.
     pub line: Option<usize>,
-    /// If it is in no wait group: its blocker, or `None` if it must be looked at.
+    /// Its blocker, if it is in no wait group and its blocker is known. Else `None`.
     pub blocker: Option<UnitId>,
 }
 
@@ -48,15 +48,15 @@ enum Parked {
 
 /// Notes of the earliest waiting commands, in the order in which the waits began.
 ///
-/// A command's blocker is a unit that it must wait for, as long as that releases nothing. A command
-/// whose blocker isn't known must be looked at. The commands of a wait group, in the code a `line`,
-/// use the same one resource and nothing else, and share their blocker.
+/// A command's blocker is a unit for which it must wait as long as that releases nothing. A command
+/// whose blocker isn't known must be looked at. The commands of a wait group (`line` in the code)
+/// use one resource, the same for all, and nothing else. They share their blocker.
 ///
 /// On `NoMemory` all notes stay as they are.
 ///
 /// Cost: O(log commands) to find the first command that must be looked at, to add a command, to
-/// note its blocker, and to drop it. To forget a unit costs the same for each wait group and each
-/// command in no group that it blocks.
+/// note its blocker, and to drop it. To forget a unit costs as much for each wait group, and each
+/// command in none, that was noted as blocked by it.
 #[derive(Drop)]
 pub struct Notes {
     // The notes, and None for each command that waits no more.
@@ -71,8 +71,8 @@ pub struct Notes {
     members: Vec<BTreeSet<usize>>,
     // What each unit blocks, and perhaps what it blocked before.
     parked: IndexMap<UnitId, Vec<Parked>>,
-    // For each index LOOK if the command must be looked at, and is in no wait group or the first of
-    // its group. Else WAIT, or perhaps LOOK.
+    // For each index LOOK if its command must be looked at, and is in no wait group or the first of
+    // its group. Else WAIT, or LOOK until `first_open` passes over it.
     keys: Firsts,
     // For each index the last clock at which the task hasn't waited too long. u64::MAX if the task
     // may wait without limit, or the command waits no more.
@@ -100,7 +100,7 @@ impl Model for Notes {
 // The key of a command that must be looked at.
 const LOOK: u64 = 0;
 
-// The key of a command that needn't be looked at.
+// The key of every other command.
 const WAIT: u64 = 1;
 
 // Returns the blocker of a note's command, or of its wait group, if it is known.
@@ -166,7 +166,7 @@ fn begin(
     Ok(())
 }
 
-// Adds to the list of what a unit blocks. On error every list keeps what it has.
+// Adds an entry to the list of what a unit blocks. On error every list keeps what it has.
 fn park(
     parked: &mut IndexMap<UnitId, Vec<Parked>>,
     unit: UnitId,
@@ -355,21 +355,21 @@ impl Notes {
         }
     }
 
-    /// Returns how many commands there are notes of.
+    /// Returns how many commands have a note.
     pub fn count(&self) -> usize
         ensures { result ≡ count self.now.rows }
     {
         self.count
     }
 
-    /// Returns true if an eighth of the indexes is more than `waits`, the number of waiting
-    /// commands, plus 1,000. To note all anew then costs little beside the notes of commands that
-    /// wait no more.
+    /// Returns whether most indexes are of commands that wait no more. It is so if an eighth of the
+    /// indexes is more than `waits`, the number of waiting commands, plus 1,000. To clear all notes
+    /// and add them anew then costs little for each command that came and went.
     pub fn have_grown(&self, waits: usize) -> bool {
         self.rows.len() / 8 > waits.saturating_add(1000)
     }
 
-    /// Forgets all notes and wait groups. Takes no memory.
+    /// Drops all notes and wait groups. Takes no memory.
     pub fn clear(&mut self)
         ensures rows { self.new.rows ≡ [] }
         ensures deadlines { self.new.deadlines ≡ [] }
@@ -408,7 +408,7 @@ impl Notes {
         Ok(())
     }
 
-    /// Returns the index and the note of the first command that must be looked at.
+    /// Returns the index and the note of the first command that must be looked at, if there is one.
     pub fn first_open(&mut self) -> Option<(usize, Note)>
         ensures first { IfSome result (λ p. IsFirstOpen self.new p.0 p.1) }
         ensures none { IfNone result (AreClosed self.new.blockers self.new.rows) }
@@ -417,8 +417,8 @@ impl Notes {
         first_shown(self.rows.as_slice(), self.lines.as_slice(), &mut self.keys)
     }
 
-    /// Returns the index of the first note whose deadline is before `now`, if there is one. Its
-    /// task has waited too long.
+    /// Returns the index of the first note whose deadline is below the clock `now`, if there is
+    /// one: its task has waited too long.
     pub fn first_late(&self, now: u64) -> Option<usize>
         ensures { MatchOption result (All (λ key. now ≤ key) self.now.deadlines)
             (λ at. IsFirstBelow self.now.deadlines now at) }
@@ -477,8 +477,8 @@ impl Notes {
     }
 
     /// Forgets a unit, if one is given, as a blocker: it may have released something. The commands
-    /// that it blocked must be looked at again. Returns false only if there are none. Takes no
-    /// memory.
+    /// that it blocked must then be looked at again. Returns false only if it blocked none. Takes
+    /// no memory.
     pub fn forget(&mut self, unit: Option<UnitId>) -> bool
         ensures rows { self.new.rows ≡ map (forgotten unit) self.old.rows }
         ensures blockers { self.new.blockers ≡ map (given_up unit) self.old.blockers }
@@ -504,7 +504,8 @@ impl Notes {
         true
     }
 
-    /// Returns the index of the wait group of a resource. Adds the group if there is none.
+    /// Returns the index of the wait group of a resource. Adds the group, without a command, if
+    /// there is none.
     pub fn line_of(&mut self, resource: Resource) -> Result<usize, NoMemory>
         ensures line { IfOk result (λ g. slice_get self.new.resources g ≡ Some resource) }
         ensures within { IfOk result (λ g. g < length self.new.blockers) }
@@ -541,7 +542,8 @@ impl Notes {
         self.lines[line]
     }
 
-    /// Notes the blocker of the command of the note at an index, which is then in no wait group.
+    /// Notes a unit as the blocker of the command of the note at an index, which leaves its wait
+    /// group, if it is in one.
     pub fn set_alone(&mut self, at: usize, note: &Note, unit: UnitId) -> Result<(), NoMemory>
         requires there { slice_get self.old.rows at ≡ Some (Some note.now) }
         ensures rows { self.new.rows ≡ (if is_ok result
@@ -566,8 +568,8 @@ impl Notes {
         Ok(())
     }
 
-    /// Notes the blocker of a wait group, and puts the command of the note at an index into the
-    /// group. That command is in no other wait group.
+    /// Notes a unit as the blocker of a wait group, and puts the command of the note at an index
+    /// into the group. That command is in no other group.
     pub fn close(
         &mut self,
         at: usize,

@@ -1,4 +1,4 @@
-//! Plain READ, UNLOCK and browses of the tasks of a region.
+//! READ without UPDATE, UNLOCK and browses of the tasks of a region.
 
 ghost use Rattle.std.specs.Prelude.{◌≡◌, ◌<◌, true, is_some, length};
 ghost use Rattle.cics_names.specs.Commands.{length_of};
@@ -133,7 +133,7 @@ impl Dispatcher {
         self.answer(at, resp, plain_reply(condition))
     }
 
-    // Executes READNEXT, forward, or READPREV, back.
+    // Executes READNEXT or READPREV, by the direction.
     pub(super) fn read_on(
         &mut self,
         at: usize,

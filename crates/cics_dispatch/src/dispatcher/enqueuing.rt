@@ -34,7 +34,7 @@ fn free_value(units: &mut Units, unit: Option<UnitId>, value: &[u8])
 }
 
 impl Dispatcher {
-    // Acquires the value of an ENQ of the task at an index, unless it must wait.
+    // Acquires the value of an ENQ of the task at an index, unless another unit owns it.
     pub(super) fn take_value(&mut self, at: usize, command: &Command) -> Result<Attempt, NoMemory>
         requires within { at < length self.old.machine.tasks }
         requires awake { IsAwake self.old.machine at }

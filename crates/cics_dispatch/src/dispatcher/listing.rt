@@ -10,15 +10,14 @@ use cics_names::{Items, Name8, NoMemory};
 use cics_units::{Listing, TaskState, Units, plain_replay};
 
 impl Dispatcher {
-    /// Returns the units of work of the region, with the files and queues that they share, their
-    /// history and its outcomes.
+    /// Returns the units of work of the region.
     pub fn units(&self) -> &Units
         ensures { result.now ≡ record { state = self.now.machine.units; store = self.now.store } }
     {
         &self.units
     }
 
-    // Returns what a task of the region does that hasn't ended.
+    // Returns the state of a task that hasn't ended.
     fn task_state(&self, task: &Task) -> TaskState
         ensures { result ≡ task_state self.now.machine task.now }
     {
@@ -45,11 +44,7 @@ impl Dispatcher {
         Ok(tasks)
     }
 
-    /// Returns what stands in the files and queues, the changes of open units included. It also
-    /// returns what each task that hasn't ended does, in the order of attach.
-    ///
-    /// It copies each record and the tasks, and `NoMemory` is its only error. Each task costs one
-    /// look-up of its wait, however many commands wait.
+    /// Returns what stands in the files and queues, and what each task that hasn't ended does.
     pub fn listing(&self) -> Result<Listing, NoMemory>
         ensures { IfOk result (λ listing. listing ≡ region_listing self.now) }
     {
@@ -58,12 +53,7 @@ impl Dispatcher {
         Ok(listing)
     }
 
-    /// Returns the listing that a replay of the surviving entries gives: they are applied anew, one
-    /// by one, to what was loaded. It has no tasks. Uses no before images.
-    ///
-    /// It copies each record, and `NoMemory` is its only error.
-    ///
-    /// Cost: O(log n) for each record loaded and each command executed, for n records in its file.
+    /// Returns the listing that a replay of the surviving entries gives, without tasks.
     pub fn replayed(&self) -> Result<Listing, NoMemory>
         ensures { IfOk result (λ listing. listing ≡ replayed_listing self.now) }
     {

@@ -1,4 +1,4 @@
-//! The commands of the tasks of a region, from the look at what other units hold.
+//! The commands of the tasks of a region: issued, checked, and performed once the checks passed.
 
 ghost use Rattle.std.specs.Prelude.{◌≡◌, ◌<◌, true, false, None, is_some, length, slice_get};
 ghost use Rattle.std.specs.Prelude.{IsTrue, OnErr};
@@ -35,7 +35,7 @@ fn abend_code(code: Option<Name4>) -> AbendCode
 }
 
 impl Dispatcher {
-    // Executes a command of the task at this index that updates nothing.
+    // Executes a command of the task at an index that asks for no updating command.
     fn perform_other(&mut self, at: usize, command: Command) -> Result<Outcome, NoMemory>
         requires within { at < length self.old.machine.tasks }
         requires may { MayPerform self.old.machine at command.verb }
@@ -50,7 +50,8 @@ impl Dispatcher {
         }
     }
 
-    // Executes a command of the task at this index that names a file and updates nothing.
+    // Executes a command of the task at an index that names a file and asks for no updating
+    // command.
     #[inline(never)]
     fn perform_on_file(&mut self, at: usize, command: Command) -> Result<Outcome, NoMemory>
         requires within { at < length self.old.machine.tasks }
@@ -68,7 +69,7 @@ impl Dispatcher {
         }
     }
 
-    // Executes a command of the task at this index that begins, moves or ends a browse. Answers
+    // Executes a command of the task at an index that begins, moves or ends a browse. Answers
     // INVREQ to any other that names a file.
     #[inline(never)]
     fn perform_on_browse(&mut self, at: usize, mut command: Command) -> Result<Outcome, NoMemory>
@@ -118,7 +119,8 @@ impl Dispatcher {
         }
     }
 
-    // Executes a command of the task at this index that names no file and updates nothing.
+    // Executes a command of the task at an index that names no file and asks for no updating
+    // command.
     #[inline(never)]
     fn perform_on_no_file(&mut self, at: usize, command: Command) -> Result<Outcome, NoMemory>
         requires within { at < length self.old.machine.tasks }
@@ -164,8 +166,8 @@ impl Dispatcher {
         Outcome::Replied(plain_reply(Condition::Normal))
     }
 
-    // Performs a command of the task at this index whose checks have passed. `op` is the updating
-    // command that it asks for, taken out of it.
+    // Performs a command of the task at an index whose checks have passed. `op` is the updating
+    // command that it asks for, taken out of it by `take_op`.
     fn perform(&mut self, at: usize, command: Command, op: Option<Op>) -> Result<Outcome, NoMemory>
         requires within { at < length self.old.machine.tasks }
         requires may { MayPerform self.old.machine at (whole command op).verb }
@@ -181,18 +183,11 @@ impl Dispatcher {
         }
     }
 
-    /// Executes a command of the task of a label, which is at this index: it is answered, or it
+    /// Executes a command of the task of a label, which is at an index: it is answered, or it
     /// waits, or its task ends.
     ///
-    /// A condition that neither RESP nor NOHANDLE handles abends the task with the condition's
-    /// default code (chapter on the exceptional conditions).
-    ///
-    /// Errors, in this order:
-    ///
-    /// - `TaskEnded`: the task has ended.
-    /// - `TaskWaiting`: a command of it waits.
-    /// - `NoMemory`, once its checks have passed. UNLOCK, RESETBR, ENDBR, DEQ, SYNCPOINT, ROLLBACK,
-    ///   RETURN and ABEND take no memory.
+    /// Errors, in this order: `TaskEnded`, `TaskWaiting`, and once the command's checks have passed
+    /// `NoMemory`.
     pub fn issue(&mut self, at: usize, label: Name8, command: Command) -> Result<Outcome, Refused>
         requires task { slice_get self.old.machine.tasks at ≡ task_at self.old.machine.tasks label }
         requires within { at < length self.old.machine.tasks }

@@ -31,10 +31,8 @@ impl Dispatcher {
         count
     }
 
-    /// Shuts the region down, and returns how many units were backed out: SHUTDOWN IMMEDIATE.
-    ///
-    /// No command waits any more. Then each task ends, in the order of attach, and its unit of work
-    /// is backed out. After it no unit is open. Takes no memory.
+    /// Shuts the region down, and returns how many units were backed out: SHUTDOWN IMMEDIATE. Takes
+    /// no memory.
     pub fn shut_down(&mut self) -> u64
         ensures machine { with_outcome (Ok result) self.new.machine ≡ shut_down self.old.machine }
         ensures none_open { (u : ℕ) → is_live self.new.machine.units u ≡ false }

@@ -141,8 +141,7 @@ impl Dispatcher {
     }
 
     // Returns false only if the waiting command of a label's task can't be one of a wait group. It
-    // is a function of its own: a resource takes over 255 bytes of the frame, and few looks need
-    // one.
+    // isn't inlined: a resource takes over 255 bytes of the frame, and few looks need one.
     #[inline(never)]
     fn may_be_in_line(&self, notes: &Notes, line: usize, label: &Name8) -> bool
         ensures { result ≡ false → OfWait self.now.machine.waiting label.now
@@ -154,7 +153,7 @@ impl Dispatcher {
         }
     }
 
-    // Returns whether a command of a unit's own task waits that may be one of a wait group.
+    // Returns false only if no command of a wait group is of the unit's own task.
     fn owner_waits_in(&self, notes: &Notes, line: usize, unit: UnitId) -> bool
         ensures { result ≡ false
             → OwnerIsElsewhere self.now.machine notes.now.resources line unit }
@@ -168,8 +167,9 @@ impl Dispatcher {
         self.may_be_in_line(notes, line, &label)
     }
 
-    // Returns whether a unit that blocks a command of a wait group may be noted for all of the
-    // group. It may if it is noted already, or none of the group is of the unit's own task.
+    // Returns whether a unit that blocks one command of a wait group may be noted for the whole
+    // group. It may if it is noted already, or if the group has no blocker noted and no command of
+    // the unit's own task.
     fn may_close(&self, notes: &Notes, line: usize, unit: UnitId) -> bool
         requires { line < length notes.now.blockers }
         ensures { result ≡ true → MayClose self.now.machine
@@ -181,8 +181,8 @@ impl Dispatcher {
         }
     }
 
-    // Notes the blocker of the first command that must be looked at, and of all in its wait group.
-    // On error the command must be looked at again.
+    // Notes the unit that blocks the first command that must be looked at, as the blocker of its
+    // whole wait group if it may. On error the command must be looked at again.
     fn file(&self, notes: &mut Notes, at: usize, note: &Note, unit: UnitId) -> Result<(), NoMemory>
         requires first { IsFirstOpen notes.old at note.now }
         requires kept { AreTasksKept self.now.machine }
@@ -203,8 +203,8 @@ impl Dispatcher {
         }
     }
 
-    // Does the same for a command that uses the resource of a wait group and nothing else. `found`
-    // is the index of its note and the note.
+    // Does as `file`, for a command that uses the resource of the wait group `line` alone. `found`
+    // is the index of its note, and the note.
     fn file_in(
         &self,
         notes: &mut Notes,
@@ -255,8 +255,8 @@ impl Dispatcher {
         Ok(None)
     }
 
-    /// Adds a note of each waiting command that has none, as one that must be looked at. Notes all
-    /// anew if most indexes are of commands that wait no more. On `NoMemory` it adds no more.
+    /// Adds a note of each waiting command that has none, as one that must be looked at. Drops all
+    /// notes first if most of their indexes are empty. On `NoMemory` it adds no more.
     pub(crate) fn note_rest(&self, notes: &mut Notes) -> Result<(), NoMemory>
         requires noted { AreNotedNow self.now.machine notes.old }
         ensures noted { AreNotedNow self.now.machine notes.new }
@@ -349,8 +349,8 @@ impl Dispatcher {
         }
     }
 
-    // Resumes the waiting command of a label's task, the first of `waits` that may resume. The
-    // dispatcher itself has no waits.
+    // Resumes the waiting command of a label's task, the first of `waits` that may resume. `waits`
+    // were taken out of the dispatcher.
     fn go_on_first(&mut self, waits: &Waits, label: Name8) -> Result<Woken, NoMemory>
         requires alone { self.old.machine.waiting ≡ [] }
         requires kept { All (IsWaitKept self.old.machine) waits.now }
@@ -419,8 +419,7 @@ impl Dispatcher {
         }
     }
 
-    // Returns the index of the first task that has waited too long. It looks at each wait up to
-    // that.
+    // Returns the index of the first task that has waited too long, if one has. Cost: O(waits).
     fn first_late_of_all(&self) -> Option<usize>
         ensures task { IfSome result (λ at. slice_get self.now.machine.tasks at
             ≡ first_late self.now.machine self.now.machine.waiting) }
@@ -435,12 +434,10 @@ impl Dispatcher {
         None
     }
 
-    /// Returns the first task that has waited too long, in the order in which the waits began. A
-    /// task has waited too long once the clock is its `dtimout` past the begin of its wait. A
-    /// `dtimout` of 0 is no limit.
+    /// Returns the first task that has waited too long, in the order in which the waits began.
     ///
-    /// The notes are of the earliest waits: the first of them whose deadline is past is the first
-    /// of all. It looks at waits only if there is none, and some waits have no note.
+    /// The notes are of the earliest waits, so the first of them whose deadline is past is the
+    /// first of all. It looks at the waits only if no note is late and some waits have no note.
     pub(crate) fn first_late(&self, notes: &Notes) -> Option<Late>
         requires noted { AreNotedNow self.now.machine notes.now }
         ensures task { IfSome result (λ late. slice_get self.now.machine.tasks late.task

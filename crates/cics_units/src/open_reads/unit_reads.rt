@@ -41,7 +41,7 @@ impl UnitReads {
         }
     }
 
-    // Counts the entries whose files come before this one.
+    // Returns how many entries have files that come before this one.
     fn place(&self, file: &Name8) -> usize
         ensures { result ≡ place_of file.now self.now }
     {
@@ -52,7 +52,7 @@ impl UnitReads {
         at
     }
 
-    // Finds the entry of a file.
+    // Returns the index of the entry of a file, if there is one.
     fn find(&self, file: &Name8) -> Option<usize>
         ensures found { IfSome result (λ at. IsFoundAt file.now self.now at) }
         ensures none { IfNone result (value_at file.now self.now ≡ None) }

@@ -112,7 +112,7 @@ impl PlainStore {
         Ok(store)
     }
 
-    /// WRITE to a file.
+    /// Adds a record to a file, if the file is defined and the key has none: WRITE.
     fn write(&mut self, file: &Name8, key: &Record, from: &Record) -> Result<(), NoMemory>
         ensures { OnOk result (self.new
             ≡ (apply_write self.old file.now key.now from.now
@@ -124,7 +124,7 @@ impl PlainStore {
         records.write(key, from)
     }
 
-    /// REWRITE of a file.
+    /// Replaces a record of a file, if it is there: REWRITE.
     fn rewrite(&mut self, file: &Name8, key: &Record, from: &Record) -> Result<(), NoMemory>
         ensures { OnOk result (self.new
             ≡ (apply_rewrite self.old file.now key.now from.now
@@ -136,7 +136,7 @@ impl PlainStore {
         records.rewrite(key, from)
     }
 
-    /// DELETE from a file.
+    /// Removes a record from a file, if it is there: DELETE.
     fn delete(&mut self, file: &Name8, key: &Record)
         ensures { self.new ≡ (apply_delete self.old file.now key.now
             (value_at file.now self.old.files)).store }
@@ -147,7 +147,7 @@ impl PlainStore {
         records.delete(key);
     }
 
-    /// DELETE GENERIC from a file.
+    /// Removes from a file each record whose key begins with a prefix: DELETE GENERIC.
     fn delete_generic(&mut self, file: &Name8, prefix: &Record)
         ensures { self.new ≡ (apply_delete_generic self.old file.now prefix.now
             (value_at file.now self.old.files)).store }
@@ -168,7 +168,8 @@ impl PlainStore {
         Ok(())
     }
 
-    /// WRITEQ TS: adds an item as the last one, and makes the queue if it is absent.
+    /// Adds an item as the last one, and makes the queue if it is absent: WRITEQ TS. A full queue
+    /// stays as it is.
     fn ts_write(&mut self, queue: &Name8, from: &Record) -> Result<(), NoMemory>
         ensures { OnOk result (self.new
             ≡ (apply_ts_write self.old queue.now from.now
@@ -184,7 +185,7 @@ impl PlainStore {
         items.push(item)
     }
 
-    /// WRITEQ TS REWRITE: replaces an item, if it is there.
+    /// Replaces an item, if it is there: WRITEQ TS REWRITE.
     fn ts_rewrite(&mut self, queue: &Name8, item: u64, from: &Record) -> Result<(), NoMemory>
         ensures { OnOk result (self.new
             ≡ (apply_ts_rewrite self.old queue.now item from.now
@@ -201,7 +202,7 @@ impl PlainStore {
         Ok(())
     }
 
-    /// DELETEQ TS: removes the queue, if it is there.
+    /// Removes the queue, if it is there: DELETEQ TS.
     fn ts_delete(&mut self, queue: &Name8)
         ensures { self.new ≡ (apply_ts_delete self.old queue.now
             (ts_queue self.old queue.now)).store }
@@ -215,7 +216,7 @@ impl PlainStore {
         self.temp_storage.remove(queue);
     }
 
-    /// WRITEQ TD: adds a record as the last one, if the queue is defined.
+    /// Adds a record as the last one, if the queue is defined: WRITEQ TD.
     fn td_write(&mut self, queue: &Name4, from: &Record) -> Result<(), NoMemory>
         ensures { OnOk result (self.new
             ≡ (apply_td_write self.old queue.now from.now (value_at queue.now self.old.td)).store) }
@@ -226,7 +227,7 @@ impl PlainStore {
         records.write(from)
     }
 
-    /// READQ TD: removes the first record, if there is one.
+    /// Removes the first record, if there is one: READQ TD.
     fn td_read(&mut self, queue: &Name4)
         ensures { self.new ≡ (apply_td_read self.old queue.now
             (value_at queue.now self.old.td)).store }
@@ -237,7 +238,7 @@ impl PlainStore {
         records.read();
     }
 
-    /// DELETEQ TD: removes all records.
+    /// Removes all records: DELETEQ TD.
     fn td_delete(&mut self, queue: &Name4)
         ensures { self.new ≡ (apply_td_delete self.old queue.now
             (value_at queue.now self.old.td)).store }

@@ -4,7 +4,7 @@ use Rattle.cics_waits.specs.Filed.{IsShown}
 use Rattle.cics_waits.proofs.ShownNotes.{looks}
 use Rattle.cics_waits.proofs.notes.first_shown.Given as goal
 
--- each command that has to be looked at is shown yet
+-- each command that must be looked at still has its key
 abbrev pub invariant-loop-at : goal.invariant-loop-at
 invariant-loop-at l = (ms : List (BTreeSet ℕ)) → IsShown l.rows l.lines ms l.fn.keys → IsShown l.rows l.lines ms l.keys
 

@@ -3,7 +3,7 @@ use Rattle.cics_waits.specs.Filed.{IsShown, IsReopening, IsNotOf}
 use Rattle.cics_waits.specs.declared.notes.Parked.{Parked}
 use Rattle.cics_waits.proofs.notes.reopen.Given as goal
 
--- what stands before this place doesn't wait for the unit any more
+-- what comes before this index isn't blocked by the unit any more
 abbrev pub invariant-loop-place : goal.invariant-loop-place
 invariant-loop-place l = record {
   shown : IsShown l.rows l.lines l.members l.keys;

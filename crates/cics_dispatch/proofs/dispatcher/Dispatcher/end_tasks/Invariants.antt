@@ -5,7 +5,8 @@ use Rattle.cics_dispatch.specs.Shutdown.{units_of, all_ended}
 use Rattle.cics_dispatch.specs.Calls.{KeepsRegion}
 use Rattle.cics_dispatch.proofs.dispatcher.Dispatcher.end_tasks.Given as goal
 
--- the tasks that were passed have ended and have no unit; what comes of the others is what comes of all
+-- the tasks that were passed have ended and have no unit; what comes of the others is what comes of
+-- all
 abbrev pub invariant-loop-at : goal.invariant-loop-at
 invariant-loop-at l = record {
   alone : l.self.machine.waiting ≡ [];

@@ -8,7 +8,7 @@ use Rattle.cics_dispatch.proofs.Looks.{apart_rows}
 use Rattle.cics_dispatch.proofs.WaitTable.{looked_up, is_waiting-number}
 use Rattle.cics_dispatch.proofs.waits.Waits.is_waiting.Goals as goal
 
--- where none waits, none of a label does
+-- if none waits, none of a label does
 none_waits : (es : List (ℕ × Suspended)) (label : Bytes) → length es ≡ 0 → false ≡ is_waiting (values_of es) label
 none_waits [] label none = refl
 none_waits (e ∷ es) label none = absurd (omega arith)

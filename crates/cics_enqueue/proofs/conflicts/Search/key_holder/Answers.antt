@@ -5,7 +5,7 @@ use Rattle.cics_enqueue.specs.Table.{first_of}
 use Rattle.cics_enqueue.proofs.Seeking.{first_cover-none}
 use Rattle.cics_enqueue.proofs.conflicts.Search.key_holder.Goals as goal
 
--- where no prefix is held the key alone can be
+-- if no prefix is owned, only the key can be
 pub returns-then-not-has_prefixes : goal.returns-then-not-has_prefixes
 returns-then-not-has_prefixes c =
     let es = c.args.self.now.table.now.entries in

@@ -9,7 +9,7 @@ returns-then-contains_key-clause-was_free c =
     rw (← c.self.view_is) (is_held-table_of (resource_of c.args.key.now.items) c.args.key.now.items (sym c.requires.key) c.self.inside.table.entries c.self.invariant.keys
     ∙ sym c.contains_key.ensures ∙ c.if-contains_key.true)
 
--- what the unit holds already it doesn't take
+-- what the unit owns already it doesn't acquire
 pub returns-then-contains_key-clause-taken : goal.returns-then-contains_key-clause-taken
 returns-then-contains_key-clause-taken c =
     let r = (resource_of c.args.key.now.items) in

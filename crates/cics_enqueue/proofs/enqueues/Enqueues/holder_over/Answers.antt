@@ -32,7 +32,7 @@ returns-in-FilePrefix-clause-least c = least_if_some _ c.args.self.now c.args.re
     (c.held_with_prefix.ensures.value ∙ ap (λ k. holder_over (named k) c.args.but_not c.args.self.now) (sym c.in-FilePrefix.is)
     ∙ ap (λ r. holder_over r c.args.but_not c.args.self.now) c.resource.view_is)
 
--- where no other unit holds anything, none is in the way
+-- if no other unit owns anything, none is a blocker
 pub returns-then-is_alone-clause-value : goal.returns-then-is_alone-clause-value
 returns-then-is_alone-clause-value c =
     rw (← c.self.view_is) (none_alone (table_of c.self.inside.table.entries) c.args.resource.now c.args.but_not c.self.invariant.in_order

@@ -15,7 +15,7 @@ invariant_of-self c = c.lessen.ensures.kept c.self.inside.owned.entries c.self.i
 pub returns-in-Some : goal.returns-in-Some
 returns-in-Some c = c.lessen.ensures.given c.self.inside.owned.entries c.self.invariant ∙ (λ i. given_back (c.self.view_is i) (resource_of (c.in-Some.ensures.found i)) c.args.unit)
 
--- what isn't in a unit's list the unit doesn't hold
+-- a unit doesn't own what isn't in its list
 unlisted : (es : Entries) (own : Owned) → IsKept es own → (bytes : Bytes) (unit : ℕ) → resource_key (resource_of bytes) ≡ bytes → ((k : Vec ℕ) → k.items ≡ bytes → owns own unit k ≡ false) → given_back (table_of es) (resource_of bytes) unit ≡ table_of es
 unlisted es own kept bytes unit is none = by (lookup (finds bytes) es) refl
   where

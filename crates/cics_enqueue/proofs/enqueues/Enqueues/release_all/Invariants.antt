@@ -3,7 +3,8 @@ use Rattle.cics_enqueue.specs.Kept.{table_of, own_count, IsKept}
 use Rattle.cics_enqueue.specs.Table.{released}
 use Rattle.cics_enqueue.proofs.enqueues.Enqueues.release_all.Given as goal
 
--- entries and keys stay one table, and what the unit gives up of what is left leaves what it gives up of all leaves
+-- entries and keys stay one table. Once the unit has released what is left, the table is as if it
+-- had released all at once
 abbrev pub invariant-loop-key : goal.invariant-loop-key
 invariant-loop-key l = record {
   kept : IsKept l.self-inside.table.entries l.self-inside.owned.entries;

@@ -16,7 +16,7 @@ returns-then-is_some-clause-held c =
     let es = c.self.inside.table.entries in
     ap (option_map seen) (c.in_ok-held.ensures.held ∙ ap (λ b. lookup (finds b) es) c.in_ok-kept.ensures) ∙ sym (held_at-table_of (resource_of key) key (sym c.requires.key) es c.self.invariant.keys) ∙ ap (held_at (resource_of key)) c.self.view_is
 
--- where the unit's list has no room, the entry goes again
+-- if the unit's list has no room, the entry is removed again
 pub invariant_of-self-then-is_err : goal.invariant_of-self-then-is_err
 invariant_of-self-then-is_err c =
     let es = c.self.inside.table.entries in

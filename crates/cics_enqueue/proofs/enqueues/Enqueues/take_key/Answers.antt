@@ -27,7 +27,7 @@ returns-in_err-take_free-clause-full c =
     let p = err_from_is_err_and c.from_residual.result c.from_residual.ensures.1 in
     rw (p.1, p.2) (rw (← c.self.view_is) (rw (not_full (resource_of c.args.key.now.items) c.args.key.now.items (sym c.requires.key) c.self.inside.table.entries c.self.invariant.keys absent) (λ e. cc, λ e. cc)))
 
--- what was free is taken
+-- what was free is acquired
 first_take : (t s u : Table) (o : Option Holding) → option_map seen o ≡ None → s ≡ (if is_some o then t else u) → s ≡ u
 first_take t s u None free new = new
 first_take t s u (Some h) free new = cc

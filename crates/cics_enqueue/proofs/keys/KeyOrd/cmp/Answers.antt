@@ -11,7 +11,7 @@ returns-then-self-other-2 c = rw (← c.self.view_is, ← c.other.view_is) (c.cm
 pub returns-then-self-other-3 : goal.returns-then-self-other-3
 returns-then-self-other-3 c = rw (← c.self.view_is, ← c.other.view_is) (c.cmp-then-self-other-3.ensures ∙ by_third_number _ _ _ _ c.self.invariant c.other.invariant c.if-self-other.false c.if-self-other-2.false c.if-self-other-3.true)
 
--- where all three numbers are equal and no byte lies behind them the lengths decide
+-- if all three numbers are equal and no byte comes behind them, the lengths decide
 pub order_behind-requires : goal.order_behind-requires
 order_behind-requires c = record {
   level = rw (c.as_slice.ensures.value, c.as_slice-2.ensures.value) (by_lengths _ _ _ _ c.self.invariant c.other.invariant c.if-self-other.false c.if-self-other-2.false c.if-self-other-3.false);

@@ -39,14 +39,14 @@ module _ (c : After-reserve_images) where
   abbrev after : Table → UnitsState
   after locks = state_shown c.self.inside.opening c.self.inside.trace.items c.reserve_unit.new.outcomes.items c.reserve_unit.new.commits.items (left locks)
 
-  -- where nothing is taken all is kept
+  -- if nothing is taken all is kept
   kept_same : (locks : Table) → locks ≡ core.table → AreValid (after locks) (left locks).stores locks
   kept_same locks is =
       let u = c.self.inside in
       refused_kept u.opening u.trace.items u.outcomes.items u.commits.items core (left locks) c.self.invariant.0 (same locks is) u.trace.items c.reserve_unit.new.outcomes.items c.reserve_unit.new.commits.items refl
       c.reserve_unit.ensures.outcomes c.reserve_unit.ensures.commits
 
-  -- who holds the value is asked for the unit that acts
+  -- who owns the value is asked for the unit that acts
   over : holder_over (value_of c.args.value.now) (Some c.unit_or_next-acting.result) core.table ≡ holder_over (value_of c.args.value.now) c.args.unit core.table
   over = value_over before core.stores core.table c.self.invariant.0 c.args.unit c.args.value.now c.unit_or_next-acting.result (c.unit_or_next-acting.ensures ∙ ap (unit_or_next c.args.unit) c.as_slice.ensures.value)
 
@@ -77,7 +77,7 @@ returns-in-Err-NoMemory-clause-headline c = kept_headline _ _ _ (kept_same (goal
 pub returns-in-Err-NoMemory-clause-serializable : goal.returns-in-Err-NoMemory-clause-serializable
 returns-in-Err-NoMemory-clause-serializable c = kept_serializable _ _ _ (kept_same (goal.at.returns-in-Err-NoMemory-clause-serializable c).After-reserve_images c.enq.new.self c.in-Err-NoMemory.ensures.err)
 
--- ---- another unit holds the value
+-- ---- another unit owns the value
 -- whom ENQ is asked for is the unit that acts
 abbrev IsOver : ℕ → Option ℕ → List ℕ → Table → Type 0
 IsOver acting unit v t = holder_over (value_of v) (Some acting) t ≡ holder_over (value_of v) unit t
@@ -127,7 +127,7 @@ returns-in-Ok-Some-clause-serializable c =
     let at = goal.at.returns-in-Ok-Some-clause-serializable c in
     kept_serializable _ _ _ (kept_same at.After-reserve_images c.enq.new.self (untaken at.In-Ok-Some))
 
--- ---- the unit holds it the most times
+-- ---- the unit owns it the most times
 full : (c : In-Err-Full) → IsOver c.unit_or_next-acting.result c.args.unit c.args.value.now c.self.inside.core.locks →
     enqueue (state_shown c.self.inside.opening c.self.inside.trace.items c.self.inside.outcomes.items c.self.inside.commits.items (core_value c.self.inside.core)) c.args.unit c.args.value.now ≡ CountFull
 full c over =

@@ -14,7 +14,7 @@ returns-in_default-clause-rows c = rows_none c.args.unit c.args.self.now.rows (s
 pub returns-in_default-clause-blockers : goal.returns-in_default-clause-blockers
 returns-in_default-clause-blockers c = lines_none c.args.unit c.args.self.now.blockers (search rules)
 
--- nothing ever waited for the unit
+-- the unit never blocked a command
 absent : (c : In_default-swap_remove) → lookup (nat_eq c.in-Some.unit) c.self.inside.parked.entries ≡ None
 absent c = sym c.swap_remove.ensures.value ∙ c.in_default-swap_remove.is
 
@@ -34,7 +34,7 @@ returns-in_default-swap_remove-clause-blockers c =
     lines_unnoted c.in-Some.unit u.lines.items none
     ∙ ap (λ o. map (given_up o) u.lines.items) (sym c.in-Some.is) ∙ ap (λ v. map (given_up c.args.unit) v.blockers) c.self.view_is
 
--- what stood in the unit's list is open
+-- what is in the unit's list must be looked at
 module _ (c : After-reopen) where
   there : lookup (nat_eq c.in-Some.unit) c.self.inside.parked.entries ≡ Some c.in-Some-swap_remove.parked
   there = sym c.swap_remove.ensures.value ∙ c.in-Some-swap_remove.is
