@@ -185,7 +185,7 @@ impl Region {
         let was_blocker = self.notes.forget(giving_up(keeps, &outcome, unit));
         let waits = self.dispatcher.is_waiting(&label);
         // It stays so if the command released nothing that another waits for, and doesn't wait.
-        self.is_settled = self.is_settled && !was_blocker && !waits;
+        self.is_settled &= !was_blocker & !waits;
         Ok(outcome)
     }
 

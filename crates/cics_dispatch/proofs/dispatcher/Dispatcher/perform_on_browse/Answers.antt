@@ -1,6 +1,6 @@
 use Rattle.std.proofs.Common.{◌≡◌, ◌∙◌, ap, sym, refl, true, false, None, is_some}
 use Rattle.cics_names.specs.declared.conditions.Condition.TheVariants.{Invreq}
-use Rattle.cics_names.specs.Commands.{file_named, length_of}
+use Rattle.cics_names.specs.Commands.{file_named}
 use Rattle.cics_names.specs.declared.commands.Verb.{Verb}
 use Rattle.cics_names.specs.declared.commands.Verb.TheVariants.{Write, Rewrite, Delete, StartBr, ResetBr, ReadNext, ReadPrev, EndBr}
 use Rattle.cics_dispatch.specs.Calls.{going_on, reading_on, reads_or_unlocks}
@@ -53,15 +53,15 @@ pub returns-in-ReadNext-clause-step : goal.returns-in-ReadNext-clause-step
 returns-in-ReadNext-clause-step c =
     let m = c.args.self.now.machine in
     may_told_as c.args.self.now c.read_on.new.self c.read_on.result c.args.at
-    (reading_on m c.args.command.resp c.in-ReadNext.file (length_of c.args.command.verb) Forward) (going_on m c.args.command None)
-    (λ t there. ap (λ n. reading_on m c.args.command.resp c.in-ReadNext.file n Forward t) (ap length_of c.in-ReadNext.is) ∙ ap (other_command m t c.args.command) (sym c.in-ReadNext.is)) c.read_on.ensures.step
+    (reading_on m c.args.command.resp c.in-ReadNext.file c.in-ReadNext.length Forward) (going_on m c.args.command None)
+    (λ t there. ap (other_command m t c.args.command) (sym c.in-ReadNext.is)) c.read_on.ensures.step
 
 pub returns-in-ReadPrev-clause-step : goal.returns-in-ReadPrev-clause-step
 returns-in-ReadPrev-clause-step c =
     let m = c.args.self.now.machine in
     may_told_as c.args.self.now c.read_on-in-ReadPrev.new.self c.read_on-in-ReadPrev.result c.args.at
-    (reading_on m c.args.command.resp c.in-ReadPrev.file (length_of c.args.command.verb) Back) (going_on m c.args.command None)
-    (λ t there. ap (λ n. reading_on m c.args.command.resp c.in-ReadPrev.file n Back t) (ap length_of c.in-ReadPrev.is) ∙ ap (other_command m t c.args.command) (sym c.in-ReadPrev.is)) c.read_on-in-ReadPrev.ensures.step
+    (reading_on m c.args.command.resp c.in-ReadPrev.file c.in-ReadPrev.length Back) (going_on m c.args.command None)
+    (λ t there. ap (other_command m t c.args.command) (sym c.in-ReadPrev.is)) c.read_on-in-ReadPrev.ensures.step
 
 pub returns : goal.returns
 returns c = record {
