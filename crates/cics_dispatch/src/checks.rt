@@ -32,8 +32,8 @@ fn is_length_given(given: Option<u64>, length: u64) -> bool
     }
 }
 
-// Returns INVREQ if KEYLENGTH isn't the key's length, or the key isn't as long as the file's keys. A
-// GENERIC key may be shorter.
+// Returns INVREQ if KEYLENGTH isn't the key's length, or the key isn't as long as the file's keys.
+// A GENERIC key may be shorter.
 fn key_fault(
     definition: FileDef,
     key: &[u8],
