@@ -105,8 +105,8 @@ abbrev pub state_after : Ending → UnitState
 state_after Commit = Committed
 state_after Backout = BackedOut
 
--- the end of a task's unit, if it has one, by a commit or a backout; every browse of the task ends
--- too, and if has_ended the task
+-- a task's unit ends, if it has one, by a commit or a backout; all its browses end too, and if
+-- has_ended the task
 abbrev pub unit_closed : Machine → Task → UnitState → Bool → Machine
 unit_closed m t outcome has_ended =
     with_task (with_units m (units_after m.units t.unit outcome)) (record t { unit = None; browses = []; has_ended = has_ended })

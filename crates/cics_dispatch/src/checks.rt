@@ -1,4 +1,4 @@
-//! The checks of a command, before it looks at what other units hold.
+//! The checks of a command, before it looks at what other units own.
 
 ghost use Rattle.std.specs.Prelude.{◌≡◌, Some, None, if◌then◌else◌};
 ghost use Rattle.std.specs.Option.{option_copied};
@@ -32,8 +32,8 @@ fn is_length_given(given: Option<u64>, length: u64) -> bool
     }
 }
 
-// Returns INVREQ if KEYLENGTH isn't the key's length, or the key isn't as long as the file's keys. A
-// GENERIC key may be shorter.
+// Returns INVREQ if KEYLENGTH isn't the key's length, or the key isn't as long as the file's keys.
+// A GENERIC key may be shorter.
 fn key_fault(
     definition: FileDef,
     key: &[u8],
@@ -69,7 +69,7 @@ fn used(from: &[u8], length: Option<u64>) -> Option<&[u8]>
 }
 
 // Returns the first fault of a record that is to have a key: LENGERR for its length, then INVREQ if
-// the key in it is another. `None` for the key is INVREQ too: no update read of the file is open.
+// the record has another key. If `key` is `None`, no update read of the file is open: INVREQ too.
 fn record_fault(
     definition: FileDef,
     key: Option<&[u8]>,
@@ -106,7 +106,7 @@ fn deleted_key_fault(
     }
 }
 
-// Returns the first fault of a command of a browse, and None for every other command.
+// Returns the first fault of a command of a browse. None for every other command.
 fn browsing_fault(definition: FileDef, browse: Option<&Browse>, verb: &Verb) -> Option<Condition>
     ensures { result ≡ browsing_fault definition (option_copied browse.entry) verb.now }
 {
@@ -138,15 +138,14 @@ fn browsing_fault(definition: FileDef, browse: Option<&Browse>, verb: &Verb) -> 
     }
 }
 
-/// Returns the first fault of a command on a file that is defined, and `None` for every other
-/// command.
+/// Returns the first fault of a command on a defined file, if it has one.
 ///
 /// `open_key` is the key of the task's open update read of the file, and `browse` its browse of it,
 /// each `None` if there is none.
 ///
 /// The faults come in this order: INVREQ for the options and the length of the key, then LENGERR
 /// for the length of FROM. Then comes INVREQ for the open update read and the browse, and last
-/// INVREQ if the key in the record is another.
+/// INVREQ if the record has another key.
 pub(crate) fn file_fault(
     definition: FileDef,
     open_key: Option<&[u8]>,

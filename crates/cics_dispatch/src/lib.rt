@@ -5,7 +5,7 @@
 //!
 //! - `regions`, `outcomes`: the public calls, and what they return.
 //! - `dispatcher`: the parts of a region, and the step of each command.
-//! - `checks`, `faults`: the checks before a command looks at what other units own.
+//! - `checks`: the checks before a command looks at what other units own.
 //! - `updates`: the updating command (`Op`) that a task's command asks for, if it asks for one.
 //! - `reads`, `replies`: what a command is answered.
 //! - `task`, `tasks`, `browses`, `waits`: what a dispatcher stores.

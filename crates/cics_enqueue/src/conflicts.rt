@@ -47,8 +47,8 @@ pub(crate) fn other_unit(held: Option<&Holding>, asker: &Option<UnitId>) -> Opti
     }
 }
 
-// Sets the bound at which a look-up of what begins with some bytes begins: to these. Were there no
-// room for them, it would be no bytes, and the look-up would go through the whole table.
+// Sets the bound at which a look-up of the table keys that begin with `start` begins. It is
+// `start`, or no bytes if memory is refused: then the look-up goes through the whole table.
 fn set_bound(bound: &mut Key, start: &[u8])
     requires most { length start.now ≤ 265 }
     ensures { has_prefix bound.new.items start.now ≡ true }
@@ -56,7 +56,7 @@ fn set_bound(bound: &mut Key, start: &[u8])
     let _ = bound.set(&[], start);
 }
 
-// Returns whether a prefix of keys may be owned: the bytes of one come before those of all else.
+// Returns false only if no prefix of keys is owned. Its table key would come before all others.
 pub(crate) fn has_prefixes(table: &BTreeMap<Key, Holding>) -> bool
     ensures { OnFalse result ((b : Bytes) → lookup (finds (0 ∷ b)) table.now.entries ≡ None) }
 {
@@ -69,7 +69,7 @@ pub(crate) fn has_prefixes(table: &BTreeMap<Key, Holding>) -> bool
     }
 }
 
-// Bytes without the first.
+// Returns a table key without its kind.
 fn after_kind(bytes: &[u8]) -> &[u8]
     ensures { result.now ≡ drop 1 bytes.now }
 {
@@ -91,8 +91,7 @@ fn lesser_holder(key: &[u8], holder: UnitId, prefix: &[u8], other: UnitId) -> Un
     }
 }
 
-// A search of a table for what units other than the asker own. Each call fills `bound` with the
-// bytes that it looks for.
+// A search of a table for what units other than the asker own.
 #[derive(Clone, Copy)]
 pub(crate) struct Search<'t> {
     pub(crate) table: &'t BTreeMap<Key, Holding>,
@@ -100,7 +99,7 @@ pub(crate) struct Search<'t> {
 }
 
 impl<'t> Search<'t> {
-    // Returns the owner of some bytes.
+    // Returns the owner of the table key with these bytes.
     fn other_holder(&self, bound: &mut Key, bytes: &[u8]) -> Option<UnitId>
         requires most { length bytes.now ≤ 265 }
         ensures { result ≡ others_unit self.now.asker
@@ -109,7 +108,7 @@ impl<'t> Search<'t> {
         other_unit(held_under(self.table, bound, bytes), &self.asker)
     }
 
-    // Returns the bytes and the unit of the first entry that begins with some bytes.
+    // Returns the bytes and the unit of the first entry that begins with `start`.
     fn first_under(&self, bound: &mut Key, start: &[u8]) -> Option<(&'t [u8], UnitId)>
         requires most { length start.now ≤ 265 }
         ensures { option_map (λ p. (p.0.now, p.1)) result
@@ -133,8 +132,8 @@ impl<'t> Search<'t> {
         None
     }
 
-    // Returns the owner of the shortest prefix of keys with which bytes begin, other than these
-    // themselves.
+    // Returns the owner of the shortest prefix of keys with which `bytes` begin and which is
+    // shorter than they.
     pub(crate) fn shorter_holder(
         &self,
         bound: &mut Key,
@@ -174,8 +173,8 @@ impl<'t> Search<'t> {
         Some(lesser_holder(key.0, key.1, prefix.0, prefix.1))
     }
 
-    // Returns the owner of the first resource that conflicts with a key. That is a shorter prefix,
-    // the key, or the prefix with its bytes.
+    // Returns the owner of the first resource that conflicts with a key: a shorter prefix, the key,
+    // or the prefix with its bytes, in this order.
     pub(crate) fn key_holder(&self, bound: &mut Key, file: Name8, key: &[u8]) -> Option<UnitId>
         requires most { length key.now ≤ 255 }
         ensures { result ≡ first_of

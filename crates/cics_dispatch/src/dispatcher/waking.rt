@@ -203,8 +203,8 @@ impl Dispatcher {
         }
     }
 
-    // Does the same for a command that uses the resource of a wait group and nothing else. `found`
-    // is the index of its note and the note.
+    // Does as `file`, for a command that uses the resource of the wait group `line` alone. `found`
+    // is the index of its note, and the note.
     fn file_in(
         &self,
         notes: &mut Notes,
