@@ -23,7 +23,7 @@ use crate::compact::{compact, held, set_resource, set_value};
 use crate::conflicts::{Search, has_prefixes, other_unit};
 use crate::owned::{self, Owned};
 use cics_history::{Resource, UnitId};
-use cics_keys::{Key, Key};
+use cics_keys::Key;
 use cics_names::{Name8, NoMemory};
 use indexmap::IndexMap;
 use std::alloc::{AllocError, Global};
