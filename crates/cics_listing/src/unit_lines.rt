@@ -7,7 +7,7 @@ ghost use Rattle.cics_listing.specs.Serial.{done_lines, unlock_line};
 ghost use Rattle.cics_listing.specs.UnitLines.{lines_at, lines_added};
 
 use cics_history::UnitId;
-use cics_names::{Command, Condition, NoMemory, Verb};
+use cics_names::{Command, Condition, Name8, NoMemory, Record, Verb};
 use cics_script::{push_number, push_str, write_out};
 use cics_units::{Entry, Op, Opening};
 use std::alloc::Global;
@@ -102,6 +102,30 @@ pub fn push_label(out: &mut Vec<u8>, unit: UnitId) -> Result<(), NoMemory>
     push_number(out, unit.number())
 }
 
+// Returns DELETE of a key, or with `generic` of each key that begins with it.
+fn delete_of(file: Name8, key: Record, generic: bool) -> Verb
+    ensures { result ≡ Verb.Delete file (Some key) None generic }
+{
+    Verb::Delete {
+        file,
+        ridfld: Some(key),
+        key_length: None,
+        generic,
+    }
+}
+
+// Returns WRITEQ TS, with REWRITE and ITEM if the number of an item is given.
+fn ts_write_of(queue: Name8, from: Record, item: Option<u64>) -> Verb
+    ensures { result ≡ Verb.WriteqTs queue from None item }
+{
+    Verb::WriteqTs {
+        queue,
+        from,
+        length: None,
+        item,
+    }
+}
+
 // Returns the verb that asks for an updating command. It takes memory for copies of its records.
 fn verb_for(op: &Op) -> Result<Verb, NoMemory>
     ensures { IfOk result (λ verb. verb ≡ verb_for op.now) }
@@ -119,18 +143,8 @@ fn verb_for(op: &Op) -> Result<Verb, NoMemory>
             from: from.copy()?,
             length: None,
         },
-        Op::Delete { file, key } => Verb::Delete {
-            file: *file,
-            ridfld: Some(key.copy()?),
-            key_length: None,
-            generic: false,
-        },
-        Op::DeleteGeneric { file, prefix } => Verb::Delete {
-            file: *file,
-            ridfld: Some(prefix.copy()?),
-            key_length: None,
-            generic: true,
-        },
+        Op::Delete { file, key } => delete_of(*file, key.copy()?, false),
+        Op::DeleteGeneric { file, prefix } => delete_of(*file, prefix.copy()?, true),
         Op::ReadUpdate { file, key } => Verb::Read {
             file: *file,
             ridfld: key.copy()?,
@@ -140,18 +154,8 @@ fn verb_for(op: &Op) -> Result<Verb, NoMemory>
             gteq: false,
             update: true,
         },
-        Op::TsWrite { queue, from } => Verb::WriteqTs {
-            queue: *queue,
-            from: from.copy()?,
-            length: None,
-            item: None,
-        },
-        Op::TsRewrite { queue, item, from } => Verb::WriteqTs {
-            queue: *queue,
-            from: from.copy()?,
-            length: None,
-            item: Some(*item),
-        },
+        Op::TsWrite { queue, from } => ts_write_of(*queue, from.copy()?, None),
+        Op::TsRewrite { queue, item, from } => ts_write_of(*queue, from.copy()?, Some(*item)),
         Op::TsDelete { queue } => Verb::DeleteqTs { queue: *queue },
         Op::TdWrite { queue, from } => Verb::WriteqTd {
             queue: *queue,
