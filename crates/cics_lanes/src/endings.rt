@@ -1,16 +1,21 @@
 //! The endings that runs lead to.
 
 ghost use Rattle.std.specs.Prelude.{◌≡◌, OnOk};
+ghost use Rattle.std.specs.Prelude.{IfOk, map};
 ghost use Rattle.cics_lanes.specs.Endings.{are_same, counted, first_run, place_of, told};
+ghost use Rattle.cics_lanes.specs.Tables.{added, begun_by, joined, summed};
 
 use cics_names::{Items, NoMemory, Record};
+use std::alloc::Global;
 use std::marker::Model;
+use std::rc::Rc;
 
 /// An ending of a script's orders.
 #[derive(Drop)]
 pub struct Ending {
     order: Items<usize>,
-    parts: Items<Record>,
+    // Endings of many tables share them.
+    parts: Rc<Items<Record>>,
     orders: u64,
     serial: u64,
 }
@@ -22,7 +27,7 @@ impl Model for Ending {
 
     ghost view = { λ e. record {
       order = e.order;
-      ending = e.parts;
+      ending = e.parts.value;
       orders = e.orders;
       serial = e.serial;
     } };
@@ -78,6 +83,29 @@ impl Ending {
             self.serial = self.serial.saturating_add(1);
         }
     }
+
+    // Counts the orders of another table that lead to it.
+    fn sum(&mut self, other: &Ending)
+        ensures { self.new ≡ summed self.old other.now }
+    {
+        self.orders = self.orders.saturating_add(other.orders);
+        self.serial = self.serial.saturating_add(other.serial);
+    }
+
+    // Returns the same ending, whose first order a lane begins.
+    fn begun_by(&self, alloc: Global, lane: usize) -> Result<Ending, NoMemory>
+        ensures { IfOk result (λ ending. ending ≡ begun_by lane self.now) }
+    {
+        let mut order = Vec::new(alloc);
+        order.push(lane)?;
+        order.extend_from_slice(self.order.as_slice())?;
+        Ok(Ending {
+            order: Items::from_vec(order),
+            parts: self.parts.clone()?,
+            orders: self.orders,
+            serial: self.serial,
+        })
+    }
 }
 
 // Whether two endings have the same parts.
@@ -99,7 +127,7 @@ fn are_same(parts: &[Record], others: &[Record]) -> bool
 #[derive(Drop)]
 pub(crate) struct Run {
     pub(crate) order: Items<usize>,
-    pub(crate) parts: Items<Record>,
+    pub(crate) parts: Rc<Items<Record>>,
     pub(crate) is_serial: bool,
 }
 
@@ -110,7 +138,7 @@ impl Model for Run {
 
     ghost view = { λ r. record {
       order = r.order;
-      ending = r.parts;
+      ending = r.parts.value;
       is_serial = r.is_serial;
     } };
 }
@@ -141,4 +169,32 @@ pub(crate) fn tell(endings: &mut Vec<Ending>, run: Run) -> Result<(), NoMemory>
             Ok(())
         }
     }
+}
+
+// Adds to a table an ending of another one, whose orders a lane begins.
+fn add(table: &mut Vec<Ending>, lane: usize, ending: &Ending) -> Result<(), NoMemory>
+    ensures { OnOk result (table.new.items ≡ added table.old.items (begun_by lane ending.now)) }
+{
+    match find(table.as_slice(), ending.parts()) {
+        Some(at) => {
+            table[at].sum(ending);
+            Ok(())
+        }
+        None => {
+            let alloc = *table.allocator();
+            table.push(ending.begun_by(alloc, lane)?)?;
+            Ok(())
+        }
+    }
+}
+
+/// Adds to a table all endings of another one, whose orders a lane begins and come later.
+pub(crate) fn join(table: &mut Vec<Ending>, lane: usize, more: &[Ending]) -> Result<(), NoMemory>
+    ensures { OnOk result (table.new.items
+        ≡ joined table.old.items (map (begun_by lane) more.now)) }
+{
+    for i in 0..more.len() {
+        add(table, lane, &more[i])?;
+    }
+    Ok(())
 }

@@ -9,6 +9,7 @@ use crate::endings::{Ending, Run, tell};
 use crate::walks::Walk;
 use cics_names::{Items, NoMemory};
 use std::alloc::Global;
+use std::rc::Rc;
 
 /// Where an order branches off: as far as `depth` it stays as it is, and there `lane` gives.
 #[derive(Clone, Copy)]
@@ -42,7 +43,7 @@ fn branch_at<W: Walk>(walk: &W, depth: usize, lane: usize, before: Option<Branch
 }
 
 // Gives the lines of an order. Returns where it branches off.
-fn retrace<W: Walk>(walk: &mut W, order: &[usize]) -> Result<Option<Branch>, NoMemory>
+pub(crate) fn retrace<W: Walk>(walk: &mut W, order: &[usize]) -> Result<Option<Branch>, NoMemory>
     ensures { IfOk result (λ branch. (n : ℕ) → length order.now ≤ n →
         Reaches W.lanes n walk.old order.now walk.new order.now branch) }
 {
@@ -95,13 +96,13 @@ fn follow<W: Walk>(
 }
 
 // The run of an order that was followed.
-fn run_to<W: Walk>(alloc: Global, walk: &W, order: &[usize]) -> Result<Run, NoMemory>
+pub(crate) fn run_to<W: Walk>(alloc: Global, walk: &W, order: &[usize]) -> Result<Run, NoMemory>
     ensures { IfOk result (λ run. run ≡ run_to W.ending W.serial order.now walk.now) }
 {
     let order = Vec::from_slice(alloc, order)?;
     Ok(Run {
         order: Items::from_vec(order),
-        parts: walk.parts()?,
+        parts: Rc::new(alloc, walk.parts()?)?,
         is_serial: walk.is_serial(),
     })
 }
