@@ -1,12 +1,12 @@
 -- Tables of some orders: a lane's orders are joined to those of the lanes before it.
-use Rattle.std.proofs.Common.{◌≡◌, ◌<◌, ◌≤◌, ◌⊎◌, inl, inr, ℕ, zero, suc, ◌+◌, ◌-◌, Bool, true, false, List, [], ◌∷◌, ◌++◌, map, length, refl, ap, sym, ◌∙◌, arith, append-nil, append_assoc, length-append, subst, take}
+use Rattle.std.proofs.Common.{◌≡◌, ◌<◌, ◌⊎◌, inl, inr, ℕ, zero, suc, ◌+◌, Bool, true, false, List, [], ◌∷◌, ◌++◌, map, length, get_or, take, refl, ap, sym, ◌∙◌, arith, append-nil, length-append, subst}
 use Rattle.std.proofs.lemmas.Grind.{flat_map-append}
-use Rattle.std.proofs.lemmas.List.{length-map}
+use Rattle.std.proofs.lemmas.List.{length-map, take_more}
 use Rattle.std.proofs.lemmas.Bool.{true≢false}
 use Rattle.cics_lanes.specs.Orders.{Order, Lanes, after, orders as all_orders, led_by, led_by_any}
-use Rattle.cics_lanes.specs.Endings.{Parts, Reported, kept_number, report, run_to}
+use Rattle.cics_lanes.specs.Endings.{Parts, Reported, report, run_to}
 use Rattle.cics_lanes.specs.Reports.{runs}
-use Rattle.cics_lanes.specs.Tables.{joined, begun_by, found, AreAmong, IsTable, Joins, lanes_left, order_count}
+use Rattle.cics_lanes.specs.Tables.{joined, begun_by, found, AreAmong, IsTable, Joins, JoinsSome, lanes_left}
 use Rattle.cics_lanes.proofs.Branching.{some_order}
 use Rattle.cics_lanes.proofs.Tables.{report_joined, report_led, runs_led, runs_both}
 
@@ -20,6 +20,11 @@ pub among_none : {X : Type 0} (xs : List X) → AreAmong [] xs
 among_none [] = refl
 among_none (x ∷ xs) = inl (among_none xs)
 
+pub among_front : {X : Type 0} (n : ℕ) (xs : List X) → AreAmong (take n xs) xs
+among_front zero xs = among_none xs
+among_front (suc n) [] = refl
+among_front (suc n) (x ∷ xs) = inr (take n xs, refl, among_front n xs)
+
 among_both : {X : Type 0} (xs ys us vs : List X) → AreAmong xs us → AreAmong ys vs → AreAmong (xs ++ ys) (us ++ vs)
 among_both xs ys [] vs none is = subst (λ zs. AreAmong (zs ++ ys) vs) (sym none) is
 among_both xs ys (u ∷ us) vs (inl rest) is = inl (among_both xs ys us vs rest is)
@@ -31,6 +36,10 @@ among_map f xs (u ∷ us) (inl rest) = inl (among_map f xs us rest)
 among_map f xs (u ∷ us) (inr (more, at, rest)) = inr (map f more, ap (map f) at, among_map f more us rest)
 
 -- ---- The lanes so far
+
+-- one lane more
+pub lanes_on : (ls : List ℕ) (i l : ℕ) → i < length ls → l ≡ get_or ls i l → take (i + 1) ls ≡ take i ls ++ l ∷ []
+lanes_on ls i l short is = take_more ls i l short ∙ ap (λ k. take i ls ++ k ∷ []) (sym is)
 
 -- a table reports some orders that these lanes begin, and all if it is whole
 pub record IsPart {S : Type 0} (lanes : Lanes S) (ending : S → Parts) (serial : S → Bool) (n : ℕ) (s : S) (ls : List ℕ) (is_whole : Bool) (table : List Reported) : Type 0 where
@@ -60,11 +69,11 @@ module _ {S : Type 0} (lanes : Lanes S) (ending : S → Parts) (serial : S → B
       ∙ ap report (sym (runs_both lanes ending serial s os (map (λ o. l ∷ o) ps)))
 
   -- the first lane
-  pub part_first : (n : ℕ) (s : S) (l : ℕ) (b : Bool) (new : List Reported) (joins : Joins lanes ending serial n s l b [] new) → 0 < length joins.orders →
+  pub part_first : (n : ℕ) (s : S) (l : ℕ) (b : Bool) (new : List Reported) → JoinsSome lanes ending serial n s l b [] new →
       IsPart lanes ending serial n s (l ∷ []) b new
-  part_first n s l b new joins some = record {
+  part_first n s l b new first = let joins = first.joins in record {
     orders = map (λ o. l ∷ o) joins.orders;
-    some = omega (arith, some, length-map joins.orders (λ o. l ∷ o));
+    some = omega (arith, first.some, length-map joins.orders (λ o. l ∷ o));
     among = subst (AreAmong (map (λ o. l ∷ o) joins.orders)) (sym (led_more n s [] l)) (among_map (λ o. l ∷ o) joins.orders (all_orders lanes n (lanes.given s l)) joins.among);
     reports = reports_more s l [] joins.orders [] new refl joins.joins;
     whole = λ is. ap (map (λ o. l ∷ o)) (joins.whole is) ∙ sym (led_more n s [] l);
@@ -122,16 +131,16 @@ module _ {S : Type 0} (lanes : Lanes S) (ending : S → Parts) (serial : S → B
 
   -- a table of the state after a line is joined
   pub joins_table : (n : ℕ) (s : S) (l : ℕ) (b : Bool) (old new table : List Reported) → IsTable lanes ending serial n (lanes.given s l) b table →
-      new ≡ joined old (map (begun_by l) table) → (joins : Joins lanes ending serial n s l b old new) × (0 < length joins.orders)
-  joins_table n s l b old new table at is = (
-    record {
+      new ≡ joined old (map (begun_by l) table) → JoinsSome lanes ending serial n s l b old new
+  joins_table n s l b old new table at is = record {
+    joins = record {
       orders = at.orders;
       among = at.among;
       joins = is ∙ ap (λ t. joined old (map (begun_by l) t)) at.reports;
       whole = at.whole;
-    },
-    at.some,
-  )
+    };
+    some = at.some;
+  }
 
   -- what is found in a state is a table of it
   pub table_found : (n : ℕ) (s : S) (b : Bool) (table : List Reported) → table ≡ found lanes ending serial n s → IsTable lanes ending serial n s b table

@@ -1,5 +1,5 @@
 -- Tables that are joined: the report of some runs and of later ones is that of all.
-use Rattle.std.proofs.Common.{◌≡◌, ◌<◌, ℕ, zero, suc, ◌+◌, length, get_or, slice_set, Option, Some, None, Bool, true, false, not, ◌&&◌, ◌||◌, cond, List, [], ◌∷◌, ◌++◌, map, refl, ap, sym, ◌∙◌, arith, append-nil, append_assoc, subst, sum_by, length-append}
+use Rattle.std.proofs.Common.{◌≡◌, ◌<◌, ℕ, zero, suc, ◌+◌, length, get_or, slice_set, Option, Some, None, Bool, true, false, not, ◌&&◌, ◌||◌, cond, List, [], ◌∷◌, ◌++◌, map, refl, ap, sym, ◌∙◌, arith, append-nil, append_assoc, subst, sum_by, length-append, zero-add}
 use Rattle.std.specs.Prelude.{if◌then◌else◌, filter}
 use Rattle.std.specs.List.{fold, list_any, count_by}
 use Rattle.std.proofs.lemmas.Bool.{true≢false, false≢true, or_parts, or_left, or_right}
@@ -240,7 +240,8 @@ report_joined rs ss =
 
 -- ---- How many runs
 
-total : List Reported → ℕ
+-- how many orders lead to these endings, all told
+abbrev total : List Reported → ℕ
 total [] = 0
 total (f ∷ fs) = f.orders + total fs
 
@@ -261,7 +262,9 @@ count_from n (f ∷ fs) kept =
 
 -- the orders of all endings are all runs
 pub order_count_all : (rs : List Run) → order_count (report rs) ≡ kept_number (length rs)
-order_count_all rs = count_from 0 (report rs) refl ∙ by_runs (λ ss. kept_number (total (report ss)) ≡ kept_number (length ss)) more [] rs refl
+order_count_all rs =
+    count_from 0 (report rs) refl
+    ∙ (ap kept_number (zero-add (total (report rs))) ∙ by_runs (λ ss. kept_number (total (report ss)) ≡ kept_number (length ss)) more [] rs refl)
   where
     more : (ss : List Run) (s : Run) → kept_number (total (report ss)) ≡ kept_number (length ss) →
         kept_number (total (report (ss ++ s ∷ []))) ≡ kept_number (length (ss ++ s ∷ []))

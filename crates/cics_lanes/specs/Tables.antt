@@ -2,7 +2,7 @@
 use Rattle.std.specs.Prelude.{◌≡◌, ◌<◌, ◌≤◌, ◌⊎◌, ℕ, zero, suc, ◌+◌, Bool, true, if◌then◌else◌, List, [], ◌∷◌, map, length}
 use Rattle.std.specs.List.{fold}
 use Rattle.cics_lanes.specs.Orders.{Order, Lanes, after, orders, orders as all_orders}
-use Rattle.cics_lanes.specs.Endings.{Parts, Reported, are_same, kept_number, report}
+use Rattle.cics_lanes.specs.Endings.{Parts, Reported, are_same, greatest, kept_number, report}
 use Rattle.cics_lanes.specs.Reports.{IsReport, runs}
 use Rattle.cics_lanes.specs.declared.exploring.Report.{Report}
 
@@ -57,6 +57,11 @@ pub record Joins {S : Type 0} (lanes : Lanes S) (ending : S → Parts) (serial :
   pub joins : new ≡ joined old (map (begun_by l) (report (runs lanes ending serial (lanes.given s l) orders)))
   pub whole : is_whole ≡ true → orders ≡ all_orders lanes n (lanes.given s l)
 
+-- To a table at least one order is joined that a lane begins.
+pub record JoinsSome {S : Type 0} (lanes : Lanes S) (ending : S → Parts) (serial : S → Bool) (n : ℕ) (s : S) (l : ℕ) (is_whole : Bool) (old new : List Reported) : Type 0 where
+  pub joins : Joins lanes ending serial n s l is_whole old new
+  pub some : 0 < length joins.orders
+
 -- the lanes that may give if so many lines are left
 abbrev pub lanes_left : {S : Type 0} → Lanes S → ℕ → S → List ℕ
 lanes_left lanes zero s = []
@@ -75,7 +80,7 @@ pub record IsMerged {S : Type 0} (lanes : Lanes S) (ending : S → Parts) (seria
   pub endings : r.endings ≡ report (runs lanes ending serial s kept)
   pub whole : r.is_whole ≡ true → kept ≡ all_orders lanes most s
 
--- if a report is whole, and so many orders can be told, it is that of each order in turn
+-- a whole report is that of each order in turn, unless there are more orders than the greatest number
 abbrev pub IsAsExplored : {S : Type 0} → Lanes S → (S → Parts) → (S → Bool) → ℕ → S → Report → Type 0
 IsAsExplored lanes ending serial most s r =
-    r.is_whole ≡ true → length (all_orders lanes most s) ≤ 18446744073709551615 → IsReport lanes ending serial most 18446744073709551615 s r
+    r.is_whole ≡ true → length (all_orders lanes most s) ≤ greatest → IsReport lanes ending serial most greatest s r

@@ -1,7 +1,6 @@
 //! The endings that runs lead to.
 
-ghost use Rattle.std.specs.Prelude.{◌≡◌, OnOk};
-ghost use Rattle.std.specs.Prelude.{IfOk, map};
+ghost use Rattle.std.specs.Prelude.{◌≡◌, map, IfOk, OnOk};
 ghost use Rattle.cics_lanes.specs.Endings.{are_same, counted, first_run, place_of, told};
 ghost use Rattle.cics_lanes.specs.Tables.{added, begun_by, joined, summed};
 
@@ -16,8 +15,8 @@ pub struct Ending {
     order: Items<usize>,
     // Endings of many tables share them.
     parts: Rc<Items<Record>>,
-    orders: u64,
-    serial: u64,
+    orders: u128,
+    serial: u128,
 }
 
 impl Model for Ending {
@@ -48,15 +47,15 @@ impl Ending {
         self.parts.as_slice()
     }
 
-    /// How many orders lead to it; u64::MAX is that many or more.
-    pub fn orders(&self) -> u64
+    /// How many orders lead to it; u128::MAX is that many or more.
+    pub fn orders(&self) -> u128
         ensures { result ≡ self.now.orders }
     {
         self.orders
     }
 
-    /// How many serial orders lead to it; u64::MAX is that many or more.
-    pub fn serial(&self) -> u64
+    /// How many serial orders lead to it; u128::MAX is that many or more.
+    pub fn serial(&self) -> u128
         ensures { result ≡ self.now.serial }
     {
         self.serial
@@ -70,7 +69,7 @@ impl Ending {
             order: run.order,
             parts: run.parts,
             orders: 1,
-            serial: u64::from(run.is_serial),
+            serial: u64::from(run.is_serial) as u128,
         }
     }
 

@@ -23,8 +23,8 @@ pub(crate) struct Branch {
 pub struct Report {
     /// The endings, in the order of their first orders.
     pub endings: Items<Ending>,
-    /// How many orders were followed.
-    pub orders: u64,
+    /// How many orders were followed; u128::MAX is that many or more.
+    pub orders: u128,
     /// Whether these are all orders.
     pub is_whole: bool,
 }
@@ -131,7 +131,7 @@ pub fn explore<W: Walk>(alloc: Global, walk: &mut W, limit: u64) -> Result<Repor
         let Some(branch) = branch else {
             return Ok(Report {
                 endings: Items::from_vec(endings),
-                orders: told + 1,
+                orders: told as u128 + 1,
                 is_whole: true,
             });
         };
@@ -140,7 +140,7 @@ pub fn explore<W: Walk>(alloc: Global, walk: &mut W, limit: u64) -> Result<Repor
     }
     Ok(Report {
         endings: Items::from_vec(endings),
-        orders: limit,
+        orders: limit as u128,
         is_whole: false,
     })
 }

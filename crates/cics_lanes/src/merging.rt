@@ -5,17 +5,20 @@ ghost use Rattle.std.specs.Prelude.{IfOk, OnOk, IfSome, length};
 ghost use Rattle.cics_lanes.specs.Orders.{Order, after};
 ghost use Rattle.cics_lanes.specs.Endings.{report, run_to};
 ghost use Rattle.cics_lanes.specs.Tables.{found, lanes_left, order_count};
-ghost use Rattle.cics_lanes.specs.Tables.{IsKept, IsTable, Joins, IsMerged, IsAsExplored};
+ghost use Rattle.cics_lanes.specs.Tables.{IsKept, IsTable, Joins, JoinsSome, IsMerged, IsAsExplored};
 ghost use Rattle.cics_lanes.specs.Searches.{AreKept, GoesOn};
 
 use crate::endings::{Ending, join, tell};
-use crate::exploring::{Report, retrace, run_to};
+use crate::exploring::{Report, explore, retrace, run_to};
 use crate::walks::{Merge, Walk};
 use cics_names::{Items, NoMemory};
 use std::alloc::Global;
 
 // How many chains the kept tables are in.
 const CHAINS: usize = 65536;
+
+// How many lines an order may have at most in a search with tables: each takes room on the stack.
+const MOST_LINES: usize = 2000;
 
 // The table of a state, and what is compared of the state.
 #[derive(Drop)]
@@ -140,9 +143,10 @@ fn keep<W: Merge>(search: &mut Search<W::Key>, kept: Kept<W::Key>) -> Result<(),
         IsKept W.lanes W.ending W.serial W.is_key s kept.left kept.key kept.table.items) →
         AreKept W.lanes W.ending W.serial W.is_key s search.new.tables.kept.items) }
 {
-    if search.is_whole {
-        search.tables.keep(kept)?;
+    if !search.is_whole {
+        return Ok(());
     }
+    search.tables.keep(kept)?;
     Ok(())
 }
 
@@ -232,9 +236,9 @@ fn join_lane<W: Merge>(
         search.old.tables.kept.items }
     ensures { OnOk result (GoesOn W.lanes W.ending W.serial W.is_key
         (W.start walk.old) (W.start walk.new) search.old search.new
-        × (joins : Joins W.lanes W.ending W.serial
+        × JoinsSome W.lanes W.ending W.serial
         (search.old.lines - suc (length search.old.order.items)) walk.old lane
-        search.new.is_whole table.old.items table.new.items) × (0 < length joins.orders)) }
+        search.new.is_whole table.old.items table.new.items) }
 {
     let depth = search.order.len();
     let left = search.lines - depth - 1;
@@ -291,10 +295,10 @@ fn join_other<W: Merge>(
 }
 
 // Returns how many orders lead to endings.
-fn count(endings: &[Ending]) -> u64
+fn count(endings: &[Ending]) -> u128
     ensures { result ≡ order_count endings.now }
 {
-    let mut count = 0u64;
+    let mut count = 0u128;
     for i in 0..endings.len() {
         count = count.saturating_add(endings[i].orders());
     }
@@ -305,7 +309,8 @@ fn count(endings: &[Ending]) -> u64
 /// Returns the endings that the orders lead to.
 ///
 /// If the report is whole, it is that of `explore` without a limit. Once tables of `limit` states
-/// are kept, it leaves out all lanes but the first. Then the endings are those of some orders.
+/// are kept, it leaves out all lanes but the first. Then the endings are those of some orders. If
+/// orders may have more than 2,000 lines, follows each order in turn, at most `limit`.
 ///
 /// Errors: `NoMemory`.
 ///
@@ -317,9 +322,14 @@ pub fn explore_merged<W: Merge>(alloc: Global, walk: &mut W, limit: u64) -> Resu
         (W.most (W.start walk.old)) (W.start walk.old) report) }
 {
     walk.restart()?;
+    let lines = walk.line_count();
+    if lines > MOST_LINES {
+        let report = explore(alloc, walk, limit.max(1))?;
+        return Ok(report);
+    }
     let mut search = Search {
         order: Vec::new(alloc),
-        lines: walk.line_count(),
+        lines,
         tables: Tables::new(alloc)?,
         limit,
         is_whole: true,
