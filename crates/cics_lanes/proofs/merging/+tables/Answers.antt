@@ -31,7 +31,7 @@ table_at-join_lane-requires g t c =
     let lanes = c.in_ok-lanes.lanes in
     let some = is_some lanes.items c.is_empty.result (c.is_empty.ensures ∙ ap (λ k. k == 0) lanes.ok.0) c.if-is_empty.false in
     let left = some_left w.lanes (old.lines - length old.order.items) c.args.walk.now lanes.items c.in_ok-lanes.ensures some in
-    (?, c.requires.at, omega (arith, left), c.requires.kept)
+    (omega arith, (c.requires.at, (omega (arith, left), c.requires.kept)))
 
 -- the first lane
 pub table_at-loop-i-init : goal.table_at-loop-i-init
@@ -57,10 +57,13 @@ table_at-join_other-requires g t c =
     let old = c.args.search.now in
     let lanes = c.in_ok-lanes.lanes in
     let some = is_some lanes.items c.is_empty.result (c.is_empty.ensures ∙ ap (λ k. k == 0) lanes.ok.0) c.if-is_empty.false in
-    let left = some_left w.lanes (old.lines - length old.order.items) c.args.walk.now lanes.items c.in_ok-lanes.ensures some in (
-      ?,
-      omega (arith, left, on.lines, ap length on.order),
-      subst (λ s. AreKept w.lanes w.ending w.serial g.W.Merge.is_key s c.loop-i.search.tables.kept.items) (sym on.start) on.kept,
+    let left = some_left w.lanes (old.lines - length old.order.items) c.args.walk.now lanes.items c.in_ok-lanes.ensures some in
+    let same = ap length on.order in (
+      omega (arith, on.lines, same),
+      (
+        omega (arith, left, on.lines, same),
+        subst (λ s. AreKept w.lanes w.ending w.serial g.W.Merge.is_key s c.loop-i.search.tables.kept.items) (sym on.start) on.kept,
+      ),
     )
 
 -- a lane more
@@ -145,7 +148,10 @@ join_lane-table_at-requires g t c =
     let s = c.args.walk.now in
     let old = c.args.search.now in
     let there = entered w.lanes w.start w.start_stays s c.give.new.self old.order.items c.push.new.self.items c.args.lane c.requires.at c.in_ok-give.ensures c.in_ok-push.ensures.items in
-    (?, there.1, subst (λ u. AreKept w.lanes w.ending w.serial g.W.Merge.is_key u old.tables.kept.items) (sym there.0) c.requires.kept)
+    let fewer : old.lines - length c.push.new.self.items ≡ old.lines - suc (length old.order.items) = left_then old.lines old.order.items c.push.new.self.items c.args.lane c.in_ok-push.ensures.items in (
+      omega (arith, fewer, c.requires.short),
+      (there.1, subst (λ u. AreKept w.lanes w.ending w.serial g.W.Merge.is_key u old.tables.kept.items) (sym there.0) c.requires.kept),
+    )
 
 -- the table is made, and kept if it is whole
 pub join_lane-returns-in_ok-keep : goal.join_lane-returns-in_ok-keep
@@ -198,12 +204,18 @@ join_other-join_lane-requires g t c =
     let w = g.W.Walk in
     let s = w.start c.args.walk.now in
     let value = c.may_branch.ensures.value in
-    let mid = c.may_branch.new.self in (
-      ?,
-      c.in_ok-go_back.ensures.at ∙ ap (λ u. after w.lanes u mid.order.items) (sym c.in_ok-go_back.ensures.start),
-      omega (arith, c.requires.short, ap (λ (r : Search g.row.W-Key.Denot). r.lines) value, ap (λ (r : Search g.row.W-Key.Denot). length r.order.items) value),
-      subst (λ u. AreKept w.lanes w.ending w.serial g.W.Merge.is_key u mid.tables.kept.items) (sym c.in_ok-go_back.ensures.start)
-          (subst (λ (r : Search g.row.W-Key.Denot). AreKept w.lanes w.ending w.serial g.W.Merge.is_key s r.tables.kept.items) (sym value) c.requires.kept),
+    let mid = c.may_branch.new.self in
+    let lines = ap (λ (r : Search g.row.W-Key.Denot). r.lines) value in
+    let order = ap (λ (r : Search g.row.W-Key.Denot). length r.order.items) value in (
+      omega (arith, lines, order),
+      (
+        c.in_ok-go_back.ensures.at ∙ ap (λ u. after w.lanes u mid.order.items) (sym c.in_ok-go_back.ensures.start),
+        (
+          omega (arith, c.requires.short, lines, order),
+          subst (λ u. AreKept w.lanes w.ending w.serial g.W.Merge.is_key u mid.tables.kept.items) (sym c.in_ok-go_back.ensures.start)
+              (subst (λ (r : Search g.row.W-Key.Denot). AreKept w.lanes w.ending w.serial g.W.Merge.is_key s r.tables.kept.items) (sym value) c.requires.kept),
+        ),
+      ),
     )
 
 -- the lane is followed
