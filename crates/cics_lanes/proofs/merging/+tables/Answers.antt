@@ -2,7 +2,7 @@
 use Rattle.std.proofs.Common.{◌≡◌, ◌==◌, ◌<◌, ◌∙◌, ◌-◌, ◌+◌, suc, ap, sym, refl, subst, arith, length, take}
 use Rattle.std.proofs.Math.Seq.{take-length}
 use Rattle.cics_lanes.specs.Orders.{after}
-use Rattle.cics_lanes.specs.Tables.{found}
+use Rattle.cics_lanes.specs.Tables.{found, JoinsSome}
 use Rattle.cics_lanes.specs.Searches.{AreKept}
 use Rattle.cics_lanes.specs.declared.merging.Search.{Search}
 use Rattle.cics_lanes.proofs.Joining.{IsPart, lanes_on, part_first, part_more, part_all, table_sole, table_found, joins_table}
@@ -47,7 +47,8 @@ table_at-loop-i-init g t c =
     record {
       on = c.in_ok-join_lane.ensures.0;
       part = subst (λ ls. IsPart w.lanes w.ending w.serial n c.args.walk.now ls whole table) (sym (lanes_on lanes.items 0 l some c.index.ensures))
-          (part_first w.lanes w.ending w.serial n c.args.walk.now l whole table ?);
+          (part_first w.lanes w.ending w.serial n c.args.walk.now l whole table
+          (subst (λ t. JoinsSome w.lanes w.ending w.serial n c.args.walk.now l whole t table) c.new-table.ensures.items c.in_ok-join_lane.ensures.1));
     }
 
 pub table_at-join_other-requires : goal.table_at-join_other-requires
@@ -86,7 +87,7 @@ table_at-loop-i-preserved g t c =
     let on = c.in_ok-join_other.ensures.0 in
     record {
       on = goes_on w.lanes w.ending w.serial g.W.Merge.is_key (w.start s) (w.start c.loop-i.walk) (w.start c.join_other.new.walk) old mid new inv.on on;
-      part = subst (λ ls. IsPart w.lanes w.ending w.serial n s ls new.is_whole table) (sym (lanes_on lanes.items c.loop-i.i l ? c.index-in-loop-i.ensures))
+      part = subst (λ ls. IsPart w.lanes w.ending w.serial n s ls new.is_whole table) (sym (lanes_on lanes.items c.loop-i.i l (omega (arith, lanes.ok.0)) c.index-in-loop-i.ensures))
           (part_more w.lanes w.ending w.serial n s (take c.loop-i.i lanes.items) l mid.is_whole new.is_whole so_far table on.whole inv.part
           (joins_as w.lanes w.ending w.serial _ n _ s l new.is_whole so_far table left here c.in_ok-join_other.ensures.1));
     }
@@ -105,7 +106,7 @@ table_at-returns g t c =
     let table = c.loop-i.table.items in
     let some = is_some lanes.items c.is_empty.result (c.is_empty.ensures ∙ ap (λ k. k == 0) lanes.ok.0) c.if-is_empty.false in
     let left = some_left w.lanes n s lanes.items c.in_ok-lanes.ensures some in
-    let ended : c.loop-i.i ≡ length lanes.items = omega (arith, ?) in
+    let ended : c.loop-i.i ≡ length lanes.items = omega (arith, c.loop-i.auto.i-end, lanes.ok.0, some) in
     let all : take c.loop-i.i lanes.items ≡ lanes.items = ap (λ i. take i lanes.items) ended ∙ take-length lanes.items in (
       inv.on,
       part_all w.lanes w.ending w.serial n m s lanes.items whole table (omega (arith, left)) (sym c.in_ok-lanes.ensures) some
