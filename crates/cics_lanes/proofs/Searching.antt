@@ -3,6 +3,7 @@ use Rattle.std.proofs.Common.{◌≡◌, ◌==◌, ◌<◌, ◌≤◌, ℕ, ◌-
 use Rattle.std.proofs.lemmas.Bool.{true≢false}
 use Rattle.std.proofs.lemmas.List.{length-map, length-take-le}
 use Rattle.std.proofs.lemmas.List.Elements.{All-push}
+use Rattle.std.proofs.Math.Dec.{eqb-suc-zero}
 use Rattle.std.proofs.Math.Seq.{take-length, take-append_seam}
 use Rattle.cics_lanes.specs.Orders.{Order, Lanes, after, orders as all_orders}
 use Rattle.cics_lanes.specs.Endings.{Parts, Reported, greatest, kept_number, report, run_to}
@@ -97,7 +98,7 @@ joins_as lanes ending serial n m s t l b old new lines here joins =
 -- the lanes that may give, counted
 pub is_none : (ls : List ℕ) (b : Bool) → b ≡ (length ls == 0) → b ≡ true → ls ≡ []
 is_none [] b is empty = refl
-is_none (l ∷ ls) b is empty = absurd (true≢false (sym empty ∙ is))
+is_none (l ∷ ls) b is empty = absurd (true≢false (sym empty ∙ (is ∙ eqb-suc-zero (length ls))))
 
 pub is_some : (ls : List ℕ) (b : Bool) → b ≡ (length ls == 0) → b ≡ false → 0 < length ls
 is_some [] b is some = absurd (true≢false (sym is ∙ some))

@@ -86,8 +86,7 @@ fn find<'t, W: Merge>(
     key: &W::Key,
 ) -> Option<&'t [Ending]>
     ensures { IfSome result (λ table. (s : W) (o : Order) →
-        All (λ t. IsKept W.lanes W.ending W.serial W.is_key (W.start s) t.left t.key t.table.items)
-        tables.now.kept.items →
+        AreKept W.lanes W.ending W.serial W.is_key (W.start s) tables.now.kept.items →
         W.is_key (after W.lanes (W.start s) o) key.now →
         table.now ≡ found W.lanes W.ending W.serial left (after W.lanes (W.start s) o)) }
 {

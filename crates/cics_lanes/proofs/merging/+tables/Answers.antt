@@ -12,8 +12,8 @@ use Rattle.cics_lanes.proofs.merging.+tables.Goals as goal
 -- ---- table_at
 
 -- no lane may give
-pub table_at-returns-in_ok-table : goal.table_at-returns-in_ok-table
-table_at-returns-in_ok-table g t c =
+pub table_at-returns-then-is_empty : goal.table_at-returns-then-is_empty
+table_at-returns-then-is_empty g t c =
     let w = g.W.Walk in
     let old = c.args.search.now in
     let n = old.lines - length old.order.items in
@@ -31,7 +31,7 @@ table_at-join_lane-requires g t c =
     let lanes = c.in_ok-lanes.lanes in
     let some = is_some lanes.items c.is_empty.result (c.is_empty.ensures ∙ ap (λ k. k == 0) lanes.ok.0) c.if-is_empty.false in
     let left = some_left w.lanes (old.lines - length old.order.items) c.args.walk.now lanes.items c.in_ok-lanes.ensures some in
-    (omega arith, (c.requires.at, (omega (arith, left), c.requires.kept)))
+    λ κs within. (omega arith, (within.0, (within.1, (c.requires.at, (omega (arith, left), c.requires.kept)))))
 
 -- the first lane
 pub table_at-loop-i-init : goal.table_at-loop-i-init
@@ -59,13 +59,9 @@ table_at-join_other-requires g t c =
     let lanes = c.in_ok-lanes.lanes in
     let some = is_some lanes.items c.is_empty.result (c.is_empty.ensures ∙ ap (λ k. k == 0) lanes.ok.0) c.if-is_empty.false in
     let left = some_left w.lanes (old.lines - length old.order.items) c.args.walk.now lanes.items c.in_ok-lanes.ensures some in
-    let same = ap length on.order in (
-      omega (arith, on.lines, same),
-      (
-        omega (arith, left, on.lines, same),
-        subst (λ s. AreKept w.lanes w.ending w.serial g.W.Merge.is_key s c.loop-i.search.tables.kept.items) (sym on.start) on.kept,
-      ),
-    )
+    let same = ap length on.order in
+    let kept = subst (λ s. AreKept w.lanes w.ending w.serial g.W.Merge.is_key s c.loop-i.search.tables.kept.items) (sym on.start) on.kept in
+    λ κs within. (omega (arith, on.lines, same), (within.0, (within.1, (omega (arith, left, on.lines, same), kept))))
 
 -- a lane more
 pub table_at-loop-i-preserved : goal.table_at-loop-i-preserved
@@ -149,14 +145,13 @@ join_lane-table_at-requires g t c =
     let s = c.args.walk.now in
     let old = c.args.search.now in
     let there = entered w.lanes w.start w.start_stays s c.give.new.self old.order.items c.push.new.self.items c.args.lane c.requires.at c.in_ok-give.ensures c.in_ok-push.ensures.items in
-    let fewer : old.lines - length c.push.new.self.items ≡ old.lines - suc (length old.order.items) = left_then old.lines old.order.items c.push.new.self.items c.args.lane c.in_ok-push.ensures.items in (
-      omega (arith, fewer, c.requires.short),
-      (there.1, subst (λ u. AreKept w.lanes w.ending w.serial g.W.Merge.is_key u old.tables.kept.items) (sym there.0) c.requires.kept),
-    )
+    let fewer : old.lines - length c.push.new.self.items ≡ old.lines - suc (length old.order.items) = left_then old.lines old.order.items c.push.new.self.items c.args.lane c.in_ok-push.ensures.items in
+    let kept = subst (λ u. AreKept w.lanes w.ending w.serial g.W.Merge.is_key u old.tables.kept.items) (sym there.0) c.requires.kept in
+    λ κs within. (omega (arith, fewer, c.requires.short), (within.0, (within.1, (there.1, kept))))
 
 -- the table is made, and kept if it is whole
-pub join_lane-returns-in_ok-keep : goal.join_lane-returns-in_ok-keep
-join_lane-returns-in_ok-keep g t c =
+pub join_lane-returns : goal.join_lane-returns
+join_lane-returns g t c =
     let w = g.W.Walk in
     let s = c.args.walk.now in
     let old = c.args.search.now in
@@ -198,7 +193,7 @@ join_other-returns-then-not-may_branch g t c =
     let s = w.start c.args.walk.now in
     let old = c.args.search.now in
     left_out w.lanes w.ending w.serial g.W.Merge.is_key s old c.may_branch.new.self c.may_branch.result (old.lines - suc (length old.order.items))
-    (after w.lanes s old.order.items) c.args.lane c.args.table.now.items c.may_branch.ensures.value c.if-may_branch.false c.requires.kept
+    (after w.lanes s old.order.items) c.args.lane c.args.table.now.items c.may_branch.ensures.value c.if-not-may_branch.true c.requires.kept
 
 pub join_other-join_lane-requires : goal.join_other-join_lane-requires
 join_other-join_lane-requires g t c =
@@ -207,21 +202,15 @@ join_other-join_lane-requires g t c =
     let value = c.may_branch.ensures.value in
     let mid = c.may_branch.new.self in
     let lines = ap (λ (r : Search g.row.W-Key.Denot). r.lines) value in
-    let order = ap (λ (r : Search g.row.W-Key.Denot). length r.order.items) value in (
-      omega (arith, lines, order),
-      (
-        c.in_ok-go_back.ensures.at ∙ ap (λ u. after w.lanes u mid.order.items) (sym c.in_ok-go_back.ensures.start),
-        (
-          omega (arith, c.requires.short, lines, order),
-          subst (λ u. AreKept w.lanes w.ending w.serial g.W.Merge.is_key u mid.tables.kept.items) (sym c.in_ok-go_back.ensures.start)
-              (subst (λ (r : Search g.row.W-Key.Denot). AreKept w.lanes w.ending w.serial g.W.Merge.is_key s r.tables.kept.items) (sym value) c.requires.kept),
-        ),
-      ),
-    )
+    let order = ap (λ (r : Search g.row.W-Key.Denot). length r.order.items) value in
+    let at = c.in_ok-go_back.ensures.at ∙ ap (λ u. after w.lanes u mid.order.items) (sym c.in_ok-go_back.ensures.start) in
+    let kept = subst (λ u. AreKept w.lanes w.ending w.serial g.W.Merge.is_key u mid.tables.kept.items) (sym c.in_ok-go_back.ensures.start)
+    (subst (λ (r : Search g.row.W-Key.Denot). AreKept w.lanes w.ending w.serial g.W.Merge.is_key s r.tables.kept.items) (sym value) c.requires.kept) in
+    λ κs within. (omega (arith, lines, order), (within.0, (within.1, (at, (omega (arith, c.requires.short, lines, order), kept)))))
 
 -- the lane is followed
-pub join_other-returns-in_ok-join_lane : goal.join_other-returns-in_ok-join_lane
-join_other-returns-in_ok-join_lane g t c =
+pub join_other-returns : goal.join_other-returns
+join_other-returns g t c =
     let w = g.W.Walk in
     let s = w.start c.args.walk.now in
     let old = c.args.search.now in

@@ -23,19 +23,19 @@ table_at-requires-clause-kept g c =
     subst (AreKept w.lanes w.ending w.serial g.W.Merge.is_key (w.start c.restart.new.self)) (sym c.in_ok-new.ensures) (All-nil P)
 
 -- each order in turn is reported
-pub returns-in_ok-report-clause-merged : goal.returns-in_ok-report-clause-merged
-returns-in_ok-report-clause-merged g c =
+pub returns-then-lines-gt-MOST_LINES-clause-merged : goal.returns-then-lines-gt-MOST_LINES-clause-merged
+returns-then-lines-gt-MOST_LINES-clause-merged g c =
     let w = g.W.Walk in
     let s = w.start c.args.walk.now in
     let first : w.start c.restart.new.self ≡ s = ap w.start c.in_ok-restart.ensures ∙ w.start_is_start c.args.walk.now in
-    merged_as w.lanes w.ending w.serial (w.most s) c.max.result s c.in_ok-report.report (omega (arith, c.max.ensures)) (omega (arith, c.max.ensures, c.ranges.limit))
+    merged_as w.lanes w.ending w.serial (w.most s) c.max.result s c.in_ok-report.report (omega arith) (omega arith)
     (subst (λ t. IsReport w.lanes w.ending w.serial (w.most t) c.max.result t c.in_ok-report.report) first c.in_ok-report.ensures)
 
-pub returns-in_ok-report-clause-explored : goal.returns-in_ok-report-clause-explored
-returns-in_ok-report-clause-explored g c = λ whole fits.
+pub returns-then-lines-gt-MOST_LINES-clause-explored : goal.returns-then-lines-gt-MOST_LINES-clause-explored
+returns-then-lines-gt-MOST_LINES-clause-explored g c = λ whole fits.
     let w = g.W.Walk in
     let s = w.start c.args.walk.now in
-    as_explored w.lanes w.ending w.serial (w.most s) s _ (returns-in_ok-report-clause-merged g c) whole fits
+    as_explored w.lanes w.ending w.serial (w.most s) s _ (returns-then-lines-gt-MOST_LINES-clause-merged g c) whole fits
 
 -- the table of the start is reported
 pub returns-clause-merged : goal.returns-clause-merged
@@ -44,8 +44,8 @@ returns-clause-merged g c =
     let s = w.start c.args.walk.now in
     let table = c.in_ok-endings.endings.items in
     let whole = c.table_at.new.search.is_whole in
-    let most : c.line_count.result - length c.new.result.items ≡ w.most s
-    = omega (arith, ap length c.new.ensures.items) ∙ (c.line_count.ensures ∙ ap w.most c.in_ok-restart.ensures) in
+    let most : c.line_count-lines.result - length c.new.result.items ≡ w.most s
+    = omega (arith, ap length c.new.ensures.items) ∙ (c.line_count-lines.ensures ∙ ap w.most c.in_ok-restart.ensures) in
     merged_of w.lanes w.ending w.serial (w.most s) s (record { endings = c.from_vec.result; orders = c.count.result; is_whole = whole }) table
     (table_as w.lanes w.ending w.serial _ (w.most s) c.restart.new.self s whole whole table most c.in_ok-restart.ensures (λ is. is) c.in_ok-endings.ensures.1)
     c.from_vec.ensures (c.count.ensures ∙ ap order_count c.as_slice.ensures.value)
