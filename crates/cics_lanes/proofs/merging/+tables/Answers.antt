@@ -1,8 +1,8 @@
 -- A table of a state: of all its lanes, of the first one, and of another one.
-use Rattle.std.proofs.Common.{◌≡◌, ◌==◌, ◌<◌, ◌∙◌, ◌-◌, ◌+◌, suc, ap, sym, refl, subst, arith, length, take}
+use Rattle.std.proofs.Common.{◌≡◌, ◌==◌, ◌<◌, ◌∙◌, ◌-◌, ◌+◌, suc, ap, sym, refl, subst, arith, length, map, take}
 use Rattle.std.proofs.Math.Seq.{take-length}
 use Rattle.cics_lanes.specs.Orders.{after}
-use Rattle.cics_lanes.specs.Tables.{found, JoinsSome}
+use Rattle.cics_lanes.specs.Tables.{begun_by, found, joined, JoinsSome}
 use Rattle.cics_lanes.specs.Searches.{AreKept}
 use Rattle.cics_lanes.specs.declared.merging.Search.{Search}
 use Rattle.cics_lanes.proofs.Joining.{IsPart, lanes_on, part_first, part_more, part_all, table_sole, table_found, joins_table}
@@ -122,14 +122,15 @@ join_lane-returns-in-Some g t c =
     let l = c.args.lane in
     let there = entered w.lanes w.start w.start_stays s c.give.new.self o p l c.requires.at c.in_ok-give.ensures c.in_ok-push.ensures.items in
     let n = old.lines - suc (length o) in
-    let left : c.left-left.result ≡ n = omega (arith, c.len-depth.ensures) in
+    let depth : c.len-depth.result ≡ length o = c.len-depth.ensures ∙ old.order.ok.0 in
+    let left : old.lines - c.len-depth.result - 1 ≡ n = omega (arith, depth) in
     let keyed = subst (λ u. g.W.Merge.is_key u c.in_ok-key.key) there.2 c.in_ok-key.ensures in
     let found_it : c.in-Some.kept.now ≡ found w.lanes w.ending w.serial n (w.lanes.given s l)
     = c.in-Some.ensures s p c.requires.kept keyed
     ∙ (ap (λ k. found w.lanes w.ending w.serial k (after w.lanes (w.start s) p)) left
     ∙ ap (found w.lanes w.ending w.serial n) (sym there.2 ∙ c.in_ok-give.ensures)) in (
       record {
-        order = c.truncate.ensures.items ∙ order_back o p l c.len-depth.result c.in_ok-push.ensures.items c.len-depth.ensures;
+        order = c.truncate.ensures.items ∙ order_back o p l c.len-depth.result c.in_ok-push.ensures.items depth;
         lines = refl;
         start = there.0;
         kept = c.requires.kept;
@@ -160,8 +161,9 @@ join_lane-returns g t c =
     let l = c.args.lane in
     let there = entered w.lanes w.start w.start_stays s c.give.new.self o p l c.requires.at c.in_ok-give.ensures c.in_ok-push.ensures.items in
     let n = old.lines - suc (length o) in
+    let depth : c.len-depth.result ≡ length o = c.len-depth.ensures ∙ old.order.ok.0 in
     let lines : old.lines - length p ≡ n = left_then old.lines o p l c.in_ok-push.ensures.items in
-    let left : c.left-left.result ≡ old.lines - length p = omega (arith, c.len-depth.ensures, lines) in
+    let left : old.lines - c.len-depth.result - 1 ≡ old.lines - length p = omega (arith, depth, lines) in
     let on = c.in_ok-more.ensures.0 in
     let made = c.in_ok-more.ensures.1 in
     let mid = c.table_at.new.search in
@@ -170,18 +172,18 @@ join_lane-returns g t c =
     let mark = ap (λ (r : Search g.row.W-Key.Denot). r.is_whole) value in
     let more = c.in_ok-more.more.items in (
       record {
-        order = ap (λ (r : Search g.row.W-Key.Denot). r.order.items) value ∙ (c.truncate.ensures.items ∙ (ap (take c.len-depth.result) on.order
-            ∙ order_back o p l c.len-depth.result c.in_ok-push.ensures.items c.len-depth.ensures));
+        order = ap (λ (r : Search g.row.W-Key.Denot). r.order.items) value ∙ (c.truncate-2.ensures.items ∙ (ap (take c.len-depth.result) on.order
+            ∙ order_back o p l c.len-depth.result c.in_ok-push.ensures.items depth));
         lines = ap (λ (r : Search g.row.W-Key.Denot). r.lines) value ∙ on.lines;
         start = on.start ∙ there.0;
         kept = c.in_ok-keep.ensures.kept (w.start s) (subst (λ u. AreKept w.lanes w.ending w.serial g.W.Merge.is_key u mid.tables.kept.items) there.0 on.kept)
-            (kept_one w.lanes w.ending w.serial g.W.Merge.is_key (w.start s) c.give.new.self (old.lines - length p) c.left-left.result c.in_ok-key.key p
+            (kept_one w.lanes w.ending w.serial g.W.Merge.is_key (w.start s) c.give.new.self (old.lines - length p) (old.lines - c.len-depth.result - 1) c.in_ok-key.key p
             mid.is_whole more there.2 c.in_ok-key.ensures left made);
         whole = λ is. on.whole (sym mark ∙ is);
       },
-      joins_table w.lanes w.ending w.serial n s l new.is_whole c.args.table.now.items c.join.new.table.items more
+      joins_table w.lanes w.ending w.serial n s l new.is_whole c.args.table.now.items c.join-2.new.table.items more
           (table_as w.lanes w.ending w.serial (old.lines - length p) n c.give.new.self (w.lanes.given s l) mid.is_whole new.is_whole
-          more lines c.in_ok-give.ensures (λ is. sym mark ∙ is) made) c.in_ok-join.ensures,
+          more lines c.in_ok-give.ensures (λ is. sym mark ∙ is) made) (c.in_ok-join-2.ensures ∙ ap (λ es. joined c.args.table.now.items (map (begun_by l) es)) c.as_slice.ensures.value),
     )
 
 -- ---- join_other
