@@ -1,9 +1,9 @@
 -- Tables of some orders: a lane's orders are joined to those of the lanes before it.
-use Rattle.std.proofs.Common.{◌≡◌, ◌<◌, ◌⊎◌, inl, inr, ℕ, zero, suc, ◌+◌, Bool, true, false, List, [], ◌∷◌, ◌++◌, map, length, get_or, take, refl, ap, sym, ◌∙◌, arith, append-nil, length-append, subst}
+use Rattle.std.proofs.Common.{◌≡◌, ◌<◌, inl, inr, ℕ, zero, suc, ◌+◌, Bool, true, false, List, [], ◌∷◌, ◌++◌, map, length, get_or, take, refl, ap, sym, ◌∙◌, arith, append-nil, length-append, subst}
 use Rattle.std.proofs.lemmas.Grind.{flat_map-append}
 use Rattle.std.proofs.lemmas.List.{length-map, take_more}
 use Rattle.std.proofs.lemmas.Bool.{true≢false}
-use Rattle.cics_lanes.specs.Orders.{Order, Lanes, after, orders as all_orders, led_by, led_by_any}
+use Rattle.cics_lanes.specs.Orders.{Order, Lanes, orders as all_orders, led_by, led_by_any}
 use Rattle.cics_lanes.specs.Endings.{Parts, Reported, report, run_to}
 use Rattle.cics_lanes.specs.Reports.{runs}
 use Rattle.cics_lanes.specs.Tables.{joined, begun_by, found, AreAmong, IsTable, Joins, JoinsSome, lanes_left}

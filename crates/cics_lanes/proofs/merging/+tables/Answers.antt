@@ -1,5 +1,5 @@
 -- A table of a state: of all its lanes, of the first one, and of another one.
-use Rattle.std.proofs.Common.{◌≡◌, ◌==◌, ◌<◌, ◌∙◌, ◌-◌, ◌+◌, suc, ap, sym, refl, subst, arith, length, map, take}
+use Rattle.std.proofs.Common.{◌≡◌, ◌==◌, ◌∙◌, ◌-◌, suc, ap, sym, refl, subst, arith, length, map, take}
 use Rattle.std.proofs.Math.Seq.{take-length}
 use Rattle.cics_lanes.specs.Orders.{after}
 use Rattle.cics_lanes.specs.Tables.{begun_by, found, joined, JoinsSome}

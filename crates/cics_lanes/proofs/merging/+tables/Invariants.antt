@@ -1,4 +1,4 @@
-use Rattle.std.proofs.Common.{◌≡◌, ◌+◌, ◌-◌, ◌*◌, suc, length, take}
+use Rattle.std.proofs.Common.{◌+◌, ◌-◌, ◌*◌, suc, length, take}
 use Rattle.cics_lanes.specs.Searches.{GoesOn}
 use Rattle.cics_lanes.proofs.Joining.{IsPart}
 use Rattle.cics_lanes.proofs.merging.+tables.Given as goal

@@ -1,4 +1,4 @@
-use Rattle.std.proofs.Common.{◌≡◌, ◌∙◌, ◌-◌, ap, sym, subst, arith, length, []}
+use Rattle.std.proofs.Common.{◌≡◌, ◌∙◌, ◌-◌, ap, sym, subst, arith, length}
 use Rattle.std.proofs.lemmas.List.Elements.{All-nil}
 use Rattle.cics_lanes.specs.Orders.{after}
 use Rattle.cics_lanes.specs.Tables.{IsKept, order_count}

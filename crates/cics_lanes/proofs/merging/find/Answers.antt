@@ -1,4 +1,4 @@
-use Rattle.std.proofs.Common.{◌≡◌, ◌<◌, ◌∙◌, ap, arith, subst, sym, length, get_or}
+use Rattle.std.proofs.Common.{◌≡◌, ◌<◌, ◌∙◌, ap, arith, subst, sym, length}
 use Rattle.std.proofs.lemmas.List.Elements.{All-get_or}
 use Rattle.cics_lanes.specs.Orders.{after}
 use Rattle.cics_lanes.specs.Tables.{found, IsKept}

@@ -1,5 +1,4 @@
-use Rattle.std.proofs.Common.{◌≡◌, ◌∙◌, ap, arith, length}
-use Rattle.cics_lanes.specs.Orders.{after}
+use Rattle.std.proofs.Common.{◌∙◌, ap, arith, length}
 use Rattle.cics_lanes.proofs.Followed.{start_after}
 use Rattle.cics_lanes.proofs.merging.go_back.Goals as goal
 

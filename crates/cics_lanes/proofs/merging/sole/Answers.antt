@@ -1,4 +1,4 @@
-use Rattle.std.proofs.Common.{◌≡◌, ◌∙◌, ap, ◌∷◌, []}
+use Rattle.std.proofs.Common.{◌∙◌, ap, []}
 use Rattle.cics_lanes.specs.Endings.{run_to, told}
 use Rattle.cics_lanes.proofs.Telling.{told_report}
 use Rattle.cics_lanes.proofs.merging.sole.Goals as goal
