@@ -26,6 +26,7 @@ pub mod PlainOpening
 pub mod PlainTrace
 pub mod TableValues
 mod KeptUnits
+pub mod Packable
 mod ShownUnits
 mod Enqueuing
 pub mod StoreMatched
