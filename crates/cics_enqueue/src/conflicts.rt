@@ -12,7 +12,8 @@ ghost use Rattle.cics_ksds.specs.Prefixes.{has_prefix};
 ghost use Rattle.cics_history.specs.Holding.{is_other};
 ghost use Rattle.cics_enqueue.specs.Table.{first_of};
 
-use crate::compact::{KEY, PREFIX, file_bytes, held_under};
+use crate::borrowed::ResourceRef;
+use crate::compact::{KEY, PREFIX, file_bytes, held, held_under};
 use crate::enqueues::Holding;
 use crate::keys::Key;
 use cics_history::UnitId;
@@ -198,7 +199,7 @@ pub(crate) fn key_holder(
         (others_unit asker.now
         (lookup (finds (0 ∷ length file ∷ (file ++ key.now))) table.now.entries))) }
 {
-    let holder = other_holder(table, bound, file_bytes(KEY, file, key).as_slice(), asker);
+    let holder = other_unit(held(table, bound, &ResourceRef::record(file, key)), asker);
     if !has_prefixes(table) {
         return holder;
     }
@@ -209,10 +210,5 @@ pub(crate) fn key_holder(
     if holder.is_some() {
         return holder;
     }
-    other_holder(
-        table,
-        bound,
-        file_bytes(PREFIX, file, key).as_slice(),
-        asker,
-    )
+    other_unit(held(table, bound, &ResourceRef::prefix(file, key)), asker)
 }
