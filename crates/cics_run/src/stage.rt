@@ -114,6 +114,7 @@ impl Stage {
         }
     }
 
+    // Attaches a task, prints the line of that, and drains the region.
     fn attach(
         &mut self,
         label: Name8,
@@ -126,7 +127,11 @@ impl Stage {
     {
         self.open()?;
         match self {
-            Stage::Running(region) => attach(region, label, transaction, dtimout, out)?,
+            Stage::Running(region) => {
+                let answer = region.attach(label, transaction, dtimout);
+                tell_attached(label, transaction, answer, out)?;
+                go_on(region, out)?;
+            }
             Stage::Opening(_) => unreachable!(),
         }
         Ok(None)
@@ -238,22 +243,6 @@ fn tell_defined(
         Err(DefineFault::NoMemory) => Err(NoMemory),
         Err(fault) => print_fault(number, Fault::Definition(fault), out),
     }
-}
-
-// Attaches a task, prints the line of that, and drains the region.
-fn attach(
-    region: &mut Region,
-    label: Name8,
-    transaction: Name4,
-    dtimout: u64,
-    out: &mut Vec<u8>,
-) -> Result<(), NoMemory>
-    ensures { Happens (task_attached region.old.machine label transaction dtimout) region.new
-        out.old.items out.new.items result }
-{
-    let answer = region.attach(label, transaction, dtimout);
-    tell_attached(label, transaction, answer, out)?;
-    go_on(region, out)
 }
 
 fn tell_attached(
