@@ -43,7 +43,7 @@ read_found key generic gteq (Some found) = if gteq || is_asked_for key generic f
 abbrev pub read_reply : Map Bytes → Bytes → Bool → Bool → Reply
 read_reply records key generic gteq = read_found key generic gteq (first_from records key false)
 
--- what READ without UPDATE is told, no more of the record than LENGTH; any other command INVREQ
+-- what READ is answered if it is executed without UPDATE, cut to LENGTH; INVREQ for another verb
 abbrev pub read_told : Map Bytes → Verb → Reply
 read_told records (Read f key given n generic gteq update) = cut n (read_reply records key generic gteq)
 read_told records verb = plain Invreq

@@ -1,7 +1,7 @@
 //! A region: its tasks and their commands, who waits for whom, time-outs, abends and the shutdown.
 //!
 //! `specs/Machine`, `Checks`, `Steps`, `Waking`, `Shutdown` and `Answers` define a region as a
-//! machine. Each call of `Region` is one step of it. Read the modules in this order:
+//! machine. Each call of `Region` that changes it is one step. Read the modules in this order:
 //!
 //! - `regions`, `outcomes`: the public calls, and what they return.
 //! - `dispatcher`: the parts of a region, and the step of each command.

@@ -53,8 +53,8 @@ fn reply_giving(found: &Record, length: Option<u64>) -> Result<Reply, NoMemory>
     })
 }
 
-/// Returns the reply to a READ without UPDATE, INVREQ to any other command. Only the copy of the
-/// record found takes memory.
+/// Returns the reply to a READ that is executed without UPDATE, and INVREQ for another verb. Only
+/// the copy of the record found takes memory.
 pub(crate) fn read_plain(file: &File, verb: &Verb) -> Result<Reply, NoMemory>
     ensures { IfOk result (λ reply. reply ≡ read_told file.now.records verb.now) }
 {

@@ -30,11 +30,11 @@ use std::marker::Model;
 
 /// The tasks of a region, their waiting commands, and the files, queues and units that they share.
 ///
-/// Each call is one step of the region's machine: it returns the step's outcome, and leaves its
-/// state. After each call two clauses hold:
+/// Each call that changes a region is one step of its machine: it returns the step's outcome, and
+/// leaves its state. After each call two clauses hold:
 ///
 /// - `headline`: files and queues equal a replay of the surviving entries. Those are the executed
-///   commands without those of backed-out units on recoverable files and queues. The replay gives
+///   updating commands without those of backed-out units on recoverable files and queues. The replay gives
 ///   each the answer that it had when it was executed, before LENGTH cut what its task was told.
 /// - `serializable`: committed units are serializable in commit order. What they did to recoverable
 ///   files and queues, unit after unit, gives what would stand there if the open units were backed
@@ -155,10 +155,10 @@ impl Region {
         self.dispatcher.set_clock(now)
     }
 
-    /// Executes a command of the task of a label: it is answered, or it waits, or its task ends.
+    /// Issues a command of the task of a label: it is answered, or it waits, or its task ends.
     ///
-    /// A condition that neither RESP nor NOHANDLE handles abends the task with the condition's
-    /// default code, if it has one (the manual's chapter on the exceptional conditions).
+    /// A condition that neither RESP nor NOHANDLE handles abends the task with its default code, if
+    /// it has one (the manual's chapter on the exceptional conditions).
     ///
     /// Errors, in this order, which change nothing:
     ///

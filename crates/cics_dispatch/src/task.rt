@@ -68,7 +68,7 @@ impl Task {
     }
 
     /// Returns the last clock, in seconds, at which a wait of it that began at `since` isn't too
-    /// long: `since + dtimout - 1`. It is at most `u64::MAX`, and that if it may wait without
+    /// long: `since + dtimout - 1`, or `u64::MAX` if that is less or the task may wait without
     /// limit.
     pub(crate) fn deadline(&self, since: u64) -> u64
         ensures { result ≡ deadline_of self.now since }

@@ -27,7 +27,7 @@ use std::marker::Model;
 pub(crate) struct Tasks {
     rows: IndexMap<Name8, Task>,
     // The index of each open unit's task. A unit that has ended stays, with None, until the map is
-    // full: by its contract, to remove an entry need not free its room. Then the map is filled
+    // full. By the map's contract, removing an entry need not free room. Then the map is filled
     // anew. It has room for twice as many units as tasks, less one, so that is seldom.
     owners: IndexMap<UnitId, Option<usize>>,
     alloc: Global,

@@ -47,8 +47,8 @@ pub(crate) fn other_unit(held: Option<&Holding>, asker: &Option<UnitId>) -> Opti
     }
 }
 
-// Sets the bound at which a look-up of the table keys that begin with `start` begins. It is
-// `start`, or no bytes if memory is refused: then the look-up goes through the whole table.
+// Sets where a look-up of the table keys under `start` begins: at `start`, or at no bytes if memory
+// is refused. Then the look-up goes through the whole table.
 fn set_bound(bound: &mut Key, start: &[u8])
     requires most { length start.now ≤ 265 }
     ensures { has_prefix bound.new.items start.now ≡ true }
@@ -99,7 +99,7 @@ pub(crate) struct Search<'t> {
 }
 
 impl<'t> Search<'t> {
-    // Returns the owner of the table key with these bytes.
+    // Returns the other owner of the table key with these bytes.
     fn other_holder(&self, bound: &mut Key, bytes: &[u8]) -> Option<UnitId>
         requires most { length bytes.now ≤ 265 }
         ensures { result ≡ others_unit self.now.asker
@@ -108,7 +108,8 @@ impl<'t> Search<'t> {
         other_unit(held_under(self.table, bound, bytes), &self.asker)
     }
 
-    // Returns the bytes and the unit of the first entry that begins with `start`.
+    // Returns the bytes and the unit of the first entry that begins with `start` and isn't the
+    // asker's.
     fn first_under(&self, bound: &mut Key, start: &[u8]) -> Option<(&'t [u8], UnitId)>
         requires most { length start.now ≤ 265 }
         ensures { option_map (λ p. (p.0.now, p.1)) result
@@ -132,8 +133,7 @@ impl<'t> Search<'t> {
         None
     }
 
-    // Returns the owner of the shortest prefix of keys with which `bytes` begin and which is
-    // shorter than they.
+    // Returns the other owner of the shortest prefix of keys that is a proper front of `bytes`.
     pub(crate) fn shorter_holder(
         &self,
         bound: &mut Key,
@@ -154,7 +154,7 @@ impl<'t> Search<'t> {
         None
     }
 
-    // Returns the owner of the smallest key or prefix of keys that begins with a prefix.
+    // Returns the other owner of the smallest key or prefix of keys that begins with a prefix.
     pub(crate) fn least_holder(&self, bound: &mut Key, file: Name8, prefix: &[u8]) -> Option<UnitId>
         requires most { length prefix.now ≤ 255 }
         ensures { result ≡ least_shown file prefix.now self.now.asker self.now.table.now.entries }
@@ -173,8 +173,8 @@ impl<'t> Search<'t> {
         Some(lesser_holder(key.0, key.1, prefix.0, prefix.1))
     }
 
-    // Returns the owner of the first resource that conflicts with a key: a shorter prefix, the key,
-    // or the prefix with its bytes, in this order.
+    // Returns the other owner of the first resource that conflicts with a key. The order: a shorter
+    // prefix, the key, the prefix with its bytes.
     pub(crate) fn key_holder(&self, bound: &mut Key, file: Name8, key: &[u8]) -> Option<UnitId>
         requires most { length key.now ≤ 255 }
         ensures { result ≡ first_of

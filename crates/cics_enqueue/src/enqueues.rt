@@ -250,7 +250,7 @@ impl Enqueues {
     /// their own bytes.
     ///
     /// Cost: O(1) if no other open unit has acquired anything. Else O(log resources), for a key
-    /// times its bytes if any prefix is owned. For a prefix that of `held_with_prefix`.
+    /// times its bytes if any prefix is owned, for a prefix as `held_with_prefix`.
     pub fn holder_over(&self, resource: &ResourceRef<'_>, but_not: Option<UnitId>) -> Option<UnitId>
         ensures value { result ≡ holder_over resource.now but_not self.now }
         ensures free { IfNone result (IsFreeBut self.now resource.now but_not) }
@@ -362,7 +362,7 @@ impl Enqueues {
         }
     }
 
-    // Acquires the resource of a key as `take` does. `user` says that it is a user's value.
+    // Acquires the resource of a key as `take` does. `user` says whether it is a user's value.
     fn take_key(&mut self, key: &Key, unit: UnitId, user: bool) -> Result<(), TakeFault>
         requires key { resource_key (resource_of key.now.items) ≡ key.now.items }
         requires user { user ≡ is_user (resource_of key.now.items) }

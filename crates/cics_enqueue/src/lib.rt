@@ -1,12 +1,13 @@
 //! Enqueues: which unit of work owns which resource, and how many times.
 //!
 //! A resource has at most one owner. Conflicting resources, such as a key of a file and a prefix of
-//! it, have the same owner. A unit releases what it owns without a look at what others own.
+//! it, have the same owner. A unit releases what it owns without a look-up of others' resources.
 //!
 //! - `enqueues`: the table of enqueues, with the public calls. The *asker* (`but_not`) is the unit
 //!   that would acquire a resource, `None` if it hasn't begun.
 //! - `borrowed`: a resource whose bytes are borrowed.
-//! - `keys`, `compact`: the *table key* of a resource, its bytes, by which the table is ordered.
+//! - `compact`: the *table key* of a resource (`Key` of `cics_keys`): its bytes, by which the table
+//!   is ordered.
 //! - `conflicts`: look-ups of what conflicts with a resource.
 //! - `owned`: the table keys that each unit acquired.
 //! - `laws`: what holds of each table.

@@ -16,9 +16,8 @@ use cics_names::NoMemory;
 use indexmap::IndexMap;
 use std::alloc::Global;
 
-// For each unit its table keys, in the order in which it acquired them. A key that is released
-// before a later one stays here until the unit ends: to look for it would cost more than to pass
-// over it then.
+// For each unit its table keys, in the order in which it acquired them. A key released before a
+// later one stays until the unit ends. To look for it costs more than to pass over it then.
 pub(crate) type Owned = IndexMap<UnitId, Vec<Key>>;
 
 // Returns true only if no unit but the asker has any keys. May be conservatively false: a unit that

@@ -1,7 +1,7 @@
-//! Keys of at most 265 bytes in byte order, with their first bytes beside them as numbers.
+//! Keys of at most 265 bytes in byte order, each with a key head: its first bytes as numbers.
 //!
 //! `specs/Keys` says which numbers. The order of two keys is that of their bytes, and nearly always
-//! the numbers alone decide it.
+//! their heads alone decide it.
 #![tactic(auto)]
 
 mod keys;

@@ -15,8 +15,8 @@ use crate::ranges::{behind, start_of};
 use cics_names::{Items, NoMemory, Record};
 use std::alloc::Global;
 
-/// Returns where the first record is whose key begins with the prefix, or with `last`, a key that
-/// begins with it, the first one above that. It looks at most at one slot beyond the prefix, and at
+/// Returns where the first record is whose key begins with the prefix. With `last`, a key under it,
+/// that is the first one above `last`. It looks at most at one slot beyond the prefix, and at
 /// one of an interval without records.
 fn next_under(
     definition: FileDef,

@@ -428,6 +428,7 @@ fn is_blank_line(bytes: &[u8]) -> bool
 /// - `NotAscii`: it has a byte that is neither a tab nor printable ASCII.
 /// - The fault of the first token that can't stand where it does.
 /// - `MissingOption`: it is read to its end, and an option that it needs isn't there.
+/// - `BadNumber`: WRITEQ TS has REWRITE, and its ITEM is no number.
 #[inline(never)]
 pub fn read_line(alloc: Global, bytes: &[u8]) -> Result<Line, LineFault>
     ensures { Reads (line bytes.now) result }

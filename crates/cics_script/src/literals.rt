@@ -45,8 +45,8 @@ pub enum Encoding {
     Ebcdic,
 }
 
-// What stands first in the rest of a literal: its last quote or a byte, each with the line after
-// it, or what no literal has.
+// What stands first in the rest of a literal: its last quote, a byte, or what no literal has. The
+// first two come with the line after them.
 enum Piece<'a> {
     End(&'a [u8]),
     Byte(u8, &'a [u8]),
@@ -161,7 +161,7 @@ fn are_plain(bytes: &[u8]) -> bool
     all
 }
 
-// Returns the same as `plain_len`, by one character at a time.
+// Returns the same as `plain_len`, one character at a time.
 fn short_plain_len(bytes: &[u8]) -> usize
     ensures value { result ≡ prefix_len is_plain bytes.now }
     ensures within { result ≤ length bytes.now }

@@ -20,8 +20,8 @@ use cics_names::{Name4, Name8};
 use std::alloc::Global;
 use std::borrow::CowSlice;
 
-// The most options of a line, since none stands twice: READ has nine of its own, more than any
-// other line, and every command has four.
+// The most options of a line. None stands twice. READ has nine of its own, more than any other
+// line. Every command has four.
 const MOST: usize = 13;
 
 /// The options of a line, in their order.

@@ -3,8 +3,8 @@
 //! `next_token` reads any token. `next_word`, `next_value` and `named` are quicker, and read the
 //! tokens of most lines. Their `None` decides nothing: then `next_token` says what stands there.
 //!
-//! A token is *broken* if it can't be read: a byte that begins no token, a literal with a wrong
-//! character or without its last quote, or a number above 64 bits.
+//! A token is *broken* if it can't be read. That is: a byte that begins none, a wrong or open
+//! literal, or a number above 64 bits.
 
 ghost use Rattle.std.specs.Prelude.{◌≡◌, ◌==◌, ◌+◌, ◌-◌, ◌*◌, ◌<◌, ◌≤◌, ◌^◌, Option, Some, None};
 ghost use Rattle.std.specs.Prelude.{ℕ, List};
@@ -197,8 +197,8 @@ fn is_ended(bytes: &[u8]) -> bool
     matches!(bytes.first(), None | Some(b' ' | b'(' | b')'))
 }
 
-/// Returns `meaning` and the line after a word in capitals, if it begins with that whole word.
-/// `meaning` is what a table has for the word. `None` decides nothing: the word may have small
+/// Returns `meaning` and the line after the word `capitals`, if the line begins with that whole
+/// word. `meaning` is what a table has for the word. `None` decides nothing: the word may have small
 /// letters, or a tab after it.
 pub fn named<'a, X: Copy>(bytes: &'a [u8], capitals: &[u8], meaning: X) -> Option<(X, &'a [u8])>
     requires capitals { is_word capitals.now ≡ true }

@@ -241,7 +241,7 @@ fn push_ts_options(out: &mut Vec<u8>, verb: &Verb) -> Result<(), NoMemory>
     }
 }
 
-// REWRITE, and ITEM with the number of the item that is replaced, where one is.
+// Appends REWRITE, and ITEM with the number of the item that is replaced, if there is one.
 fn push_replaced(out: &mut Vec<u8>, item: Option<u64>) -> Result<(), NoMemory>
     ensures { OnOk result (out.new.items
         ≡ out.old.items ++ flat_map option_text (replacing item)) }

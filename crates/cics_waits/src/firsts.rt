@@ -184,8 +184,8 @@ fn first_in(level: &[u64], limit: u64) -> Option<usize>
     level.iter().position(|key| *key < limit)
 }
 
-// Returns the index of the first key below a limit, if there is one: finds it in the last level,
-// and in each level below looks at one pair. If there is none, reads only the last level.
+// Returns the index of the first key below a limit, if there is one. Finds it in the last level,
+// then looks at one pair in each level below. If there is none, reads only the last level.
 fn first_below(keys: &[u64], above: &[Vec<u64>], limit: u64) -> Option<usize>
     requires { AreAbove keys.now above.now }
     ensures { MatchOption result

@@ -183,7 +183,7 @@ impl Dispatcher {
         }
     }
 
-    /// Executes a command of the task of a label, which is at an index: it is answered, or it
+    /// Issues a command of the task of a label, which is at an index: it is answered, or it
     /// waits, or its task ends.
     ///
     /// Errors, in this order: `TaskEnded`, `TaskWaiting`, and once the command's checks have passed
