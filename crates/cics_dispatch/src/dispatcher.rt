@@ -58,8 +58,8 @@ use std::marker::Model;
 /// work that they share.
 ///
 /// Each call that changes it is a step of the region's machine: it returns the step's outcome, and
-/// leaves its state. On error nothing changes. `Region` has calls of the same names, refuses them after a
-/// shutdown, and remembers what looks at waits found.
+/// leaves its state. On error nothing changes. `Region` has calls of the same names, refuses them
+/// after a shutdown, and remembers what looks at waits found.
 #[derive(Drop)]
 pub(crate) struct Dispatcher {
     units: Units,

@@ -34,8 +34,9 @@ use std::marker::Model;
 /// leaves its state. After each call two clauses hold:
 ///
 /// - `headline`: files and queues equal a replay of the surviving entries. Those are the executed
-///   updating commands without those of backed-out units on recoverable files and queues. The replay gives
-///   each the answer that it had when it was executed, before LENGTH cut what its task was told.
+///   updating commands without those of backed-out units on recoverable files and queues. The
+///   replay gives each the answer that it had when it was executed, before LENGTH cut what its task
+///   was told.
 /// - `serializable`: committed units are serializable in commit order. What they did to recoverable
 ///   files and queues, unit after unit, gives what would stand there if the open units were backed
 ///   out. In this order each of these commands that was answered NORMAL has the same answer again.

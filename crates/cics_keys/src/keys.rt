@@ -54,8 +54,8 @@ fn numbers_of(bytes: &[u8]) -> Numbers
     }
 }
 
-/// A table key: the bytes of a resource, and their head. Heads tell nearly all keys apart. In a tree
-/// the head is in the node, and the bytes are elsewhere.
+/// A table key: the bytes of a resource, and their head. Heads tell nearly all keys apart. In a
+/// tree the head is in the node, and the bytes are elsewhere.
 pub struct Key {
     numbers: Numbers,
     bytes: Vec<u8>,
