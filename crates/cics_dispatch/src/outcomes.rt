@@ -112,6 +112,7 @@ impl Refused {
 
 impl From<NoMemory> for Refused {
     ghost use Rattle.std.specs.Prelude.{◌≡◌};
+    ghost use Rattle.cics_dispatch.specs.declared.outcomes.Refused.TheVariants.{};
     ghost use Rattle.cics_dispatch.specs.declared.outcomes.Refused.TheVariants.{NoMemory as Wanting};
 
     ghost from_gives = { λ _ refusal. refusal ≡ Wanting };

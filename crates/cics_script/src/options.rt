@@ -8,7 +8,8 @@ ghost use Rattle.cics_script.specs.Words.{option_words, same, excludes, kind_in}
 ghost use Rattle.cics_script.specs.Tokens.{tokens};
 ghost use Rattle.cics_script.specs.Options.{fault_of, quoted, content_in, allowed};
 ghost use Rattle.cics_script.specs.Options.{Content, Entry, reads, at_option, options};
-ghost use Rattle.cics_script.specs.Views.{view, entries, GivesText, GivesName, GivesContent, GivesValue, GivesEntries};
+ghost use Rattle.cics_script.specs.Views.{view, entries, GivesText, GivesName, GivesContent};
+ghost use Rattle.cics_script.specs.Views.{GivesValue, GivesEntries};
 ghost use Rattle.cics_script.specs.Views.{Opens, Fills, Shuts, HasValue, Enters, Ends, IsNamed};
 
 use crate::faults::LineFault;

@@ -1,5 +1,5 @@
-//! Drives a region by calls, without a script: one task waits for another, and what a rollback leaves is held
-//! against the plain replay. It is the example of docs/CALLING.md.
+//! Drives a region by calls, without a script: one task waits for another, and what a rollback
+//! leaves is compared with the plain replay. It is the example of docs/CALLING.md.
 #![tactic(auto)]
 
 use cics_dispatch::{Outcome, Refused, Region};
@@ -10,7 +10,7 @@ use std::alloc::Global;
 use std::io;
 use std::process::ExitCode;
 
-/// Why the calls came to nothing: a name that is none, a definition or an event that was refused, or memory.
+/// Why the calls stopped: a wrong name, a refused definition or event, or want of memory.
 #[derive(Clone, Copy, Debug)]
 enum Stop {
     Name(NameFault),
@@ -97,7 +97,7 @@ fn second_waits(alloc: Global, region: &mut Region) -> Result<bool, Stop> {
     Ok(outcome == Outcome::Waiting(first))
 }
 
-// T1 takes its delete back, so T2 goes on and deletes the record, which is there again. Whether it did.
+// Rolls T1 back, so T2 resumes and deletes the record, which is there again. Returns whether it did.
 fn second_goes_on(region: &mut Region) -> Result<bool, Stop> {
     region.issue(Name8::new(b"T1")?, rollback())?;
     let second = Name8::new(b"T2")?;
