@@ -201,6 +201,7 @@ fn is_ended(bytes: &[u8]) -> bool
 /// Returns `meaning` and the line after the word `capitals`, if the line begins with that whole
 /// word. `meaning` is what a table has for the word. `None` decides nothing: the word may have
 /// small letters, or a tab after it.
+#[inline(always)]
 pub fn named<'a, X: Copy>(bytes: &'a [u8], capitals: &[u8], meaning: X) -> Option<(X, &'a [u8])>
     requires capitals { is_word capitals.now ≡ true }
     ensures { (rows : List (List ℕ × X)) → lookup capitals.now rows ≡ Some meaning →
