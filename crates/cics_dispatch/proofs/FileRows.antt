@@ -5,7 +5,7 @@ use Rattle.cics_names.specs.Keyed.{Bytes, Map}
 use Rattle.cics_names.specs.declared.conditions.Condition.TheVariants.{Normal, Dsiderr, Notfnd, Duprec, Invreq, Endfile, Lengerr}
 use Rattle.cics_history.specs.State.{OpeningState}
 use Rattle.cics_history.specs.Openings.{nothing_defined, with_file, with_record}
-use Rattle.cics_units.specs.declared.listings.TaskState.TheVariants.{Idle, HasUnit, IsWaiting}
+use Rattle.cics_replay.specs.declared.listings.TaskState.TheVariants.{Idle, HasUnit, IsWaiting}
 use Rattle.cics_dispatch.specs.Replies.{giving}
 use Rattle.cics_dispatch.specs.Machine.{timed_out}
 use Rattle.cics_dispatch.specs.Answers.{tasks_listed}

@@ -6,7 +6,7 @@ use Rattle.cics_names.specs.declared.conditions.Condition.{Condition}
 use Rattle.cics_names.specs.declared.conditions.Condition.TheVariants.{Normal, Lengerr, Qzero, Qbusy, Itemerr, Qiderr}
 use Rattle.cics_history.specs.State.{OpeningState}
 use Rattle.cics_history.specs.Openings.{with_td_record}
-use Rattle.cics_units.specs.declared.listings.TaskState.TheVariants.{Idle, HasUnit}
+use Rattle.cics_replay.specs.declared.listings.TaskState.TheVariants.{Idle, HasUnit}
 use Rattle.cics_dispatch.specs.Replies.{giving}
 use Rattle.cics_dispatch.specs.Answers.{tasks_listed}
 use Rattle.cics_names.specs.declared.commands.Verb.{Verb}

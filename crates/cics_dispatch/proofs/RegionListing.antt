@@ -2,7 +2,7 @@
 use Rattle.std.specs.Prelude.{◌≡◌, ℕ, ◌+◌, zero, suc, Bool, true, false, not, cond, Some, slice_get, take, map, filter, List, [], ◌∷◌, ◌++◌, refl}
 use Rattle.std.proofs.Common.{sym, ap, ◌∙◌, arith, append-nil}
 use Rattle.cics_names.specs.Keyed.{Bytes}
-use Rattle.cics_units.specs.declared.listings.TaskState.{TaskState}
+use Rattle.cics_replay.specs.declared.listings.TaskState.{TaskState}
 use Rattle.cics_dispatch.specs.Machine.{Machine, Task}
 use Rattle.cics_dispatch.specs.Answers.{task_state}
 

@@ -4,7 +4,7 @@ use Rattle.std.specs.Prelude.{◌≡◌, true, false, None, Ok, List, [], ◌∷
 use Rattle.cics_names.specs.Keyed.{Bytes}
 use Rattle.cics_names.specs.declared.conditions.Condition.TheVariants.{Normal, Dsiderr, Invreq, Lengerr, Enqbusy, Qiderr}
 use Rattle.cics_history.specs.Openings.{with_record}
-use Rattle.cics_units.specs.declared.listings.TaskState.TheVariants.{Idle, HasUnit}
+use Rattle.cics_replay.specs.declared.listings.TaskState.TheVariants.{Idle, HasUnit}
 use Rattle.cics_dispatch.specs.Machine.{Machine, timed_out}
 use Rattle.cics_dispatch.specs.Steps.{issued}
 use Rattle.cics_dispatch.specs.Answers.{tasks_listed, may_want}

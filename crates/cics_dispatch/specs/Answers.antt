@@ -4,11 +4,11 @@ use Rattle.std.specs.Prelude.{◌≡◌, Bool, true, false, not, ◌&&◌, if◌
 use Rattle.cics_names.specs.Keyed.{Bytes}
 use Rattle.cics_history.specs.Headline.{IsHeadline}
 use Rattle.cics_history.specs.Serial.{IsSerializable}
-use Rattle.cics_units.specs.Listings.{listing_of}
+use Rattle.cics_replay.specs.Listings.{listing_of}
 use Rattle.cics_history.specs.Holding.{store_of}
-use Rattle.cics_units.specs.declared.listings.Listing.{Listing}
-use Rattle.cics_units.specs.declared.listings.TaskState.{TaskState}
-use Rattle.cics_units.specs.declared.listings.TaskState.TheVariants.{Idle, HasUnit, IsWaiting}
+use Rattle.cics_replay.specs.declared.listings.Listing.{Listing}
+use Rattle.cics_replay.specs.declared.listings.TaskState.{TaskState}
+use Rattle.cics_replay.specs.declared.listings.TaskState.TheVariants.{Idle, HasUnit, IsWaiting}
 use Rattle.cics_dispatch.specs.Machine.{Machine, Task, RegionValue, task_at, is_waiting}
 use Rattle.cics_dispatch.specs.Checks.{fault_of}
 use Rattle.cics_dispatch.specs.Steps.{Stepped, attach_refusal, issue_refusal}

@@ -12,8 +12,8 @@ use Rattle.cics_dispatch.specs.declared.outcomes.Refused.{Refused}
 use Rattle.cics_dispatch.specs.declared.outcomes.Woken.{Woken}
 use Rattle.cics_dispatch.specs.declared.outcomes.Expired.{Expired}
 use Rattle.cics_history.specs.State.{OpeningState}
-use Rattle.cics_units.specs.Faults.{fault_number}
-use Rattle.cics_units.specs.declared.opening.DefineFault.{DefineFault}
+use Rattle.cics_opening.specs.Faults.{fault_number}
+use Rattle.cics_opening.specs.declared.opening.DefineFault.{DefineFault}
 use Rattle.cics_script.specs.Lines as reading
 use Rattle.cics_script.specs.Faults as script
 use Rattle.cics_script.specs.Texts.{name_text, bare}

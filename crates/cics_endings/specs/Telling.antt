@@ -5,7 +5,7 @@ use Rattle.std.specs.Fmt.{decimal}
 use Rattle.cics_names.specs.Keyed.{Bytes}
 use Rattle.cics_names.specs.declared.commands.Command.{Command}
 use Rattle.cics_history.specs.Holding.{store_of}
-use Rattle.cics_units.specs.Listings.{listing_of}
+use Rattle.cics_replay.specs.Listings.{listing_of}
 use Rattle.cics_dispatch.specs.Machine.{Machine}
 use Rattle.cics_dispatch.specs.Blockers.{waiting_command, blocker_of, unit_of}
 use Rattle.cics_dispatch.specs.declared.outcomes.Outcome.{Outcome}

@@ -4,9 +4,9 @@ use Rattle.std.specs.List.{flat_map}
 use Rattle.std.specs.Fmt.{decimal}
 use Rattle.cics_transdata.specs.declared.queues.Recovery.{Recovery}
 use Rattle.cics_transdata.specs.declared.queues.Recovery.TheVariants.{Logical, Physical, Unrecovered}
-use Rattle.cics_units.specs.declared.listings.Listing.{Listing}
-use Rattle.cics_units.specs.declared.listings.TaskState.{TaskState}
-use Rattle.cics_units.specs.declared.listings.TaskState.TheVariants.{Idle, HasUnit, IsWaiting}
+use Rattle.cics_replay.specs.declared.listings.Listing.{Listing}
+use Rattle.cics_replay.specs.declared.listings.TaskState.{TaskState}
+use Rattle.cics_replay.specs.declared.listings.TaskState.TheVariants.{Idle, HasUnit, IsWaiting}
 use Rattle.cics_script.specs.Texts.{text_of, name_text, bare}
 
 -- a line ends with LF

@@ -3,7 +3,7 @@
 ghost use Rattle.std.specs.Prelude.{◌≡◌, ◌++◌, ◌∷◌, [], OnOk};
 ghost use Rattle.std.specs.List.{flat_map};
 ghost use Rattle.std.specs.Fmt.{decimal};
-ghost use Rattle.cics_units.specs.Listings.{defined_files, defined_queues};
+ghost use Rattle.cics_opening.specs.Definitions.{defined_files, defined_queues};
 ghost use Rattle.cics_script.specs.Texts.{text_of, name_text};
 ghost use Rattle.cics_listing.specs.Serial.{option_with_value, bare_option, key_and_size_options};
 ghost use Rattle.cics_listing.specs.Serial.{load_line, file_line, file_lines, prefix_line};

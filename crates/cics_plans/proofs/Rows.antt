@@ -3,7 +3,7 @@ use Rattle.std.proofs.Common.{◌≡◌, [], ◌∷◌, refl, Ok, Err}
 use lib.Chars.{codes}
 use Rattle.cics_names.specs.Ebcdic.{code_of}
 use Rattle.cics_names.specs.Keyed.{Bytes}
-use Rattle.cics_units.specs.declared.opening.DefineFault.TheVariants.{NotThere}
+use Rattle.cics_opening.specs.declared.opening.DefineFault.TheVariants.{NotThere}
 use Rattle.cics_dispatch.specs.declared.outcomes.Refused.TheVariants.{NoTask, DuplicateLabel}
 use Rattle.cics_script.specs.declared.faults.LineFault.TheVariants.{DefineTooLate, MissingOption}
 use Rattle.cics_plans.specs.Defining.{defined_by}

@@ -3,8 +3,8 @@ use Rattle.std.specs.Prelude.{Option, None, Result, Ok}
 use Rattle.cics_names.specs.Keyed.{value_at, has_key, is_key_in}
 use Rattle.cics_history.specs.State.{OpeningState}
 use Rattle.cics_history.specs.Openings.{with_file, with_record, with_prefix, with_queue, with_td_record}
-use Rattle.cics_units.specs.Faults.{file_fault, load_fault, load_td_fault, fault_if}
-use Rattle.cics_units.specs.declared.opening.DefineFault.{DefineFault}
+use Rattle.cics_opening.specs.Faults.{file_fault, load_fault, load_td_fault, fault_if}
+use Rattle.cics_opening.specs.declared.opening.DefineFault.{DefineFault}
 use Rattle.cics_script.specs.declared.lines.Line.{Line}
 use Rattle.cics_script.specs.declared.lines.Line.TheVariants.{DefineFile, DefineTsPrefix, DefineTd, LoadFile, LoadTd}
 use Rattle.cics_script.specs.declared.faults.LineFault.{LineFault}

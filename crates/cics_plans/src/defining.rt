@@ -1,7 +1,7 @@
 //! What a line of a script defines or loads.
 
 ghost use Rattle.std.specs.Prelude.{◌≡◌, OnOk, OnErr, Ok};
-ghost use Rattle.cics_units.specs.Faults.{AnswersFault};
+ghost use Rattle.cics_opening.specs.Faults.{AnswersFault};
 ghost use Rattle.cics_plans.specs.Defining.{define_fault, defined_by};
 
 use cics_script::Line;

@@ -6,8 +6,8 @@ use Rattle.cics_names.specs.Keyed.{Bytes, value_at, has_key, is_key_in}
 use Rattle.cics_names.specs.declared.commands.Command.{Command}
 use Rattle.cics_history.specs.State.{OpeningState}
 use Rattle.cics_history.specs.Openings.{with_file, with_record, with_prefix, with_queue, with_td_record}
-use Rattle.cics_units.specs.Faults.{file_fault, load_fault, load_td_fault, fault_if}
-use Rattle.cics_units.specs.declared.opening.DefineFault.{DefineFault}
+use Rattle.cics_opening.specs.Faults.{file_fault, load_fault, load_td_fault, fault_if}
+use Rattle.cics_opening.specs.declared.opening.DefineFault.{DefineFault}
 use Rattle.cics_dispatch.specs.Machine.{Machine, RegionValue}
 use Rattle.cics_dispatch.specs.Steps as steps
 use Rattle.cics_dispatch.specs.Waking.{clock_set}

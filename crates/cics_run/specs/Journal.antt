@@ -14,9 +14,9 @@ use Rattle.cics_dispatch.specs.declared.outcomes.Woken.{Woken}
 use Rattle.cics_dispatch.specs.declared.outcomes.Expired.{Expired}
 use Rattle.cics_dispatch.specs.declared.outcomes.Refused.{Refused}
 use Rattle.cics_dispatch.specs.declared.outcomes.Refused.TheVariants as refused
-use Rattle.cics_units.specs.Faults.{fault_number}
-use Rattle.cics_units.specs.declared.opening.DefineFault.{DefineFault}
-use Rattle.cics_units.specs.declared.opening.DefineFault.TheVariants as define
+use Rattle.cics_opening.specs.Faults.{fault_number}
+use Rattle.cics_opening.specs.declared.opening.DefineFault.{DefineFault}
+use Rattle.cics_opening.specs.declared.opening.DefineFault.TheVariants as define
 use Rattle.cics_script.specs.Faults as script
 use Rattle.cics_script.specs.declared.faults.LineFault.{LineFault}
 use Rattle.cics_script.specs.Texts.{text_of, name_text, bare}

@@ -5,8 +5,8 @@ use Rattle.cics_transdata.specs.declared.queues.Recovery.{Recovery}
 use Rattle.cics_ksds.specs.declared.definition.FileDef.{FileDef}
 use Rattle.cics_history.specs.State.{OpeningState}
 use Rattle.cics_history.specs.Openings.{nothing_defined, with_file, with_record, with_prefix, with_queue, with_td_record}
-use Rattle.cics_units.specs.Faults.{file_fault, load_fault, load_td_fault, fault_if}
-use Rattle.cics_units.specs.declared.opening.DefineFault.{DefineFault}
+use Rattle.cics_opening.specs.Faults.{file_fault, load_fault, load_td_fault, fault_if}
+use Rattle.cics_opening.specs.declared.opening.DefineFault.{DefineFault}
 use Rattle.cics_dispatch.specs.Machine.{Machine, RegionValue, beginning_region}
 use Rattle.cics_dispatch.specs.Steps.{attached, issued}
 use Rattle.cics_dispatch.specs.Waking.{clock_set}

@@ -2,8 +2,8 @@
 
 ghost use Rattle.std.specs.Prelude.{◌≡◌, ◌++◌, List, ℕ, OnOk, OnErr, IfOk, Ok, Option, Some};
 ghost use Rattle.cics_history.specs.State.{OpeningState};
-ghost use Rattle.cics_units.specs.Faults.{AnswersFault};
-ghost use Rattle.cics_units.specs.declared.opening.DefineFault.{DefineFault};
+ghost use Rattle.cics_opening.specs.Faults.{AnswersFault};
+ghost use Rattle.cics_opening.specs.declared.opening.DefineFault.{DefineFault};
 ghost use Rattle.cics_run.specs.Journal.{attached_line, outcome_line};
 ghost use Rattle.cics_run.specs.Journal.{refused_line, clock_line, clock_refused_line};
 ghost use Rattle.cics_run.specs.Journal.{shutdown_line, shutdown_refused_line};

@@ -1,12 +1,7 @@
 mod Rows
-pub mod Opened
-mod OpeningRows
-pub mod Changing
 pub mod MadeImages
 mod DeletedUnder
-pub mod Refilled
 pub mod FilesChanged
-mod Unpadded
 mod FileChanges
 mod PartChanges
 pub mod RefusedCommands
@@ -21,9 +16,6 @@ pub mod TableChanges
 pub mod HeldOver
 pub mod UsesInTable
 pub mod TableInPlace
-pub mod Plain
-pub mod PlainOpening
-pub mod PlainTrace
 pub mod TableValues
 mod KeptUnits
 mod ShownUnits

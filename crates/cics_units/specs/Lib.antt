@@ -1,8 +1,3 @@
-pub mod Faults
-pub mod Listings
-pub mod RegionFiles
-pub mod RegionQueues
-pub mod FilesImages
 pub mod FilesImagesLaws
 pub mod FilesChanges
 pub mod ImageRows
@@ -12,9 +7,7 @@ pub mod TableInPlace
 pub mod Awaiting
 pub mod Parts
 pub mod OpenReads
-pub mod Opened
 pub mod KeptUnits
-pub mod StoreMatching
 pub mod StoreInPlace
 pub mod QueueChanges
 pub mod StorePlaces

@@ -24,7 +24,7 @@ use Rattle.cics_history.specs.declared.ops.Answer.{Answer}
 use Rattle.cics_history.specs.declared.ops.Op.{Op}
 use Rattle.cics_history.specs.declared.ops.Op.TheVariants.{TsWrite, TsRewrite, TsDelete, TdWrite, TdRead, TdDelete}
 use Rattle.cics_history.specs.Cells.{End, Reading, Writing}
-use Rattle.cics_units.specs.StoreMatching.{StoreValue, AnyImage, end_cell}
+use Rattle.cics_opening.specs.StoreMatching.{StoreValue, AnyImage, end_cell}
 
 -- ---- which queue a command is on
 -- a command on a transient data queue
@@ -33,13 +33,6 @@ is_trans (TdWrite q d) = true
 is_trans (TdRead q) = true
 is_trans (TdDelete q) = true
 is_trans _ = false
-
--- a command on a temporary storage queue
-abbrev pub is_temp : Op → Bool
-is_temp (TsWrite q d) = true
-is_temp (TsRewrite q n d) = true
-is_temp (TsDelete q) = true
-is_temp _ = false
 
 -- the queue that a command is on
 abbrev pub queue_of : Op → Bytes

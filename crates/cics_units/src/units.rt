@@ -17,7 +17,7 @@ ghost use Rattle.cics_history.specs.Execution.{after_ts_reading};
 ghost use Rattle.cics_history.specs.State.{beginning};
 ghost use Rattle.cics_history.specs.Isolation.{IsSound};
 ghost use Rattle.cics_history.specs.Serial.{IsSerializable};
-ghost use Rattle.cics_units.specs.Listings.{listing_of, replayed_listing};
+ghost use Rattle.cics_replay.specs.Listings.{listing_of, replayed_listing};
 ghost use Rattle.cics_units.specs.Submitting.{as_done, IsBackIfItWaits};
 ghost use Rattle.cics_units.specs.StorePlaces.{number_asked};
 ghost use Rattle.cics_units.specs.ImageRows.{kept_by, AreOthersKept};
@@ -25,14 +25,14 @@ ghost use Rattle.cics_tempstor.specs.Queues.{read_item, after_read_item};
 ghost use Rattle.cics_tempstor.specs.Undo.{KeepsQueues};
 ghost use Rattle.cics_history.specs.declared.ops.UnitState.TheVariants.{Committed, BackedOut};
 
-use crate::listings::Listing;
-use crate::opening::Opening;
 use crate::units_core::{Store, UnitsCore, reserve_images, settle_ends};
 use cics_enqueue::{ResourceRef, TakeFault};
 use cics_history::{Answer, Done, Enqueued, Entry, Op, UnitId, UnitState};
 use cics_images::{Images, Stores};
 use cics_ksds::File;
 use cics_names::{Name4, Name8, NoMemory};
+use cics_opening::Opening;
+use cics_replay::Listing;
 use cics_tempstor::{TempStore, TsRead};
 use cics_transdata::Recovery;
 use std::alloc::Global;
@@ -92,7 +92,7 @@ impl Drop for Units {
 
 impl Model for Units {
     ghost use Rattle.cics_history.specs.State.{UnitsValue};
-    ghost use Rattle.cics_units.specs.StoreMatching.{shown_store};
+    ghost use Rattle.cics_opening.specs.StoreMatching.{shown_store};
     ghost use Rattle.cics_units.specs.Cores.{core_value};
     ghost use Rattle.cics_units.specs.KeptUnits.{state_shown, AreValid};
     ghost use Rattle.std.specs.Prelude.{◌≤◌, length, vec_capacity};

@@ -1,0 +1,5 @@
+pub mod Opened
+mod OpeningRows
+pub mod Changing
+pub mod Refilled
+mod Unpadded

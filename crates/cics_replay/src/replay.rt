@@ -1,0 +1,102 @@
+//! An independent check of a region: applies each surviving entry of its history to plain maps, and
+//! so finds what its files and queues hold.
+//!
+//! It has no before image and backs nothing out. Of a unit of work it knows only how it ended.
+
+mod queues;
+mod records;
+mod store;
+
+ghost use Rattle.std.specs.Prelude.{◌≡◌, if◌then◌else◌, IfOk, OnOk};
+ghost use Rattle.cics_history.specs.Headline.{outcome_of, is_backed_out, is_kept, kept, replay};
+ghost use Rattle.cics_replay.specs.Listings.{replayed_listing};
+ghost use Rattle.cics_history.specs.Store.{apply};
+ghost use Rattle.cics_history.specs.State.{initial_store};
+
+use crate::listings::Listing;
+use cics_history::{Entry, UnitId, UnitState};
+use cics_names::NoMemory;
+use cics_opening::Opening;
+use std::alloc::Global;
+use store::PlainStore;
+
+/// Returns whether a unit of work was backed out; one that hasn't begun wasn't.
+fn was_backed_out(outcomes: &[UnitState], unit: UnitId) -> bool
+    ensures { result ≡ is_backed_out (outcome_of outcomes.now unit) }
+{
+    match outcomes.get(unit.number() as usize) {
+        Some(UnitState::BackedOut) => true,
+        Some(UnitState::Open) => false,
+        Some(UnitState::Committed) => false,
+        None => false,
+    }
+}
+
+/// Returns whether an entry survives.
+fn entry_is_kept(opening: &Opening, outcomes: &[UnitState], entry: &Entry) -> bool
+    ensures { result ≡ is_kept opening.now outcomes.now entry.now }
+{
+    !(opening.is_recoverable(&entry.op) && was_backed_out(outcomes, entry.unit))
+}
+
+/// Applies an entry, if it survives.
+fn replay_entry(
+    store: &mut PlainStore,
+    opening: &Opening,
+    outcomes: &[UnitState],
+    entry: &Entry,
+) -> Result<(), NoMemory>
+    ensures { OnOk result (store.new ≡ (if is_kept opening.now outcomes.now entry.now
+        then (apply store.old entry.now.op).store
+        else store.old)) }
+{
+    if !entry_is_kept(opening, outcomes, entry) {
+        return Ok(());
+    }
+    store.apply(&entry.op)
+}
+
+/// Returns what the files and queues hold at the end of a history.
+fn replayed(
+    alloc: Global,
+    opening: &Opening,
+    trace: &[Entry],
+    outcomes: &[UnitState],
+) -> Result<PlainStore, NoMemory>
+    ensures { IfOk result (λ store. store
+        ≡ replay (initial_store opening.now) (kept opening.now trace.now outcomes.now)) }
+{
+    let mut store = PlainStore::loaded(alloc, opening)?;
+    for entry in trace {
+        replay_entry(&mut store, opening, outcomes, entry)?;
+    }
+    Ok(store)
+}
+
+/// Returns the listing of a plain replay: the files and queues that were loaded, changed by each
+/// surviving entry, in the order of the entries. It has no tasks.
+///
+/// An entry survives unless it acts on a recoverable file or queue and its unit is backed out.
+/// `trace` has the entries in the order in which the commands were executed. Any entries may stand
+/// in it, also those that no region would execute. Each has the effect that its command has there,
+/// whatever answer is noted beside it. `outcomes` has how each unit ended, that of unit 0 first. A
+/// unit that it doesn't reach counts as open.
+///
+/// Uses no before images and no table of a region: an independent check of the region's listing.
+/// `alloc` gives the memory for the copies of all records.
+///
+/// Errors: `NoMemory`.
+///
+/// Cost: O(log n) for each record loaded and each entry, for n records in its file. DELETE GENERIC
+/// looks at each record of its file.
+pub fn plain_replay(
+    alloc: Global,
+    opening: &Opening,
+    trace: &[Entry],
+    outcomes: &[UnitState],
+) -> Result<Listing, NoMemory>
+    ensures { IfOk result (λ listing. listing
+        ≡ replayed_listing opening.now trace.now outcomes.now) }
+{
+    replayed(alloc, opening, trace, outcomes)?.into_listing(opening)
+}
