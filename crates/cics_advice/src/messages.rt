@@ -11,8 +11,9 @@ use crate::tables::{
 };
 use cics_names::NoMemory;
 use cics_script::{
-    Kind, LineFault, Placed, is_excluded, kind_of, option_named, push_str, start_of, whole_token,
+    Kind, LineFault, Placed, is_excluded, kind_of, option_named, start_of, whole_token,
 };
+use cics_spelling::push_str;
 use std::alloc::Global;
 
 /// Why a line ended the run.

@@ -5,7 +5,7 @@ ghost use Rattle.cics_advice.specs.Advice.{shown, left_out, part_of, caret, mess
 ghost use Rattle.cics_advice.specs.Advice.{marked, too_long, ended};
 
 use cics_names::NoMemory;
-use cics_script::{push_number, push_str};
+use cics_spelling::{push_number, push_str};
 
 // How many columns of a line are shown.
 const WIDTH: usize = 100;

@@ -9,7 +9,7 @@ use cics_dispatch::{Outcome, Region};
 use cics_names::{Name8, NoMemory, Record};
 use cics_orders::Lane;
 use cics_run::journal::push_outcome;
-use cics_script::{push_bare, push_number, push_str};
+use cics_spelling::{push_bare, push_number, push_str};
 use std::alloc::Global;
 
 // Appends how a task has ended.

@@ -17,7 +17,7 @@ use Rattle.cics_history.specs.declared.ops.UnitState.{UnitState}
 use Rattle.cics_history.specs.declared.ops.UnitState.TheVariants.{Open, Committed, BackedOut}
 use Rattle.cics_opening.specs.Definitions.{defined_files, defined_queues}
 use Rattle.cics_script.specs.Texts.{text_of, name_text}
-use Rattle.cics_script.specs.WrittenOut.{in_parentheses, written_out}
+use Rattle.cics_spelling.specs.WrittenOut.{in_parentheses, written_out}
 use Rattle.cics_listing.specs.Listings.{line, recoverable_title, recovery_title}
 
 -- ---- Definitions and loads

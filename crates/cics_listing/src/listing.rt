@@ -9,7 +9,7 @@ ghost use Rattle.cics_listing.specs.Listings.{task_text, listing_text, replay_te
 ghost use Rattle.cics_listing.specs.Listings.{parts_text};
 
 use cics_names::{Items, Name4, Name8, NoMemory, Record};
-use cics_script::{push_bare, push_name, push_number, push_str, push_text};
+use cics_spelling::{push_bare, push_name, push_number, push_str, push_text};
 use cics_transdata::Recovery;
 use cics_units::{Listing, TaskState};
 

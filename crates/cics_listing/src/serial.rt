@@ -17,7 +17,7 @@ use crate::unit_lines::{gathered, push_command, push_label};
 use cics_history::UnitId;
 use cics_ksds::FileDef;
 use cics_names::{Items, Name4, Name8, NoMemory, Record, Verb};
-use cics_script::{push_name, push_number, push_str, push_text};
+use cics_spelling::{push_name, push_number, push_str, push_text};
 use cics_transdata::Recovery;
 use cics_units::{Opening, UnitState, Units};
 

@@ -8,7 +8,7 @@ ghost use Rattle.cics_listing.specs.UnitLines.{lines_at, lines_added};
 
 use cics_history::UnitId;
 use cics_names::{Command, Condition, Name8, NoMemory, Record, Verb};
-use cics_script::{push_number, push_str, write_out};
+use cics_spelling::{push_number, push_str, write_out};
 use cics_units::{Entry, Op, Opening};
 use std::alloc::Global;
 

@@ -8,7 +8,7 @@ ghost use Rattle.cics_report.specs.Reporting.{totals_text};
 use crate::parts::mark_in;
 use cics_lanes::{Ending, Report};
 use cics_names::NoMemory;
-use cics_script::{push_number, push_str};
+use cics_spelling::{push_number, push_str};
 
 // Returns the words before a number, which is a lower bound if orders were left out.
 fn bound_text(is_whole: bool) -> &'static str

@@ -13,7 +13,8 @@ use cics_lanes::{Ending, Report};
 use cics_names::{NoMemory, Record};
 use cics_plans::{Plan, Planned, RefusedLine, ScriptFault, read};
 use cics_run::journal::{push_define_fault, push_line_fault, push_refused};
-use cics_script::{Line, LineFault, push_bare, push_number, push_str};
+use cics_script::{Line, LineFault};
+use cics_spelling::{push_bare, push_number, push_str};
 
 /// Appends the fault of a script, as a plain run prints it: that of the line with this number.
 ///

@@ -10,7 +10,7 @@ use crate::counts::{push_count, push_heading};
 use cics_lanes::{Ending, Report};
 use cics_names::{NoMemory, Record};
 use cics_plans::{Plan, TaskPlan};
-use cics_script::{push_number, push_str};
+use cics_spelling::{push_number, push_str};
 
 // Appends a line as it stands in the script.
 fn push_line(out: &mut Vec<u8>, line: &(u64, Record)) -> Result<(), NoMemory>

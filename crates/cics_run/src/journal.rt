@@ -10,7 +10,8 @@ ghost use Rattle.cics_run.specs.Journal.{define_fault_line, line_fault_line, scr
 
 use cics_dispatch::{Expired, Number, Outcome, Refused, Reply, Woken};
 use cics_names::{AbendCode, Condition, Name4, Name8, NoMemory, Record};
-use cics_script::{LineFault, push_bare, push_name, push_number, push_str, push_text};
+use cics_script::LineFault;
+use cics_spelling::{push_bare, push_name, push_number, push_str, push_text};
 use cics_units::DefineFault;
 
 /// Appends a line of the script, which its journal lines follow.

@@ -2,12 +2,10 @@
 use Rattle.std.proofs.Common.{◌≡◌, ◌<◌, ℕ, zero, suc, ◌+◌, ◌==◌, ◌&&◌, Bool, true, false, List, [], ◌∷◌, length, get_or, refl, ap, ◌∙◌, arith, zero-add}
 use Rattle.std.specs.Prelude.{not, nat_lt}
 use Rattle.std.proofs.lemmas.Bool.{and_parts}
-use Rattle.cics_names.specs.Ebcdic.{code_of, character_of}
+use Rattle.cics_names.specs.Ebcdic.{code_of}
 use Rattle.cics_script.specs.Tokens.{is_word_byte}
 use Rattle.cics_script.specs.Literals.{is_plain, ebcdic}
-use Rattle.cics_script.specs.Texts.{plain}
 use Rattle.cics_script.specs.declared.literals.TheConstants.{CLASSES, EBCDIC}
-use Rattle.cics_script.specs.declared.texts.TheConstants.{CHARACTERS}
 
 -- whether each entry, from an index on, is read as what a function tells, by a test of when two are one
 unfoldable pub tells : {X Y : Type 0} → (X → Y) → (Y → Y → Bool) → (ℕ → Y) → ℕ → List X → Bool
@@ -54,13 +52,9 @@ unfolding tells code_of
 read-plain n within = table_read (λ n. not (n == 0)) alike alike-eq is_plain CLASSES 0 refl n within
 
 -- tables of numbers
-eqb-eq : (a b : ℕ) → (a == b) ≡ true → a ≡ b
+pub eqb-eq : (a b : ℕ) → (a == b) ≡ true → a ≡ b
 eqb-eq a b e = grind (arith, e)
 
 pub read-EBCDIC : (n : ℕ) → n < 256 → get_or EBCDIC n 0 ≡ ebcdic n
 unfolding tells code_of
 read-EBCDIC n within = table_read (λ b. b) (λ a b. a == b) eqb-eq ebcdic EBCDIC 0 refl n within
-
-pub read-CHARACTERS : (n : ℕ) → n < 256 → get_or CHARACTERS n 0 ≡ plain n
-unfolding tells character_of
-read-CHARACTERS n within = table_read (λ b. b) (λ a b. a == b) eqb-eq plain CHARACTERS 0 refl n within

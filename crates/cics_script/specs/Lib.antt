@@ -9,6 +9,4 @@ pub mod Values
 pub mod Commands
 pub mod Lines
 pub mod Layout
-pub mod Spelling
-pub mod WrittenOut
 pub mod Columns

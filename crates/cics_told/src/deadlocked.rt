@@ -10,7 +10,7 @@ ghost use Rattle.cics_dispatch.specs.Blockers.{blocker_of, waiting_command};
 use cics_deadlock::deadlocks;
 use cics_dispatch::Region;
 use cics_names::{Name8, NoMemory, Record, Verb};
-use cics_script::{push_bare, push_name, push_str, push_text};
+use cics_spelling::{push_bare, push_name, push_str, push_text};
 
 // Appends a record of a file, or the records whose keys have a prefix.
 fn push_keys(out: &mut Vec<u8>, what: &str, key: &Record, file: &Name8) -> Result<(), NoMemory>

@@ -3,7 +3,7 @@
 use cics_advice::Named;
 use cics_dispatch::Region;
 use cics_names::{Name4, Name8, NoMemory};
-use cics_script::{push_bare, push_name, push_str};
+use cics_spelling::{push_bare, push_name, push_str};
 use std::alloc::Global;
 
 fn has_file(region: &Region, characters: &[u8]) -> bool {

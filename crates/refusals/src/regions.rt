@@ -7,7 +7,8 @@ use crate::scripts::Step;
 use crate::states::push_units;
 use cics_dispatch::{Refused, Region};
 use cics_names::{Command, Name8, NoMemory};
-use cics_script::{Line, push_name};
+use cics_script::Line;
+use cics_spelling::push_name;
 use cics_units::{Opening, TaskState};
 use std::alloc::Global;
 

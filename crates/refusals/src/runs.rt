@@ -6,7 +6,7 @@ use crate::openings::start;
 use crate::scripts::Step;
 use crate::texts::push_came;
 use cics_names::{Name8, NoMemory};
-use cics_script::{push_bare, push_str};
+use cics_spelling::{push_bare, push_str};
 use cics_units::Opening;
 use std::alloc::{AllocError, Global};
 

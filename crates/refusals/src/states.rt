@@ -7,7 +7,8 @@ use crate::scripts::Step;
 use cics_history::UnitId;
 use cics_listing::push_listing;
 use cics_names::{NoMemory, Verb};
-use cics_script::{Line, push_number, push_str, push_text};
+use cics_script::Line;
+use cics_spelling::{push_number, push_str, push_text};
 use cics_units::{Entry, Listing, Op, UnitState, Units};
 
 // Puts a unit at the end, or that there is none.
