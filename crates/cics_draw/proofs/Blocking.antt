@@ -40,10 +40,10 @@ use Rattle.cics_dispatch.proofs.TaskPlaces.{place_of_task}
 use Rattle.cics_dispatch.proofs.Remembered.{not_refused}
 use Rattle.cics_script.specs.Texts.{shown, unfilled, bare}
 use Rattle.cics_run.specs.Lines.{is_in_line}
-use Rattle.cics_run.specs.Journal.{outcome_line, refused_line}
-use Rattle.cics_run.specs.Stages.{step, followed, answered as answered_step, region_of}
-use Rattle.cics_run.specs.Settling.{settled}
-use Rattle.cics_run.specs.declared.stage.Stage.{Stage}
+use Rattle.cics_stage.specs.Journal.{outcome_line, refused_line}
+use Rattle.cics_stage.specs.Stages.{step, followed, answered as answered_step, region_of}
+use Rattle.cics_stage.specs.Settling.{settled}
+use Rattle.cics_stage.specs.declared.stage.Stage.{Stage}
 use Rattle.cics_run.proofs.Playing.{not-true}
 use Rattle.cics_picture.specs.declared.events.Kind.{Kind}
 use Rattle.cics_picture.specs.declared.events.Kind.TheVariants as kind

@@ -21,13 +21,13 @@ use Rattle.cics_script.specs.declared.lines.Line.{Line}
 use Rattle.cics_script.specs.declared.lines.Line.TheVariants.{Blank, DefineFile, DefineTsPrefix, DefineTd, LoadFile, LoadTd, Attach, Clock, Issue, Shutdown}
 use Rattle.cics_script.specs.declared.faults.LineFault.{LineFault}
 use Rattle.cics_script.specs.declared.faults.LineFault.TheVariants.{DefineTooLate}
-use Rattle.cics_run.specs.Journal.{line, task_line, numbered, define_title, outcome_text, abend_text, refusal_text}
-use Rattle.cics_run.specs.Settling.{Settled, turn, waking_turn, expiry_turn, behind_turn, settled}
-use Rattle.cics_run.specs.Stages.{step, followed, fault_line, defined, event, answered}
-use Rattle.cics_run.specs.declared.stage.Fault.{Fault}
-use Rattle.cics_run.specs.declared.stage.Fault.TheVariants as faults
-use Rattle.cics_run.specs.declared.stage.Stage.{Stage}
-use Rattle.cics_run.specs.declared.stage.Stage.TheVariants.{Opening, Running}
+use Rattle.cics_stage.specs.Journal.{line, task_line, numbered, define_title, outcome_text, abend_text, refusal_text}
+use Rattle.cics_stage.specs.Settling.{Settled, turn, waking_turn, expiry_turn, behind_turn, settled}
+use Rattle.cics_stage.specs.Stages.{step, followed, fault_line, defined, event, answered}
+use Rattle.cics_stage.specs.declared.stage.Fault.{Fault}
+use Rattle.cics_stage.specs.declared.stage.Fault.TheVariants as faults
+use Rattle.cics_stage.specs.declared.stage.Stage.{Stage}
+use Rattle.cics_stage.specs.declared.stage.Stage.TheVariants.{Opening, Running}
 use Rattle.cics_run.specs.Running.{Played, has_fault, next}
 use Rattle.cics_run.proofs.Playing.{next-going, fault-fold}
 use Rattle.cics_draw.specs.Pictures.{printed, printed_from}

@@ -3,7 +3,7 @@ use Rattle.std.proofs.Common.{◌≡◌, ℕ, true, false, cond, ◌+◌, ◌<�
 use Rattle.std.specs.Prelude.{is_some}
 use Rattle.std.specs.List.{fold}
 use Rattle.cics_run.specs.Lines.{all_lines}
-use Rattle.cics_run.specs.Stages.{step}
+use Rattle.cics_stage.specs.Stages.{step}
 use Rattle.cics_run.specs.Running.{Played, play, has_fault, next, stepped, is_faulty}
 use Rattle.cics_run.specs.Standing.{Ran, Keeps, next_step}
 use Rattle.cics_run.specs.declared.session.Session.{Session}

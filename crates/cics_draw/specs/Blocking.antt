@@ -12,8 +12,8 @@ use Rattle.cics_dispatch.specs.declared.outcomes.Refused.{Refused}
 use Rattle.cics_script.specs.Lines as reading
 use Rattle.cics_script.specs.Texts.{bare}
 use Rattle.cics_script.specs.declared.lines.Line.TheVariants.{Issue}
-use Rattle.cics_run.specs.Stages.{region_of}
-use Rattle.cics_run.specs.declared.stage.Stage.{Stage}
+use Rattle.cics_stage.specs.Stages.{region_of}
+use Rattle.cics_stage.specs.declared.stage.Stage.{Stage}
 use Rattle.cics_picture.specs.Events.{first_word}
 use Rattle.cics_picture.specs.Lanes.{most_lanes, lane_of}
 use Rattle.cics_picture.specs.Drawings.{Row, rows_of}

@@ -2,11 +2,11 @@
 use Rattle.std.specs.Prelude.{◌≡◌, ℕ, Bool, true, false, ◌+◌, ◌<◌, ◌≤◌, if◌then◌else◌, List, [], ◌∷◌, length, Option, Result, Ok, Err, IfOk, is_some, ⊤}
 use Rattle.std.specs.Io.KnownBytes.{Appends, Consumes, IsAtEnd}
 use Rattle.cics_run.specs.Lines.{all_lines}
-use Rattle.cics_run.specs.Stages.{step}
+use Rattle.cics_stage.specs.Stages.{step}
 use Rattle.cics_run.specs.Running.{Played, play, has_fault, next, start, is_faulty, most_bytes}
 use Rattle.cics_run.specs.Standing.{Ran, Keeps}
 use Rattle.cics_run.specs.declared.session.Session.{Session}
-use Rattle.cics_run.specs.declared.stage.Stage.{Stage}
+use Rattle.cics_stage.specs.declared.stage.Stage.{Stage}
 use Rattle.cics_run.specs.Printing.{AppendsFront}
 use Rattle.cics_run.specs.declared.running.Status.{Status}
 use Rattle.cics_run.specs.declared.running.Status.TheVariants as status

@@ -23,8 +23,8 @@ use Rattle.cics_script.specs.declared.faults.LineFault.{LineFault}
 use Rattle.cics_script.specs.declared.lines.Line.{Line}
 use Rattle.cics_script.specs.declared.lines.Line.TheVariants.{Issue}
 use Rattle.cics_draw.specs.Standings.{is_change}
-use Rattle.cics_run.specs.declared.stage.Stage.{Stage}
-use Rattle.cics_run.specs.declared.stage.Stage.TheVariants.{Opening, Running}
+use Rattle.cics_stage.specs.declared.stage.Stage.{Stage}
+use Rattle.cics_stage.specs.declared.stage.Stage.TheVariants.{Opening, Running}
 use Rattle.cics_picture.specs.declared.bars.Standing.{Standing}
 use Rattle.cics_picture.specs.Bars.{nobody}
 use Rattle.cics_picture.specs.Events.{first_word, behind_word}

@@ -18,8 +18,8 @@ use Rattle.cics_picture.specs.declared.bars.Look.{Look}
 use Rattle.cics_picture.specs.declared.bars.Look.TheVariants.{Open as LooksOpen, Filled, Hollow}
 use Rattle.cics_picture.specs.Lanes.{most_lanes}
 use Rattle.cics_picture.specs.Bars.{nobody}
-use Rattle.cics_run.specs.declared.stage.Stage.{Stage}
-use Rattle.cics_run.specs.declared.stage.Stage.TheVariants.{Opening, Running}
+use Rattle.cics_stage.specs.declared.stage.Stage.{Stage}
+use Rattle.cics_stage.specs.declared.stage.Stage.TheVariants.{Opening, Running}
 
 -- the deadlocks that are shown: none if there are more tasks than have lanes
 unfoldable pub shown_deadlocks : Machine → List (List Bytes)

@@ -11,7 +11,7 @@ ghost use Rattle.cics_picture.specs.Drawings.{Row, all_rows, events_of};
 ghost use Rattle.cics_picture.specs.declared.drawing.Undrawn.TheVariants.{TooManyRows};
 ghost use Rattle.cics_draw.specs.Pictures.{next_printed, printed_lines, drawing_of, picture_of};
 ghost use Rattle.cics_draw.specs.Pictures.{standings_behind};
-ghost use Rattle.cics_run.specs.declared.stage.Stage.{Stage};
+ghost use Rattle.cics_stage.specs.declared.stage.Stage.{Stage};
 ghost use Rattle.cics_draw.specs.Blocking.{NamesBlocker};
 ghost use Rattle.cics_draw.specs.Pictures.{RunsLine, KeepsLast, looks_of, outcomes_of};
 ghost use Rattle.cics_history.specs.Headline.{outcome_of};

@@ -16,9 +16,9 @@ use cics_dispatch::Region;
 use cics_history::{Entry, Op};
 use cics_names::{Condition, Items, Name8, NoMemory, Record, Verb};
 use cics_picture::{Standing, behind_word, first_word};
-use cics_run::stage::Stage;
 use cics_script::{Line, LineFault, read_line, whole_token};
 use cics_spelling::push_str;
+use cics_stage::Stage;
 use cics_units::Units;
 use std::alloc::Global;
 

@@ -16,7 +16,7 @@ use cics_dispatch::Region;
 use cics_history::{Entry, Op, UnitState};
 use cics_names::{Condition, Items, Name8, NoMemory};
 use cics_picture::{Look, MOST_LANES, NOBODY, Standing};
-use cics_run::stage::Stage;
+use cics_stage::Stage;
 use cics_units::Opening;
 use std::alloc::Global;
 

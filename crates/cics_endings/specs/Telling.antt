@@ -12,7 +12,7 @@ use Rattle.cics_dispatch.specs.declared.outcomes.Outcome.{Outcome}
 use Rattle.cics_dispatch.specs.declared.outcomes.Outcome.TheVariants.{Abended, Ended}
 use Rattle.cics_deadlock.specs.Deadlocks.{deadlocks}
 use Rattle.cics_script.specs.Texts.{bare}
-use Rattle.cics_run.specs.Journal.{outcome_line}
+use Rattle.cics_stage.specs.Journal.{outcome_line}
 use Rattle.cics_listing.specs.Listings.{file_text, storage_text, transient_text}
 use Rattle.cics_lanes.specs.Endings.{Parts}
 use Rattle.cics_plans.specs.Taking.{NumberedLine}

@@ -8,8 +8,8 @@ ghost use Rattle.cics_endings.specs.Telling.{state_text, task_text, told_text};
 use cics_dispatch::{Outcome, Region};
 use cics_names::{Name8, NoMemory, Record};
 use cics_orders::Lane;
-use cics_run::journal::push_outcome;
 use cics_spelling::{push_bare, push_number, push_str};
+use cics_stage::journal::push_outcome;
 use std::alloc::Global;
 
 // Appends how a task has ended.

@@ -18,12 +18,12 @@ use Rattle.cics_script.specs.Lines.{line}
 use Rattle.cics_script.specs.declared.lines.Line.{Line}
 use Rattle.cics_script.specs.declared.lines.Line.TheVariants as says
 use Rattle.cics_script.specs.declared.faults.LineFault.{LineFault}
-use Rattle.cics_run.specs.Journal.{attached_line, outcome_line, refused_line, clock_line, clock_refused_line, shutdown_line, shutdown_refused_line}
+use Rattle.cics_stage.specs.Journal.{attached_line, outcome_line, refused_line, clock_line, clock_refused_line, shutdown_line, shutdown_refused_line}
 use Rattle.cics_run.specs.Running.{Played, next, stepped, start}
-use Rattle.cics_run.specs.Stages as stages
-use Rattle.cics_run.specs.declared.stage.Fault.{Fault}
-use Rattle.cics_run.specs.declared.stage.Stage.{Stage}
-use Rattle.cics_run.specs.declared.stage.Stage.TheVariants.{Opening, Running}
+use Rattle.cics_stage.specs.Stages as stages
+use Rattle.cics_stage.specs.declared.stage.Fault.{Fault}
+use Rattle.cics_stage.specs.declared.stage.Stage.{Stage}
+use Rattle.cics_stage.specs.declared.stage.Stage.TheVariants.{Opening, Running}
 use Rattle.cics_plans.specs.Defining.{defined_by}
 use Rattle.cics_plans.specs.Taking.{Taken, NumberedLine, nothing_taken, accepted, has_task, with_refused, attached, line_added, issued, timed, taken_more, taken_apart, behind}
 use Rattle.cics_plans.specs.declared.plans.ScriptFault.{ScriptFault}

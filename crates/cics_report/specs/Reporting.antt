@@ -7,10 +7,10 @@ use Rattle.cics_script.specs.Lines.{line}
 use Rattle.cics_script.specs.declared.lines.Line.{Line}
 use Rattle.cics_script.specs.declared.lines.Line.TheVariants.{Issue, Clock, Shutdown}
 use Rattle.cics_script.specs.declared.faults.LineFault.{LineFault}
-use Rattle.cics_run.specs.Journal.{refused_line}
-use Rattle.cics_run.specs.Stages.{fault_line}
-use Rattle.cics_run.specs.declared.stage.Fault.{Fault}
-use Rattle.cics_run.specs.declared.stage.Fault.TheVariants as faults
+use Rattle.cics_stage.specs.Journal.{refused_line}
+use Rattle.cics_stage.specs.Stages.{fault_line}
+use Rattle.cics_stage.specs.declared.stage.Fault.{Fault}
+use Rattle.cics_stage.specs.declared.stage.Fault.TheVariants as faults
 use Rattle.cics_lanes.specs.Orders.{Order}
 use Rattle.cics_lanes.specs.Endings.{Parts, Reported, kept_number}
 use Rattle.cics_lanes.specs.declared.exploring.Report.{Report}

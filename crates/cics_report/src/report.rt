@@ -12,9 +12,9 @@ use crate::parts::{push_own, push_parts, shared, told_in};
 use cics_lanes::{Ending, Report};
 use cics_names::{NoMemory, Record};
 use cics_plans::{Plan, Planned, RefusedLine, ScriptFault, read};
-use cics_run::journal::{push_define_fault, push_line_fault, push_refused};
 use cics_script::{Line, LineFault};
 use cics_spelling::{push_bare, push_number, push_str};
+use cics_stage::journal::{push_define_fault, push_line_fault, push_refused};
 
 /// Appends the fault of a script, as a plain run prints it: that of the line with this number.
 ///

@@ -8,10 +8,10 @@ use Rattle.std.specs.Io.KnownBytes.{Appends}
 use Rattle.cics_run.specs.Lines.{completed, unfinished, last_line, all_lines}
 use Rattle.cics_run.specs.Printing.{AppendsFront, Prints}
 use Rattle.cics_run.specs.Running.{Form, Played, has_fault, next, play, start, stepped, journal_of, journal, whole, output, is_faulty}
-use Rattle.cics_run.specs.Stages.{region_of}
+use Rattle.cics_stage.specs.Stages.{region_of}
 use Rattle.cics_run.specs.Standing.{next_step, next_text, Ran, Stands, Keeps, IsClosed, Closes, final_stage}
-use Rattle.cics_run.specs.declared.stage.Stage.{Stage}
-use Rattle.cics_run.specs.declared.stage.Stage.TheVariants.{Running}
+use Rattle.cics_stage.specs.declared.stage.Stage.{Stage}
+use Rattle.cics_stage.specs.declared.stage.Stage.TheVariants.{Running}
 use Rattle.cics_run.specs.declared.session.Session.{Session}
 use Rattle.cics_run.proofs.Printing.{prints-prints, prints-all, prints-front, prints-written, front-longer}
 use Rattle.cics_run.proofs.Playing.{next-going, journal-stepped, whole-front}

@@ -11,5 +11,3 @@ pub mod Steps
 pub mod Ending
 pub mod Reading
 pub mod RunCounts
-pub mod Settles
-pub mod Telling

@@ -7,8 +7,8 @@ use Rattle.std.specs.List.{fold, list_all}
 use Rattle.std.specs.Prelude.{not, if◌then◌else◌}
 use Rattle.std.specs.Io.BufRead.{strip_last}
 use Rattle.cics_run.specs.Lines.{Pieces, pieces, with_first, completed, unfinished, last_line, all_lines, is_in_line}
-use Rattle.cics_run.specs.Journal.{script_line}
-use Rattle.cics_run.specs.Stages.{step, Step}
+use Rattle.cics_stage.specs.Journal.{script_line}
+use Rattle.cics_stage.specs.Stages.{step, Step}
 use Rattle.cics_run.specs.Running.{Form, Played, has_fault, next, stepped, play, start, journal_of, journal, output, whole, is_faulty}
 use Rattle.cics_run.specs.Printing.{IsFront}
 

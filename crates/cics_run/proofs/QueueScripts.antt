@@ -2,7 +2,7 @@
 use Rattle.std.proofs.Common.{◌∷◌, [], refl}
 use Rattle.std.specs.Fmt.{digits}
 use Rattle.cics_names.specs.Ebcdic.{code_of, character_of}
-use Rattle.cics_run.specs.Settling.{turn, settled}
+use Rattle.cics_stage.specs.Settling.{turn, settled}
 use Rattle.cics_run.proofs.Scripts.{Writes, replayed}
 use lib.Chars.{codes}
 

@@ -2,9 +2,9 @@
 use Rattle.std.proofs.Common.{◌≡◌, ◌∷◌, ◌++◌, [], refl}
 use Rattle.std.specs.Fmt.{digits}
 use Rattle.cics_names.specs.Ebcdic.{code_of, character_of}
-use Rattle.cics_run.specs.Journal.{line}
+use Rattle.cics_stage.specs.Journal.{line}
 use Rattle.cics_run.specs.Running.{output}
-use Rattle.cics_run.specs.Settling.{turn, settled}
+use Rattle.cics_stage.specs.Settling.{turn, settled}
 use Rattle.cics_run.proofs.Scripts.{Writes, listed, replayed, with_script}
 use lib.Chars.{codes}
 

@@ -1,7 +1,7 @@
 -- How a worked script is said.
 use Rattle.std.proofs.Common.{◌≡◌, true, false, List, ℕ}
 use Rattle.std.specs.List.{flat_map}
-use Rattle.cics_run.specs.Journal.{line}
+use Rattle.cics_stage.specs.Journal.{line}
 use Rattle.cics_run.specs.Running.{Form, output, plain}
 
 -- lines, each with its LF

@@ -1,8 +1,5 @@
-pub mod Journal
 pub mod Lines
 pub mod Streams
-pub mod Settling
-pub mod Stages
 pub mod Running
 pub mod Wanted
 pub mod Statuses

@@ -3,13 +3,13 @@ use Rattle.std.specs.Prelude.{◌≡◌, ℕ, Bool, true, false, ◌+◌, ◌≤
 use Rattle.std.specs.List.{fold}
 use Rattle.std.specs.Io.KnownBytes.{Appends, Consumes, IsAtEnd}
 use Rattle.cics_run.specs.Lines.{completed, all_lines}
-use Rattle.cics_run.specs.Journal.{script_line}
-use Rattle.cics_run.specs.Stages.{step, Step, first_stage, listing_at, replay_at}
+use Rattle.cics_stage.specs.Journal.{script_line}
+use Rattle.cics_stage.specs.Stages.{step, Step, first_stage, listing_at, replay_at}
 use Rattle.cics_run.specs.Printing.{AppendsFront}
 use Rattle.cics_run.specs.Streams.{Tells}
 use Rattle.cics_run.specs.declared.running.TheConstants.{CHUNK}
-use Rattle.cics_run.specs.declared.stage.Fault.{Fault}
-use Rattle.cics_run.specs.declared.stage.Stage.{Stage}
+use Rattle.cics_stage.specs.declared.stage.Fault.{Fault}
+use Rattle.cics_stage.specs.declared.stage.Stage.{Stage}
 use Rattle.cics_run.specs.declared.running.Status.{Status}
 use Rattle.cics_run.specs.declared.running.Status.TheVariants as status
 use Rattle.cics_run.specs.declared.running.RunFault.{RunFault}

@@ -3,8 +3,8 @@ use Rattle.std.specs.Prelude.{◌≡◌, ℕ, Bool, true, false, ◌+◌, if◌t
 use Rattle.std.specs.Io.BufRead.{strip_last}
 use Rattle.std.specs.Io.KnownBytes.{Appends, Consumes}
 use Rattle.cics_run.specs.Lines.{completed, unfinished, all_lines}
-use Rattle.cics_run.specs.Journal.{script_line}
-use Rattle.cics_run.specs.Stages.{step, Step, first_stage, region_of}
+use Rattle.cics_stage.specs.Journal.{script_line}
+use Rattle.cics_stage.specs.Stages.{step, Step, first_stage, region_of}
 use Rattle.cics_run.specs.Running.{Form, Played, play, has_fault, journal_of, journal, output, is_faulty}
 use Rattle.cics_run.specs.Printing.{AppendsFront, Prints}
 use Rattle.cics_run.specs.declared.running.RunFault.{RunFault}
@@ -14,8 +14,8 @@ use Rattle.cics_run.specs.declared.writing.Stop.TheVariants as stops
 use Rattle.cics_run.specs.declared.running.Status.{Status}
 use Rattle.cics_run.specs.declared.running.Status.TheVariants as status
 use Rattle.cics_run.specs.declared.session.Session.{Session}
-use Rattle.cics_run.specs.declared.stage.Stage.{Stage}
-use Rattle.cics_run.specs.declared.stage.Stage.TheVariants.{Running}
+use Rattle.cics_stage.specs.declared.stage.Stage.{Stage}
+use Rattle.cics_stage.specs.declared.stage.Stage.TheVariants.{Running}
 
 -- A session before its first byte.
 pub record IsNew (s : Session) : Type 0 where

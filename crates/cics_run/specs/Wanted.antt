@@ -1,10 +1,10 @@
 -- What the program prints, by its options.
 use Rattle.std.specs.Prelude.{ℕ, if◌then◌else◌, List, ◌++◌}
 use Rattle.cics_listing.specs.Serial.{serial_text}
-use Rattle.cics_run.specs.Stages.{region_of}
+use Rattle.cics_stage.specs.Stages.{region_of}
 use Rattle.cics_run.specs.Running.{Form, listed}
 use Rattle.cics_run.specs.declared.running.Wanted.{Wanted}
-use Rattle.cics_run.specs.declared.stage.Stage.{Stage}
+use Rattle.cics_stage.specs.declared.stage.Stage.{Stage}
 
 -- what is printed of the serial run
 abbrev pub serial_at : Stage → List ℕ

@@ -2,11 +2,8 @@
 #![tactic(auto)]
 
 mod command_line;
-pub mod journal;
 mod running;
 mod session;
-mod settling;
-pub mod stage;
 mod streams;
 mod writing;
 

@@ -16,7 +16,7 @@ use Rattle.cics_dispatch.specs.declared.outcomes.Outcome.TheVariants.{Replied, W
 use Rattle.cics_dispatch.specs.declared.outcomes.Refused.{Refused}
 use Rattle.cics_dispatch.specs.declared.outcomes.Refused.TheVariants as refused
 use Rattle.cics_script.specs.Texts.{name_text, bare}
-use Rattle.cics_run.specs.Journal.{condition_text, abend_text, outcome_text, attached_line, outcome_line, refusal_text, refused_line, script_line}
+use Rattle.cics_stage.specs.Journal.{condition_text, abend_text, outcome_text, attached_line, outcome_line, refusal_text, refused_line, script_line}
 use Rattle.cics_told.specs.Amiss.{without_woken, is_told_amiss, has_front}
 use Rattle.cics_told.specs.Strict.{IsLabel, IsCode, HasCode, is_time_out, is_abended_amiss, Finds}
 use Rattle.cics_told.proofs.InLine.{InLine, both, bare_in_line, text_in_line, decimal_in_line, abend_in_line, outcome_in_line, refusal_in_line}

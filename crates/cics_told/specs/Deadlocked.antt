@@ -9,7 +9,7 @@ use Rattle.cics_dispatch.specs.Machine.{Machine}
 use Rattle.cics_dispatch.specs.Blockers.{blocker_of, waiting_command}
 use Rattle.cics_deadlock.specs.Deadlocks.{deadlocks}
 use Rattle.cics_script.specs.Texts.{text_of, name_text, bare}
-use Rattle.cics_run.specs.Journal.{line}
+use Rattle.cics_stage.specs.Journal.{line}
 
 -- a record of a file, or the records whose keys have a prefix
 abbrev pub keys_text : List ℕ → Bytes → Bytes → List ℕ

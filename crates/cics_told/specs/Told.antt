@@ -11,10 +11,10 @@ use Rattle.cics_deadlock.specs.Deadlocks.{waits_of}
 use Rattle.cics_advice.specs.Advice.{Advises}
 use Rattle.cics_advice.specs.declared.messages.Cause.{Cause}
 use Rattle.cics_advice.specs.declared.messages.Cause.TheVariants as causes
-use Rattle.cics_run.specs.declared.stage.Fault.{Fault}
-use Rattle.cics_run.specs.declared.stage.Fault.TheVariants as faults
-use Rattle.cics_run.specs.declared.stage.Stage.{Stage}
-use Rattle.cics_run.specs.declared.stage.Stage.TheVariants.{Opening, Running}
+use Rattle.cics_stage.specs.declared.stage.Fault.{Fault}
+use Rattle.cics_stage.specs.declared.stage.Fault.TheVariants as faults
+use Rattle.cics_stage.specs.declared.stage.Stage.{Stage}
+use Rattle.cics_stage.specs.declared.stage.Stage.TheVariants.{Opening, Running}
 use Rattle.cics_run.specs.declared.session.Session.{Session}
 use Rattle.cics_told.specs.Deadlocked.{deadlock_lines}
 use Rattle.cics_told.specs.declared.told.TheConstants.{MOST_WAITING}

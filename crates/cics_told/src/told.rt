@@ -11,8 +11,8 @@ use cics_deadlock::waiting_count;
 use cics_dispatch::Region;
 use cics_names::NoMemory;
 use cics_run::Session;
-use cics_run::stage::{Fault, Stage};
 use cics_script::{Placed, find_fault, skip_blanks};
+use cics_stage::{Fault, Stage};
 use std::alloc::Global;
 
 // How many tasks may wait at a run's end for its deadlocks to be told. The search is O(n^2) for n

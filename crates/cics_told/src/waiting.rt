@@ -5,7 +5,7 @@ ghost use Rattle.cics_told.specs.Waiting.{waits_at, one_waits_below, is_left_wai
 
 use cics_dispatch::Region;
 use cics_run::Session;
-use cics_run::stage::Stage;
+use cics_stage::Stage;
 
 // Returns whether the task of a number waits.
 fn waits_at(region: &Region, number: usize) -> bool

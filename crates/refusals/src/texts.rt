@@ -3,11 +3,11 @@
 use crate::events::Came;
 use cics_listing::push_listing;
 use cics_names::NoMemory;
-use cics_run::journal::{
+use cics_spelling::{push_number, push_str};
+use cics_stage::journal::{
     push_attached, push_clock, push_clock_refused, push_define_fault, push_expired, push_outcome,
     push_refused, push_shutdown, push_shutdown_refused, push_woken,
 };
-use cics_spelling::{push_number, push_str};
 use std::alloc::Global;
 
 // Puts the lines of what came of an event at the end.

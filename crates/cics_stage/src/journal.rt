@@ -1,12 +1,12 @@
 //! The lines of the journal. Each public call appends one, and its only error is `NoMemory`.
 
 ghost use Rattle.std.specs.Prelude.{◌≡◌, ◌++◌, OnOk};
-ghost use Rattle.cics_run.specs.Journal.{numbered, condition_text, part, number_part, reply_text};
-ghost use Rattle.cics_run.specs.Journal.{abend_text, outcome_text, attached_line, outcome_line};
-ghost use Rattle.cics_run.specs.Journal.{woken_line, expired_line, clock_line, clock_refused_line};
-ghost use Rattle.cics_run.specs.Journal.{shutdown_line, shutdown_refused_line, refusal_title};
-ghost use Rattle.cics_run.specs.Journal.{refusal_text, refused_line, define_title};
-ghost use Rattle.cics_run.specs.Journal.{define_fault_line, line_fault_line, script_line};
+ghost use Rattle.cics_stage.specs.Journal.{numbered, condition_text, part, number_part, reply_text};
+ghost use Rattle.cics_stage.specs.Journal.{abend_text, outcome_text, attached_line, outcome_line};
+ghost use Rattle.cics_stage.specs.Journal.{woken_line, expired_line, clock_line, clock_refused_line};
+ghost use Rattle.cics_stage.specs.Journal.{shutdown_line, shutdown_refused_line, refusal_title};
+ghost use Rattle.cics_stage.specs.Journal.{refusal_text, refused_line, define_title};
+ghost use Rattle.cics_stage.specs.Journal.{define_fault_line, line_fault_line, script_line};
 
 use cics_dispatch::{Expired, Number, Outcome, Refused, Reply, Woken};
 use cics_names::{AbendCode, Condition, Name4, Name8, NoMemory, Record};

@@ -4,14 +4,14 @@ ghost use Rattle.std.specs.Prelude.{◌≡◌, ◌++◌, List, ℕ, OnOk, OnErr,
 ghost use Rattle.cics_history.specs.State.{OpeningState};
 ghost use Rattle.cics_opening.specs.Faults.{AnswersFault};
 ghost use Rattle.cics_opening.specs.declared.opening.DefineFault.{DefineFault};
-ghost use Rattle.cics_run.specs.Journal.{attached_line, outcome_line};
-ghost use Rattle.cics_run.specs.Journal.{refused_line, clock_line, clock_refused_line};
-ghost use Rattle.cics_run.specs.Journal.{shutdown_line, shutdown_refused_line};
-ghost use Rattle.cics_run.specs.Stages.{first_stage, region_of, event};
-ghost use Rattle.cics_run.specs.Stages.{task_attached, clock_moved, command_issued, region_shut};
-ghost use Rattle.cics_run.specs.Stages.{fault_line, followed, step};
-ghost use Rattle.cics_run.specs.Stages.{defined, told_line, IsAnswered, IsPlayed, Happens};
-ghost use Rattle.cics_run.specs.declared.stage.Stage.TheVariants.{Opening as OpeningStage, Running};
+ghost use Rattle.cics_stage.specs.Journal.{attached_line, outcome_line};
+ghost use Rattle.cics_stage.specs.Journal.{refused_line, clock_line, clock_refused_line};
+ghost use Rattle.cics_stage.specs.Journal.{shutdown_line, shutdown_refused_line};
+ghost use Rattle.cics_stage.specs.Stages.{first_stage, region_of, event};
+ghost use Rattle.cics_stage.specs.Stages.{task_attached, clock_moved, command_issued, region_shut};
+ghost use Rattle.cics_stage.specs.Stages.{fault_line, followed, step};
+ghost use Rattle.cics_stage.specs.Stages.{defined, told_line, IsAnswered, IsPlayed, Happens};
+ghost use Rattle.cics_stage.specs.declared.stage.Stage.TheVariants.{Opening as OpeningStage, Running};
 
 use crate::journal::{
     push_attached, push_clock, push_clock_refused, push_define_fault, push_line_fault,

@@ -1,8 +1,8 @@
 //! The wake-ups and time-outs that a region runs after an event.
 
 ghost use Rattle.std.specs.Prelude.{◌≡◌, ◌++◌, None, length, IfOk, OnOk};
-ghost use Rattle.cics_run.specs.Journal.{woken_line};
-ghost use Rattle.cics_run.specs.Settling.{settled, region_at, turn, Turns};
+ghost use Rattle.cics_stage.specs.Journal.{woken_line};
+ghost use Rattle.cics_stage.specs.Settling.{settled, region_at, turn, Turns};
 
 use crate::journal::{push_expired, push_woken};
 use cics_dispatch::{Region, Woken};

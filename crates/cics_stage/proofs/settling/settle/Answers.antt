@@ -1,5 +1,5 @@
-use Rattle.cics_run.proofs.Settles.{at_rest, came_to_rest}
-use Rattle.cics_run.proofs.settling.settle.Goals as goal
+use Rattle.cics_stage.proofs.Settles.{at_rest, came_to_rest}
+use Rattle.cics_stage.proofs.settling.settle.Goals as goal
 
 pub returns-then-is_at_rest-clause-region : goal.returns-then-is_at_rest-clause-region
 returns-then-is_at_rest-clause-region c =

@@ -1,7 +1,7 @@
 use Rattle.std.specs.Fmt.{digits}
 use Rattle.std.proofs.Common.{◌≡◌, ◌++◌, OnOk, sym, subst}
-use Rattle.cics_run.specs.Journal.{condition_text}
-use Rattle.cics_run.proofs.journal.push_condition.Goals as goal
+use Rattle.cics_stage.specs.Journal.{condition_text}
+use Rattle.cics_stage.proofs.journal.push_condition.Goals as goal
 
 pub returns-in-Normal : goal.returns-in-Normal
 unfolding digits

@@ -1,8 +1,8 @@
 use Rattle.cics_dispatch.specs.Steps.{issued}
 use Rattle.cics_dispatch.specs.Shutdown.{unless_down}
-use Rattle.cics_run.specs.Journal.{outcome_line, refused_line}
-use Rattle.cics_run.proofs.Telling.{happens-answered}
-use Rattle.cics_run.proofs.stage.issue.Goals as goal
+use Rattle.cics_stage.specs.Journal.{outcome_line, refused_line}
+use Rattle.cics_stage.proofs.Telling.{happens-answered}
+use Rattle.cics_stage.proofs.stage.issue.Goals as goal
 
 pub returns : goal.returns
 returns c =

@@ -1,5 +1,5 @@
-use Rattle.cics_run.proofs.Settles.{took_woken, took_expired, took_none}
-use Rattle.cics_run.proofs.settling.turn.Goals as goal
+use Rattle.cics_stage.proofs.Settles.{took_woken, took_expired, took_none}
+use Rattle.cics_stage.proofs.settling.turn.Goals as goal
 
 pub returns-in_ok-tell_woken-in-Ok-Some : goal.returns-in_ok-tell_woken-in-Ok-Some
 returns-in_ok-tell_woken-in-Ok-Some c =

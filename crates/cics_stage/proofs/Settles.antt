@@ -8,8 +8,8 @@ use Rattle.cics_dispatch.specs.Answers.{IsHeadlineRegion}
 use Rattle.cics_dispatch.specs.declared.outcomes.Woken.{Woken}
 use Rattle.cics_dispatch.specs.declared.outcomes.Expired.{Expired}
 use Rattle.cics_dispatch.specs.declared.outcomes.Refused.{Refused}
-use Rattle.cics_run.specs.Journal.{woken_line, expired_line}
-use Rattle.cics_run.specs.Settling.{region_at, Settled, expiry_turn, waking_turn, turn, behind_turn, settled, Turns}
+use Rattle.cics_stage.specs.Journal.{woken_line, expired_line}
+use Rattle.cics_stage.specs.Settling.{region_at, Settled, expiry_turn, waking_turn, turn, behind_turn, settled, Turns}
 use Rattle.cics_dispatch.proofs.FewerWaits.{woken_fewer, woken_none, expired_fewer, expired_none}
 
 -- a region that holds the replay of its kept history is that of its machine

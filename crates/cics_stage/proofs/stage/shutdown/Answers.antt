@@ -1,7 +1,7 @@
 use Rattle.cics_dispatch.specs.Shutdown.{unless_down, shut_down}
-use Rattle.cics_run.specs.Journal.{shutdown_line, shutdown_refused_line}
-use Rattle.cics_run.proofs.Telling.{happens-answered}
-use Rattle.cics_run.proofs.stage.shutdown.Goals as goal
+use Rattle.cics_stage.specs.Journal.{shutdown_line, shutdown_refused_line}
+use Rattle.cics_stage.proofs.Telling.{happens-answered}
+use Rattle.cics_stage.proofs.stage.shutdown.Goals as goal
 
 pub returns : goal.returns
 returns c =

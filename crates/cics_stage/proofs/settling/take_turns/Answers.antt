@@ -1,7 +1,7 @@
 use Rattle.std.proofs.Common.{true, false, ap, ◌∙◌}
-use Rattle.cics_run.specs.Settling.{region_at, Turns}
-use Rattle.cics_run.proofs.Settles.{went_on, came_to_rest}
-use Rattle.cics_run.proofs.settling.take_turns.Goals as goal
+use Rattle.cics_stage.specs.Settling.{region_at, Turns}
+use Rattle.cics_stage.proofs.Settles.{went_on, came_to_rest}
+use Rattle.cics_stage.proofs.settling.take_turns.Goals as goal
 
 pub loop-smaller : goal.loop-smaller
 loop-smaller c =

@@ -1,6 +1,6 @@
 use Rattle.std.proofs.Common.{◌≡◌, ◌++◌, length}
-use Rattle.cics_run.specs.Settling.{settled}
-use Rattle.cics_run.proofs.settling.take_turns.Given as goal
+use Rattle.cics_stage.specs.Settling.{settled}
+use Rattle.cics_stage.proofs.settling.take_turns.Given as goal
 
 -- the turns that are left lead to where all lead
 abbrev pub invariant-loop : goal.invariant-loop

@@ -6,7 +6,7 @@ use Rattle.cics_dispatch.specs.Steps.{Stepped}
 use Rattle.cics_dispatch.specs.Answers.{IsStep}
 use Rattle.cics_dispatch.specs.declared.outcomes.Refused.{Refused}
 use Rattle.cics_dispatch.specs.declared.outcomes.Refused.TheVariants.{NoMemory, NoTask, TaskWaiting, TaskEnded, DuplicateLabel, ClockBack, RegionDown}
-use Rattle.cics_run.specs.Stages.{answered, event, told_line, IsAnswered, Happens}
+use Rattle.cics_stage.specs.Stages.{answered, event, told_line, IsAnswered, Happens}
 
 -- the lines of an event's answers, for a machine and the step that the event is of it
 module _ {X : Type 0} (answer : X → List ℕ) (refusal : Refused → List ℕ) (wants : Bool) (old : RegionValue) (s : Stepped (Result X Refused)) (new : RegionValue) where

@@ -21,12 +21,12 @@ use Rattle.cics_script.specs.declared.lines.Line.TheVariants.{Blank, DefineFile,
 use Rattle.cics_script.specs.declared.faults.LineFault.{LineFault}
 use Rattle.cics_script.specs.declared.faults.LineFault.TheVariants.{DefineTooLate}
 use Rattle.cics_listing.specs.Listings.{listing_text, replay_text}
-use Rattle.cics_run.specs.Journal.{attached_line, outcome_line, refused_line, clock_line, clock_refused_line, shutdown_line, shutdown_refused_line, line_fault_line, define_fault_line}
-use Rattle.cics_run.specs.Settling.{region_at, Settled, settled}
-use Rattle.cics_run.specs.declared.stage.Fault.{Fault}
-use Rattle.cics_run.specs.declared.stage.Fault.TheVariants as faults
-use Rattle.cics_run.specs.declared.stage.Stage.{Stage}
-use Rattle.cics_run.specs.declared.stage.Stage.TheVariants.{Opening, Running}
+use Rattle.cics_stage.specs.Journal.{attached_line, outcome_line, refused_line, clock_line, clock_refused_line, shutdown_line, shutdown_refused_line, line_fault_line, define_fault_line}
+use Rattle.cics_stage.specs.Settling.{region_at, Settled, settled}
+use Rattle.cics_stage.specs.declared.stage.Fault.{Fault}
+use Rattle.cics_stage.specs.declared.stage.Fault.TheVariants as faults
+use Rattle.cics_stage.specs.declared.stage.Stage.{Stage}
+use Rattle.cics_stage.specs.declared.stage.Stage.TheVariants.{Opening, Running}
 
 -- what a line does: the stage behind it, the text that it prints, and its fault, if it has one,
 -- which ends the run

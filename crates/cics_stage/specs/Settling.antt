@@ -6,7 +6,7 @@ use Rattle.cics_dispatch.specs.Machine.{Machine, RegionValue}
 use Rattle.cics_dispatch.specs.Waking.{woken, expired}
 use Rattle.cics_dispatch.specs.declared.outcomes.Woken.{Woken}
 use Rattle.cics_dispatch.specs.declared.outcomes.Expired.{Expired}
-use Rattle.cics_run.specs.Journal.{woken_line, expired_line}
+use Rattle.cics_stage.specs.Journal.{woken_line, expired_line}
 
 -- the region of a machine: its files and queues hold the replay of the surviving entries
 abbrev pub region_at : Machine → RegionValue

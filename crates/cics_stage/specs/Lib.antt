@@ -1,0 +1,3 @@
+pub mod Journal
+pub mod Settling
+pub mod Stages
