@@ -186,6 +186,20 @@ impl Holders {
         }
     }
 
+    // Makes a call on the resource of a text for a unit.
+    fn call_with(
+        &mut self,
+        word: &str,
+        text: &[u8],
+        unit: UnitId,
+        told: &mut String,
+    ) -> Result<(), NoMemory> {
+        match resource_of(text) {
+            Ok(Some(resource)) => self.call_on(word, resource, unit, told),
+            _ => Ok(told.push_str("no resource")?),
+        }
+    }
+
     // Makes a call on a resource for a unit.
     fn call_on(
         &mut self,
@@ -220,16 +234,15 @@ impl Holders {
 impl Lower for Holders {
     fn call(&mut self, call: &Call<'_>, given: Record, told: &mut String) -> Result<(), NoMemory> {
         let unit = UnitId::new(call.name.parse::<u64>().unwrap_or(0));
-        match (call.word, resource_of(given.bytes())) {
-            ("enq", _) => self.enq(given.bytes(), unit, told),
-            ("fill", _) => self.fill(given.bytes(), unit, told),
-            ("under", _) => self.under(given.bytes(), unit, told),
-            ("release", _) => {
+        match call.word {
+            "enq" => self.enq(given.bytes(), unit, told),
+            "fill" => self.fill(given.bytes(), unit, told),
+            "under" => self.under(given.bytes(), unit, told),
+            "release" => {
                 self.table.release_all(unit);
                 Ok(())
             }
-            (word, Ok(Some(resource))) => self.call_on(word, resource, unit, told),
-            _ => Ok(told.push_str("no resource")?),
+            word => self.call_with(word, given.bytes(), unit, told),
         }
     }
 
