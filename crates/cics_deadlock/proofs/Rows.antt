@@ -3,8 +3,8 @@ use Rattle.std.specs.Prelude.{◌≡◌, ℕ, Some, None, false, [], ◌∷◌, 
 use Rattle.cics_names.specs.Keyed.{Bytes}
 use Rattle.cics_names.specs.declared.commands.Verb.TheVariants.{Enq}
 use Rattle.cics_history.specs.Openings.{nothing_defined}
-use Rattle.cics_dispatch.specs.Machine.{Machine, beginning_region}
-use Rattle.cics_dispatch.specs.Steps.{attached, issued}
+use Rattle.cics_machine.specs.Machine.{Machine, beginning_region}
+use Rattle.cics_machine.specs.Steps.{attached, issued}
 use Rattle.cics_deadlock.specs.Circles.{circles}
 use Rattle.cics_deadlock.specs.Deadlocks.{deadlocks}
 

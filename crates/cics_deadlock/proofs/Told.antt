@@ -4,9 +4,9 @@ use Rattle.std.proofs.Common.{sym, ap, ◌∙◌, subst, eq-eqb, arith}
 use Rattle.std.proofs.lemmas.Bool.{eqb-true, lt-ltb, ltb-true, false≢true}
 use Rattle.std.proofs.lemmas.Option.{slice_get_past}
 use Rattle.std.proofs.lemmas.List.Elements.{All-map, All-weaker}
-use Rattle.cics_dispatch.specs.Machine.{Machine}
-use Rattle.cics_dispatch.specs.Blockers.{blocker_of, number_of}
-use Rattle.cics_dispatch.proofs.Elements.{get-pushed}
+use Rattle.cics_machine.specs.Machine.{Machine}
+use Rattle.cics_machine.specs.Blockers.{blocker_of, number_of}
+use Rattle.cics_machine.proofs.Elements.{get-pushed}
 use Rattle.cics_deadlock.specs.Circles.{next_of, circles, IsCircle}
 use Rattle.cics_deadlock.specs.Deadlocks.{blocker_at, waits_below, waits_of, labels_of, deadlocks, IsDeadlock}
 use Rattle.cics_deadlock.proofs.Walked.{each_below, all_told}

@@ -2,8 +2,8 @@
 use Rattle.std.specs.Prelude.{◌≡◌, ℕ, zero, suc, Option, option_and_then, map, length, List, [], ◌∷◌, ◌++◌}
 use Rattle.std.specs.List.{filter_map}
 use Rattle.cics_names.specs.Keyed.{Bytes}
-use Rattle.cics_dispatch.specs.Machine.{Machine}
-use Rattle.cics_dispatch.specs.Blockers.{blocker_of, label_at, number_of}
+use Rattle.cics_machine.specs.Machine.{Machine}
+use Rattle.cics_machine.specs.Blockers.{blocker_of, label_at, number_of}
 use Rattle.cics_deadlock.specs.Circles.{Graph, circles, IsCircle}
 
 -- the number of the task that blocks the task of a number now

@@ -18,40 +18,37 @@ ghost use Rattle.std.specs.Prelude.{◌≡◌, ◌<◌, ◌≤◌, true, false, 
 ghost use Rattle.std.specs.Prelude.{slice_get};
 ghost use Rattle.std.specs.Prelude.{IfErr, IfSome, IfNone, Result, Ok, Err};
 ghost use Rattle.std.specs.Option.{option_copied};
-ghost use Rattle.cics_dispatch.specs.Machine.{units_after, definition_of};
-ghost use Rattle.cics_dispatch.specs.Machine.{RegionValue, beginning_region, task_at, abended};
-ghost use Rattle.cics_dispatch.specs.Machine.{is_waiting};
-ghost use Rattle.cics_dispatch.specs.Machine.{unit_closed, state_after};
-ghost use Rattle.cics_dispatch.specs.Checks.{fault_of};
+ghost use Rattle.cics_machine.specs.Machine.{units_after, definition_of};
+ghost use Rattle.cics_machine.specs.Machine.{RegionValue, beginning_region, task_at, abended};
+ghost use Rattle.cics_machine.specs.Machine.{is_waiting};
+ghost use Rattle.cics_machine.specs.Machine.{unit_closed, state_after};
+ghost use Rattle.cics_machine.specs.Checks.{fault_of};
 ghost use Rattle.cics_history.specs.Execution.{IsOpenUnit, IsOpenOrNone};
 ghost use Rattle.cics_history.specs.Headline.{IsHeadline};
 ghost use Rattle.cics_history.specs.Serial.{IsSerializable};
 ghost use Rattle.cics_history.specs.Records.{key_of};
-ghost use Rattle.cics_dispatch.specs.Steps.{answered, attached, busy_of, key_read, op_of};
-ghost use Rattle.cics_dispatch.specs.Steps.{suspended};
-ghost use Rattle.cics_dispatch.specs.Waking.{clock_set};
+ghost use Rattle.cics_machine.specs.Steps.{answered, attached, busy_of, key_read, op_of};
+ghost use Rattle.cics_machine.specs.Steps.{suspended};
+ghost use Rattle.cics_machine.specs.Waking.{clock_set};
 ghost use Rattle.cics_history.specs.State.{file_recoverable};
-ghost use Rattle.cics_dispatch.specs.Regions.{IsRegionKept};
-ghost use Rattle.cics_dispatch.specs.Settled.{is_keeping};
-ghost use Rattle.cics_dispatch.specs.Blockers.{unit_of};
-ghost use Rattle.cics_dispatch.specs.Answers.{IsStep, attach_may_want};
+ghost use Rattle.cics_machine.specs.Regions.{IsRegionKept};
+ghost use Rattle.cics_machine.specs.Settled.{is_keeping};
+ghost use Rattle.cics_machine.specs.Blockers.{unit_of};
+ghost use Rattle.cics_machine.specs.Answers.{IsStep, attach_may_want};
 ghost use Rattle.cics_names.specs.Commands.{file_named};
-ghost use Rattle.cics_dispatch.specs.Calls.{OfTask, IsAwake, HasReady, MayPerform};
-ghost use Rattle.cics_dispatch.specs.Calls.{KeepsRegion, IsStepOf};
-ghost use Rattle.cics_dispatch.specs.Calls.{IsStepOrRefused, IsAttempt, going_on, waiting_for};
-ghost use Rattle.cics_dispatch.specs.Emptied.{whole, AreToldAlike};
+ghost use Rattle.cics_machine.specs.Calls.{OfTask, IsAwake, HasReady, MayPerform};
+ghost use Rattle.cics_machine.specs.Calls.{KeepsRegion, IsStepOf};
+ghost use Rattle.cics_machine.specs.Calls.{IsStepOrRefused, IsAttempt, going_on, waiting_for};
+ghost use Rattle.cics_machine.specs.Emptied.{whole, AreToldAlike};
 ghost use Rattle.cics_names.specs.declared.commands.Verb.{Verb as VerbValue};
 ghost use Rattle.cics_history.specs.Openings.{is_key};
 
-use crate::checks::file_fault;
-use crate::outcomes::{Attempt, Outcome, Refused, Reply};
-use crate::reads::plain_reply;
-use crate::replies::reply_of_answer;
-use crate::tasks::Tasks;
-use crate::updates::refill;
-use crate::waits::Waits;
 use cics_history::UnitId;
 use cics_ksds::FileDef;
+use cics_machine::{
+    Attempt, Outcome, Refused, Reply, Tasks, Waits, file_fault, plain_reply, refill,
+    reply_of_answer,
+};
 use cics_names::{Command, Condition, Name4, Name8, NoMemory, Verb};
 use cics_units::{Op, Opening, Submitted, Units};
 use std::alloc::Global;
@@ -74,8 +71,8 @@ pub(crate) struct Dispatcher {
 }
 
 impl Model for Dispatcher {
-    ghost use Rattle.cics_dispatch.specs.Machine.{RegionValue};
-    ghost use Rattle.cics_dispatch.specs.Regions.{region_of, IsRegionKept};
+    ghost use Rattle.cics_machine.specs.Machine.{RegionValue};
+    ghost use Rattle.cics_machine.specs.Regions.{region_of, IsRegionKept};
 
     ghost Value = { RegionValue };
 
@@ -93,15 +90,6 @@ fn busy_condition(verb: &Verb) -> Option<Condition>
         Verb::Enq { nosuspend, .. } => nosuspend.then_some(Condition::Enqbusy),
         _ => None,
     }
-}
-
-/// How a unit of work ends.
-#[derive(Clone, Copy)]
-pub(crate) enum Ending {
-    /// It is committed.
-    Commit,
-    /// It is backed out.
-    Backout,
 }
 
 // Ends a unit, if there is one.

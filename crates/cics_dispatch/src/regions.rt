@@ -5,24 +5,24 @@ ghost use Rattle.std.specs.Prelude.{IfOk, IfErr, IfSome, OnOk};
 ghost use Rattle.std.specs.Bool.{OnTrue};
 ghost use Rattle.cics_history.specs.Events.{is_live};
 ghost use Rattle.cics_history.specs.Headline.{HoldsCommitted};
-ghost use Rattle.cics_dispatch.specs.Machine.{beginning_region};
-ghost use Rattle.cics_dispatch.specs.Steps.{attached, issued};
-ghost use Rattle.cics_dispatch.specs.Waking.{clock_set, woken, expired, IsAtRest};
-ghost use Rattle.cics_dispatch.specs.First.{IsFirstToGoOn, IsFirstTooLate};
-ghost use Rattle.cics_dispatch.specs.Answers.{without_tasks};
-ghost use Rattle.cics_dispatch.specs.Shutdown.{IsRegionStep, shut_down};
-ghost use Rattle.cics_dispatch.specs.Answers.{IsStep, always, attach_may_want, may_want};
-ghost use Rattle.cics_dispatch.specs.Answers.{IsHeadlineRegion, IsSerializableRegion};
-ghost use Rattle.cics_dispatch.specs.Answers.{region_listing, replayed_listing};
-ghost use Rattle.cics_dispatch.specs.Settled.{goes_on};
+ghost use Rattle.cics_machine.specs.Machine.{beginning_region};
+ghost use Rattle.cics_machine.specs.Steps.{attached, issued};
+ghost use Rattle.cics_machine.specs.Waking.{clock_set, woken, expired, IsAtRest};
+ghost use Rattle.cics_machine.specs.First.{IsFirstToGoOn, IsFirstTooLate};
+ghost use Rattle.cics_machine.specs.Answers.{without_tasks};
+ghost use Rattle.cics_machine.specs.Shutdown.{IsRegionStep, shut_down};
+ghost use Rattle.cics_machine.specs.Answers.{IsStep, always, attach_may_want, may_want};
+ghost use Rattle.cics_machine.specs.Answers.{IsHeadlineRegion, IsSerializableRegion};
+ghost use Rattle.cics_machine.specs.Answers.{region_listing, replayed_listing};
+ghost use Rattle.cics_machine.specs.Settled.{goes_on};
 ghost use Rattle.std.specs.Option.{option_copied};
-ghost use Rattle.cics_dispatch.specs.Blockers.{unit_of, blocker_of, label_at, number_of};
-ghost use Rattle.cics_dispatch.specs.Blockers.{waiting_command};
-ghost use Rattle.cics_dispatch.specs.declared.outcomes.Refused.TheVariants.{RegionDown};
+ghost use Rattle.cics_machine.specs.Blockers.{unit_of, blocker_of, label_at, number_of};
+ghost use Rattle.cics_machine.specs.Blockers.{waiting_command};
+ghost use Rattle.cics_machine.specs.declared.outcomes.Refused.TheVariants.{RegionDown};
 
 use crate::dispatcher::Dispatcher;
-use crate::outcomes::{Expired, Outcome, Refused, Woken};
 use cics_history::UnitId;
+use cics_machine::{Expired, Outcome, Refused, Woken};
 use cics_names::{Command, Name4, Name8, NoMemory};
 use cics_units::{Listing, Opening, Units};
 use cics_waits::Notes;
@@ -69,9 +69,9 @@ impl Drop for Region {
 }
 
 impl Model for Region {
-    ghost use Rattle.cics_dispatch.specs.Machine.{RegionValue};
-    ghost use Rattle.cics_dispatch.specs.Regions.{IsRegionKept};
-    ghost use Rattle.cics_dispatch.specs.Notes.{IsRemembered};
+    ghost use Rattle.cics_machine.specs.Machine.{RegionValue};
+    ghost use Rattle.cics_machine.specs.Regions.{IsRegionKept};
+    ghost use Rattle.cics_machine.specs.Notes.{IsRemembered};
 
     ghost Value = { RegionValue };
 

@@ -23,21 +23,21 @@ use Rattle.cics_history.specs.Holding.{awaited as awaited_unit, value_holder}
 use Rattle.cics_history.specs.Execution.{unit_or_next, done_of, enq_of}
 use Rattle.cics_history.specs.declared.ops.Op.{Op}
 use Rattle.cics_history.specs.declared.ops.Enqueued.TheVariants.{Taken, CountFull}
-use Rattle.cics_dispatch.specs.Machine.{Machine, Task, Suspended, task_at, is_waiting, label_of, with_unit, records_in}
-use Rattle.cics_dispatch.specs.Checks.{fault_of}
-use Rattle.cics_dispatch.specs.Replies.{plain}
-use Rattle.cics_dispatch.specs.Steps.{Stepped, unhandled, answered, suspended, made_to_wait, executed, enqueued, reset, browsed, code_of, other_command, by_op, op_of, checked, issue_refusal, refused_or, issued_by, issued}
-use Rattle.cics_dispatch.specs.Waits.{wait_of}
-use Rattle.cics_dispatch.specs.Waking.{awaited_by}
-use Rattle.cics_dispatch.specs.Blockers.{awaited_of, blocker_of}
-use Rattle.cics_dispatch.specs.Shutdown.{unless_down}
-use Rattle.cics_dispatch.specs.declared.outcomes.Reply.{Reply}
-use Rattle.cics_dispatch.specs.declared.outcomes.Outcome.{Outcome}
-use Rattle.cics_dispatch.specs.declared.outcomes.Outcome.TheVariants.{Replied, Waiting, Abended, Ended}
-use Rattle.cics_dispatch.specs.declared.outcomes.Refused.{Refused}
-use Rattle.cics_dispatch.specs.declared.outcomes.Refused.TheVariants.{NoTask, RegionDown}
-use Rattle.cics_dispatch.proofs.TaskPlaces.{place_of_task}
-use Rattle.cics_dispatch.proofs.Remembered.{not_refused}
+use Rattle.cics_machine.specs.Machine.{Machine, Task, Suspended, task_at, is_waiting, label_of, with_unit, records_in}
+use Rattle.cics_machine.specs.Checks.{fault_of}
+use Rattle.cics_machine.specs.Replies.{plain}
+use Rattle.cics_machine.specs.Steps.{Stepped, unhandled, answered, suspended, made_to_wait, executed, enqueued, reset, browsed, code_of, other_command, by_op, op_of, checked, issue_refusal, refused_or, issued_by, issued}
+use Rattle.cics_machine.specs.Waits.{wait_of}
+use Rattle.cics_machine.specs.Waking.{awaited_by}
+use Rattle.cics_machine.specs.Blockers.{awaited_of, blocker_of}
+use Rattle.cics_machine.specs.Shutdown.{unless_down}
+use Rattle.cics_machine.specs.declared.outcomes.Reply.{Reply}
+use Rattle.cics_machine.specs.declared.outcomes.Outcome.{Outcome}
+use Rattle.cics_machine.specs.declared.outcomes.Outcome.TheVariants.{Replied, Waiting, Abended, Ended}
+use Rattle.cics_machine.specs.declared.outcomes.Refused.{Refused}
+use Rattle.cics_machine.specs.declared.outcomes.Refused.TheVariants.{NoTask, RegionDown}
+use Rattle.cics_machine.proofs.TaskPlaces.{place_of_task}
+use Rattle.cics_machine.proofs.Remembered.{not_refused}
 use Rattle.cics_script.specs.Texts.{shown, unfilled, bare}
 use Rattle.cics_run.specs.Lines.{is_in_line}
 use Rattle.cics_stage.specs.Journal.{outcome_line, refused_line}

@@ -7,10 +7,10 @@ use Rattle.std.specs.List.{fold}
 use Rattle.std.specs.Fmt.{decimal}
 use lib.Chars.{codes}
 use Rattle.cics_picture.specs.Drawings.{rows_from, rows_of, all_rows, events_of}
-use Rattle.cics_dispatch.specs.Machine.{Machine}
-use Rattle.cics_dispatch.specs.declared.outcomes.Refused.{Refused}
-use Rattle.cics_dispatch.specs.declared.outcomes.Woken.{Woken}
-use Rattle.cics_dispatch.specs.declared.outcomes.Expired.{Expired}
+use Rattle.cics_machine.specs.Machine.{Machine}
+use Rattle.cics_machine.specs.declared.outcomes.Refused.{Refused}
+use Rattle.cics_machine.specs.declared.outcomes.Woken.{Woken}
+use Rattle.cics_machine.specs.declared.outcomes.Expired.{Expired}
 use Rattle.cics_history.specs.State.{OpeningState}
 use Rattle.cics_opening.specs.Faults.{fault_number}
 use Rattle.cics_opening.specs.declared.opening.DefineFault.{DefineFault}

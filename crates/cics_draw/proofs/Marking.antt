@@ -6,8 +6,8 @@ use Rattle.std.proofs.lemmas.List.Folds.{Any-from_list_any, list_any-from_Any}
 use Rattle.std.specs.Prelude.{◌↔◌, nat_lt, Contains}
 use Rattle.std.specs.List.{list_any}
 use Rattle.cics_names.specs.Keyed.{Bytes, is_key_in}
-use Rattle.cics_dispatch.specs.Machine.{Machine}
-use Rattle.cics_dispatch.specs.Blockers.{label_at}
+use Rattle.cics_machine.specs.Machine.{Machine}
+use Rattle.cics_machine.specs.Blockers.{label_at}
 use Rattle.cics_deadlock.specs.Deadlocks.{deadlocks, IsDeadlock}
 use Rattle.cics_deadlock.proofs.Told.{told_each, told_all}
 use Rattle.cics_picture.specs.Lanes.{most_lanes}

@@ -2,13 +2,13 @@
 use Rattle.std.specs.Prelude.{◌≡◌, ◌≤◌, ℕ, true, List, ◌∷◌, length, Some, Result, Ok, is_some}
 use Rattle.cics_names.specs.Keyed.{Bytes}
 use Rattle.cics_names.specs.declared.commands.Command.{Command}
-use Rattle.cics_dispatch.specs.Machine.{Machine}
-use Rattle.cics_dispatch.specs.Steps.{Stepped, issued}
-use Rattle.cics_dispatch.specs.Shutdown.{unless_down}
-use Rattle.cics_dispatch.specs.Blockers.{blocker_of}
-use Rattle.cics_dispatch.specs.declared.outcomes.Outcome.{Outcome}
-use Rattle.cics_dispatch.specs.declared.outcomes.Outcome.TheVariants.{Waiting}
-use Rattle.cics_dispatch.specs.declared.outcomes.Refused.{Refused}
+use Rattle.cics_machine.specs.Machine.{Machine}
+use Rattle.cics_machine.specs.Steps.{Stepped, issued}
+use Rattle.cics_machine.specs.Shutdown.{unless_down}
+use Rattle.cics_machine.specs.Blockers.{blocker_of}
+use Rattle.cics_machine.specs.declared.outcomes.Outcome.{Outcome}
+use Rattle.cics_machine.specs.declared.outcomes.Outcome.TheVariants.{Waiting}
+use Rattle.cics_machine.specs.declared.outcomes.Refused.{Refused}
 use Rattle.cics_script.specs.Lines as reading
 use Rattle.cics_script.specs.Texts.{bare}
 use Rattle.cics_script.specs.declared.lines.Line.TheVariants.{Issue}

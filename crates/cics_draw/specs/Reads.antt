@@ -14,9 +14,9 @@ use Rattle.cics_history.specs.declared.ops.Op.{Op}
 use Rattle.cics_history.specs.declared.ops.Op.TheVariants.{Delete, TsWrite, TsRewrite, TsDelete}
 use Rattle.cics_history.specs.Records.{is_file_op, file_of, key_of}
 use Rattle.cics_history.specs.declared.ops.Entry.{Entry}
-use Rattle.cics_dispatch.specs.Machine.{Machine, RegionValue}
+use Rattle.cics_machine.specs.Machine.{Machine, RegionValue}
 use Rattle.cics_waits.specs.Notes.{is_unit}
-use Rattle.cics_dispatch.specs.Blockers.{unit_of, number_of}
+use Rattle.cics_machine.specs.Blockers.{unit_of, number_of}
 use Rattle.cics_script.specs.Tokens.{token_at}
 use Rattle.cics_script.specs.Lines as reading
 use Rattle.cics_script.specs.declared.faults.LineFault.{LineFault}

@@ -10,8 +10,8 @@ use Rattle.cics_history.specs.declared.ops.Op.TheVariants.{ReadUpdate}
 use Rattle.cics_history.specs.declared.ops.Entry.{Entry}
 use Rattle.cics_history.specs.declared.ops.UnitState.{UnitState}
 use Rattle.cics_history.specs.declared.ops.UnitState.TheVariants.{Open, Committed, BackedOut}
-use Rattle.cics_dispatch.specs.Machine.{Machine}
-use Rattle.cics_dispatch.specs.Blockers.{label_at, unit_of}
+use Rattle.cics_machine.specs.Machine.{Machine}
+use Rattle.cics_machine.specs.Blockers.{label_at, unit_of}
 use Rattle.cics_deadlock.specs.Deadlocks.{deadlocks, IsDeadlock}
 use Rattle.cics_picture.specs.declared.bars.Standing.{Standing}
 use Rattle.cics_picture.specs.declared.bars.Look.{Look}

@@ -3,8 +3,8 @@
 ghost use Rattle.std.specs.Prelude.{◌≡◌, ◌↔◌, ◌≤◌, ℕ, true, Some, length, IfOk};
 ghost use Rattle.std.specs.List.{list_any};
 ghost use Rattle.cics_names.specs.Keyed.{Bytes, is_same, is_key_in};
-ghost use Rattle.cics_dispatch.specs.Machine.{Machine};
-ghost use Rattle.cics_dispatch.specs.Blockers.{label_at, unit_of};
+ghost use Rattle.cics_machine.specs.Machine.{Machine};
+ghost use Rattle.cics_machine.specs.Blockers.{label_at, unit_of};
 ghost use Rattle.cics_picture.specs.Lanes.{most_lanes};
 ghost use Rattle.cics_draw.specs.Standings.{shown_deadlocks, standing_at, standings_of};
 ghost use Rattle.cics_draw.specs.Standings.{is_change, stays, any_stays, marked_at, entries_at};

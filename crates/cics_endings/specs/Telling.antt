@@ -6,10 +6,10 @@ use Rattle.cics_names.specs.Keyed.{Bytes}
 use Rattle.cics_names.specs.declared.commands.Command.{Command}
 use Rattle.cics_history.specs.Holding.{store_of}
 use Rattle.cics_replay.specs.Listings.{listing_of}
-use Rattle.cics_dispatch.specs.Machine.{Machine}
-use Rattle.cics_dispatch.specs.Blockers.{waiting_command, blocker_of, unit_of}
-use Rattle.cics_dispatch.specs.declared.outcomes.Outcome.{Outcome}
-use Rattle.cics_dispatch.specs.declared.outcomes.Outcome.TheVariants.{Abended, Ended}
+use Rattle.cics_machine.specs.Machine.{Machine}
+use Rattle.cics_machine.specs.Blockers.{waiting_command, blocker_of, unit_of}
+use Rattle.cics_machine.specs.declared.outcomes.Outcome.{Outcome}
+use Rattle.cics_machine.specs.declared.outcomes.Outcome.TheVariants.{Abended, Ended}
 use Rattle.cics_deadlock.specs.Deadlocks.{deadlocks}
 use Rattle.cics_script.specs.Texts.{bare}
 use Rattle.cics_stage.specs.Journal.{outcome_line}

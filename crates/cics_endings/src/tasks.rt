@@ -1,7 +1,7 @@
 //! The lines of tasks.
 
 ghost use Rattle.std.specs.Prelude.{◌≡◌, ◌++◌, ◌-◌, OnOk, IfOk, length, slice_get};
-ghost use Rattle.cics_dispatch.specs.Blockers.{blocker_of, waiting_command};
+ghost use Rattle.cics_machine.specs.Blockers.{blocker_of, waiting_command};
 ghost use Rattle.cics_endings.specs.Telling.{end_text, blocker_text, number_text, stand_text};
 ghost use Rattle.cics_endings.specs.Telling.{state_text, task_text, told_text};
 

@@ -6,19 +6,19 @@ use Rattle.cics_names.specs.Keyed.{Bytes, is_same}
 use Rattle.cics_names.specs.KeyedLaws.{is_same-self, is_same-eq}
 use Rattle.cics_names.specs.declared.commands.Command.{Command}
 use Rattle.cics_history.specs.declared.ops.UnitState.TheVariants.{BackedOut}
-use Rattle.cics_dispatch.specs.Machine.{Machine, Task, Suspended, task_at, is_waiting, not_waiting, with_waiting, unit_closed, abended, timed_out, beginning_region}
-use Rattle.cics_dispatch.specs.Steps.{Stepped, new_task, attach_refusal, with_new_task, refused_or, issued_by, checked, by_op}
-use Rattle.cics_dispatch.specs.Checks.{fault_of}
-use Rattle.cics_dispatch.specs.Blockers.{waiting_command}
-use Rattle.cics_dispatch.specs.Waits.{wait_of}
-use Rattle.cics_dispatch.specs.Shutdown.{all_ended, shut_down}
-use Rattle.cics_dispatch.specs.Waking.{may_go_on, first_free, went_on, woken_first, is_late, first_late, expired_task, expired, clock_refusal}
-use Rattle.cics_dispatch.specs.declared.outcomes.Outcome.{Outcome}
-use Rattle.cics_dispatch.specs.declared.outcomes.Outcome.TheVariants.{Replied, Waiting, Abended, Ended}
-use Rattle.cics_dispatch.specs.declared.outcomes.Refused.{Refused}
-use Rattle.cics_dispatch.specs.declared.outcomes.Refused.TheVariants.{RegionDown, TaskEnded, TaskWaiting, DuplicateLabel}
-use Rattle.cics_dispatch.proofs.KeptTasks.{not_waiting_then}
-use Rattle.cics_dispatch.proofs.TaskPlaces.{place_of_task}
+use Rattle.cics_machine.specs.Machine.{Machine, Task, Suspended, task_at, is_waiting, not_waiting, with_waiting, unit_closed, abended, timed_out, beginning_region}
+use Rattle.cics_machine.specs.Steps.{Stepped, new_task, attach_refusal, with_new_task, refused_or, issued_by, checked, by_op}
+use Rattle.cics_machine.specs.Checks.{fault_of}
+use Rattle.cics_machine.specs.Blockers.{waiting_command}
+use Rattle.cics_machine.specs.Waits.{wait_of}
+use Rattle.cics_machine.specs.Shutdown.{all_ended, shut_down}
+use Rattle.cics_machine.specs.Waking.{may_go_on, first_free, went_on, woken_first, is_late, first_late, expired_task, expired, clock_refusal}
+use Rattle.cics_machine.specs.declared.outcomes.Outcome.{Outcome}
+use Rattle.cics_machine.specs.declared.outcomes.Outcome.TheVariants.{Replied, Waiting, Abended, Ended}
+use Rattle.cics_machine.specs.declared.outcomes.Refused.{Refused}
+use Rattle.cics_machine.specs.declared.outcomes.Refused.TheVariants.{RegionDown, TaskEnded, TaskWaiting, DuplicateLabel}
+use Rattle.cics_machine.proofs.KeptTasks.{not_waiting_then}
+use Rattle.cics_machine.proofs.TaskPlaces.{place_of_task}
 use Rattle.cics_script.specs.Lines.{line}
 use Rattle.cics_script.specs.declared.lines.Line.{Line}
 use Rattle.cics_script.specs.declared.lines.Line.TheVariants as says

@@ -2,11 +2,11 @@
 use Rattle.std.proofs.Common.{◌≡◌, ℕ, Bool, true, false, List, [], ◌∷◌, Option, None, Some, Result, Err, refl, ap, ◌∙◌}
 use Rattle.std.specs.Prelude.{slice_get, if◌then◌else◌}
 use Rattle.std.specs.List.{fold}
-use Rattle.cics_dispatch.specs.Machine.{Machine, beginning_region}
-use Rattle.cics_dispatch.specs.Steps.{Stepped, attach_refusal, with_new_task, refused_or}
-use Rattle.cics_dispatch.specs.Waking.{woken_first, first_free, expired_task, first_late, IsAtRest}
-use Rattle.cics_dispatch.specs.declared.outcomes.Refused.{Refused}
-use Rattle.cics_dispatch.specs.declared.outcomes.Refused.TheVariants.{RegionDown}
+use Rattle.cics_machine.specs.Machine.{Machine, beginning_region}
+use Rattle.cics_machine.specs.Steps.{Stepped, attach_refusal, with_new_task, refused_or}
+use Rattle.cics_machine.specs.Waking.{woken_first, first_free, expired_task, first_late, IsAtRest}
+use Rattle.cics_machine.specs.declared.outcomes.Refused.{Refused}
+use Rattle.cics_machine.specs.declared.outcomes.Refused.TheVariants.{RegionDown}
 use Rattle.cics_script.specs.Lines.{line}
 use Rattle.cics_lanes.specs.Orders.{Order, after}
 use Rattle.cics_plans.specs.Taking.{NumberedLine}

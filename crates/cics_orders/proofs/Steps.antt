@@ -3,11 +3,11 @@ use Rattle.std.proofs.Common.{◌≡◌, ◌<◌, ℕ, Bool, List, length, Optio
 use Rattle.std.specs.Prelude.{slice_get, option_map, option_and_then}
 use Rattle.std.proofs.lemmas.Option.{slice_get_within}
 use Rattle.std.specs.Result.{result_ok}
-use Rattle.cics_dispatch.specs.Machine.{RegionValue}
-use Rattle.cics_dispatch.specs.Steps.{Stepped}
-use Rattle.cics_dispatch.specs.Answers.{IsStep}
-use Rattle.cics_dispatch.specs.declared.outcomes.Refused.{Refused}
-use Rattle.cics_dispatch.specs.declared.outcomes.Refused.TheVariants as refusals
+use Rattle.cics_machine.specs.Machine.{RegionValue}
+use Rattle.cics_machine.specs.Steps.{Stepped}
+use Rattle.cics_machine.specs.Answers.{IsStep}
+use Rattle.cics_machine.specs.declared.outcomes.Refused.{Refused}
+use Rattle.cics_machine.specs.declared.outcomes.Refused.TheVariants as refusals
 use Rattle.cics_script.specs.Lines.{line}
 use Rattle.cics_script.specs.declared.lines.Line.{Line}
 use Rattle.cics_script.specs.declared.faults.LineFault.{LineFault}

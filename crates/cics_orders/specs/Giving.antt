@@ -7,17 +7,17 @@ use Rattle.cics_names.specs.declared.commands.Verb.{Verb}
 use Rattle.cics_names.specs.declared.commands.Verb.TheVariants.{Syncpoint, Rollback, Return, Abend}
 use Rattle.cics_history.specs.State.{OpeningState}
 use Rattle.cics_history.specs.Openings.{nothing_defined}
-use Rattle.cics_dispatch.specs.Machine.{Machine, beginning_region}
-use Rattle.cics_dispatch.specs.Steps.{Stepped, attached, issued}
-use Rattle.cics_dispatch.specs.Blockers.{waiting_command}
-use Rattle.cics_dispatch.specs.Waking.{clock_set, woken, expired}
-use Rattle.cics_dispatch.specs.Shutdown.{unless_down, shut_down}
-use Rattle.cics_dispatch.specs.declared.outcomes.Outcome.{Outcome}
-use Rattle.cics_dispatch.specs.declared.outcomes.Outcome.TheVariants.{Replied, Waiting, Abended}
-use Rattle.cics_dispatch.specs.declared.outcomes.Woken.{Woken}
-use Rattle.cics_dispatch.specs.declared.outcomes.Expired.{Expired}
-use Rattle.cics_dispatch.specs.declared.outcomes.Refused.{Refused}
-use Rattle.cics_dispatch.specs.declared.outcomes.Refused.TheVariants.{NoMemory}
+use Rattle.cics_machine.specs.Machine.{Machine, beginning_region}
+use Rattle.cics_machine.specs.Steps.{Stepped, attached, issued}
+use Rattle.cics_machine.specs.Blockers.{waiting_command}
+use Rattle.cics_machine.specs.Waking.{clock_set, woken, expired}
+use Rattle.cics_machine.specs.Shutdown.{unless_down, shut_down}
+use Rattle.cics_machine.specs.declared.outcomes.Outcome.{Outcome}
+use Rattle.cics_machine.specs.declared.outcomes.Outcome.TheVariants.{Replied, Waiting, Abended}
+use Rattle.cics_machine.specs.declared.outcomes.Woken.{Woken}
+use Rattle.cics_machine.specs.declared.outcomes.Expired.{Expired}
+use Rattle.cics_machine.specs.declared.outcomes.Refused.{Refused}
+use Rattle.cics_machine.specs.declared.outcomes.Refused.TheVariants.{NoMemory}
 use Rattle.cics_script.specs.Lines.{line}
 use Rattle.cics_script.specs.declared.lines.Line.{Line}
 use Rattle.cics_script.specs.declared.lines.Line.TheVariants.{Clock, Issue, Shutdown}

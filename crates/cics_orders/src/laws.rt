@@ -2,7 +2,7 @@
 //!
 //! The contract of each function is a law, and its body is empty.
 
-ghost use Rattle.cics_dispatch.specs.Waking.{IsAtRest};
+ghost use Rattle.cics_machine.specs.Waking.{IsAtRest};
 ghost use Rattle.cics_lanes.specs.Orders.{Order, after};
 ghost use Rattle.cics_plans.specs.declared.plans.Plan.{Plan};
 ghost use Rattle.cics_orders.specs.Giving.{lanes, initial_state};

@@ -2,7 +2,7 @@
 
 ghost use Rattle.std.specs.Prelude.{◌≡◌, IfOk, OnOk};
 ghost use Rattle.cics_script.specs.Lines.{line};
-ghost use Rattle.cics_dispatch.specs.Machine.{beginning_region};
+ghost use Rattle.cics_machine.specs.Machine.{beginning_region};
 ghost use Rattle.std.specs.List.{fold};
 ghost use Rattle.cics_plans.specs.Defining.{defined_by};
 ghost use Rattle.cics_orders.specs.Giving.{defined_more, opened};

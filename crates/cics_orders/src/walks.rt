@@ -1,7 +1,7 @@
 //! The region of a script, and the lanes that give their lines to it.
 
 ghost use Rattle.std.specs.Prelude.{◌≡◌, suc, Some, Ok, IfOk, OnOk, slice_get};
-ghost use Rattle.cics_dispatch.specs.Waking.{IsAtRest};
+ghost use Rattle.cics_machine.specs.Waking.{IsAtRest};
 ghost use Rattle.cics_script.specs.declared.lines.Line.TheVariants.{Issue, Clock, Shutdown};
 ghost use Rattle.cics_lanes.specs.Orders.{IsFirst, numbered_from};
 ghost use Rattle.cics_orders.specs.Giving.{State, initial_state, line_count, is_ready, may_give};

@@ -4,7 +4,7 @@ use lib.Chars.{codes}
 use Rattle.cics_names.specs.Ebcdic.{code_of}
 use Rattle.cics_names.specs.Keyed.{Bytes}
 use Rattle.cics_opening.specs.declared.opening.DefineFault.TheVariants.{NotThere}
-use Rattle.cics_dispatch.specs.declared.outcomes.Refused.TheVariants.{NoTask, DuplicateLabel}
+use Rattle.cics_machine.specs.declared.outcomes.Refused.TheVariants.{NoTask, DuplicateLabel}
 use Rattle.cics_script.specs.declared.faults.LineFault.TheVariants.{DefineTooLate, MissingOption}
 use Rattle.cics_plans.specs.Defining.{defined_by}
 use Rattle.cics_plans.specs.Taking.{nothing_taken, taken_apart, planned}

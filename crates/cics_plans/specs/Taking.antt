@@ -5,8 +5,8 @@ use Rattle.cics_names.specs.Keyed.{Bytes, is_same}
 use Rattle.cics_history.specs.State.{OpeningState}
 use Rattle.cics_history.specs.Openings.{nothing_defined}
 use Rattle.cics_opening.specs.declared.opening.DefineFault.{DefineFault}
-use Rattle.cics_dispatch.specs.declared.outcomes.Refused.{Refused}
-use Rattle.cics_dispatch.specs.declared.outcomes.Refused.TheVariants.{NoTask, DuplicateLabel}
+use Rattle.cics_machine.specs.declared.outcomes.Refused.{Refused}
+use Rattle.cics_machine.specs.declared.outcomes.Refused.TheVariants.{NoTask, DuplicateLabel}
 use Rattle.cics_script.specs.Lines.{line}
 use Rattle.cics_script.specs.declared.lines.Line.{Line}
 use Rattle.cics_script.specs.declared.lines.Line.TheVariants.{Blank, Attach, Clock, Issue, Shutdown}

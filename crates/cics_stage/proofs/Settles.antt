@@ -2,15 +2,15 @@
 use Rattle.std.specs.Prelude.{◌≡◌, ℕ, zero, suc, ◌<◌, ◌≤◌, Bool, true, false, List, [], ◌++◌, length, Option, Some, None, Result, Ok, refl}
 use Rattle.std.specs.Bool.{OnTrue}
 use Rattle.std.proofs.Common.{arith, sym, ap, ◌∙◌, subst, append_assoc, append-nil}
-use Rattle.cics_dispatch.specs.Machine.{Machine, RegionValue}
-use Rattle.cics_dispatch.specs.Waking.{woken, expired, IsAtRest}
-use Rattle.cics_dispatch.specs.Answers.{IsHeadlineRegion}
-use Rattle.cics_dispatch.specs.declared.outcomes.Woken.{Woken}
-use Rattle.cics_dispatch.specs.declared.outcomes.Expired.{Expired}
-use Rattle.cics_dispatch.specs.declared.outcomes.Refused.{Refused}
+use Rattle.cics_machine.specs.Machine.{Machine, RegionValue}
+use Rattle.cics_machine.specs.Waking.{woken, expired, IsAtRest}
+use Rattle.cics_machine.specs.Answers.{IsHeadlineRegion}
+use Rattle.cics_machine.specs.declared.outcomes.Woken.{Woken}
+use Rattle.cics_machine.specs.declared.outcomes.Expired.{Expired}
+use Rattle.cics_machine.specs.declared.outcomes.Refused.{Refused}
 use Rattle.cics_stage.specs.Journal.{woken_line, expired_line}
 use Rattle.cics_stage.specs.Settling.{region_at, Settled, expiry_turn, waking_turn, turn, behind_turn, settled, Turns}
-use Rattle.cics_dispatch.proofs.FewerWaits.{woken_fewer, woken_none, expired_fewer, expired_none}
+use Rattle.cics_machine.proofs.FewerWaits.{woken_fewer, woken_none, expired_fewer, expired_none}
 
 -- a region that holds the replay of its kept history is that of its machine
 pub is_region_at : (r : RegionValue) → IsHeadlineRegion r → r ≡ region_at r.machine

@@ -1,11 +1,11 @@
 -- The step of an event is told by its call's answer.
 use Rattle.std.specs.Prelude.{◌≡◌, ℕ, Bool, List, Result, Ok, Err}
 use Rattle.std.proofs.Common.{sym, ap, ◌∙◌, subst}
-use Rattle.cics_dispatch.specs.Machine.{RegionValue}
-use Rattle.cics_dispatch.specs.Steps.{Stepped}
-use Rattle.cics_dispatch.specs.Answers.{IsStep}
-use Rattle.cics_dispatch.specs.declared.outcomes.Refused.{Refused}
-use Rattle.cics_dispatch.specs.declared.outcomes.Refused.TheVariants.{NoMemory, NoTask, TaskWaiting, TaskEnded, DuplicateLabel, ClockBack, RegionDown}
+use Rattle.cics_machine.specs.Machine.{RegionValue}
+use Rattle.cics_machine.specs.Steps.{Stepped}
+use Rattle.cics_machine.specs.Answers.{IsStep}
+use Rattle.cics_machine.specs.declared.outcomes.Refused.{Refused}
+use Rattle.cics_machine.specs.declared.outcomes.Refused.TheVariants.{NoMemory, NoTask, TaskWaiting, TaskEnded, DuplicateLabel, ClockBack, RegionDown}
 use Rattle.cics_stage.specs.Stages.{answered, event, told_line, IsAnswered, Happens}
 
 -- the lines of an event's answers, for a machine and the step that the event is of it

@@ -4,16 +4,16 @@ use Rattle.std.specs.Fmt.{decimal}
 use Rattle.cics_names.specs.Conditions.{number_of, title_of}
 use Rattle.cics_names.specs.declared.conditions.Condition.{Condition}
 use Rattle.cics_names.specs.declared.conditions.AbendCode.{AbendCode}
-use Rattle.cics_dispatch.specs.Refusals.{refusal_number}
-use Rattle.cics_dispatch.specs.declared.outcomes.Number.{Number}
-use Rattle.cics_dispatch.specs.declared.outcomes.Number.TheVariants.{Item, Numrec}
-use Rattle.cics_dispatch.specs.declared.outcomes.Reply.{Reply}
-use Rattle.cics_dispatch.specs.declared.outcomes.Outcome.{Outcome}
-use Rattle.cics_dispatch.specs.declared.outcomes.Outcome.TheVariants.{Replied, Waiting, Abended, Ended}
-use Rattle.cics_dispatch.specs.declared.outcomes.Woken.{Woken}
-use Rattle.cics_dispatch.specs.declared.outcomes.Expired.{Expired}
-use Rattle.cics_dispatch.specs.declared.outcomes.Refused.{Refused}
-use Rattle.cics_dispatch.specs.declared.outcomes.Refused.TheVariants as refused
+use Rattle.cics_machine.specs.Refusals.{refusal_number}
+use Rattle.cics_machine.specs.declared.outcomes.Number.{Number}
+use Rattle.cics_machine.specs.declared.outcomes.Number.TheVariants.{Item, Numrec}
+use Rattle.cics_machine.specs.declared.outcomes.Reply.{Reply}
+use Rattle.cics_machine.specs.declared.outcomes.Outcome.{Outcome}
+use Rattle.cics_machine.specs.declared.outcomes.Outcome.TheVariants.{Replied, Waiting, Abended, Ended}
+use Rattle.cics_machine.specs.declared.outcomes.Woken.{Woken}
+use Rattle.cics_machine.specs.declared.outcomes.Expired.{Expired}
+use Rattle.cics_machine.specs.declared.outcomes.Refused.{Refused}
+use Rattle.cics_machine.specs.declared.outcomes.Refused.TheVariants as refused
 use Rattle.cics_opening.specs.Faults.{fault_number}
 use Rattle.cics_opening.specs.declared.opening.DefineFault.{DefineFault}
 use Rattle.cics_opening.specs.declared.opening.DefineFault.TheVariants as define

@@ -2,10 +2,10 @@
 -- too long are abended.
 use Rattle.std.specs.Prelude.{◌≡◌, ℕ, zero, suc, Bool, true, false, List, [], ◌++◌, Option, Some, None}
 use Rattle.cics_history.specs.Holding.{store_of}
-use Rattle.cics_dispatch.specs.Machine.{Machine, RegionValue}
-use Rattle.cics_dispatch.specs.Waking.{woken, expired}
-use Rattle.cics_dispatch.specs.declared.outcomes.Woken.{Woken}
-use Rattle.cics_dispatch.specs.declared.outcomes.Expired.{Expired}
+use Rattle.cics_machine.specs.Machine.{Machine, RegionValue}
+use Rattle.cics_machine.specs.Waking.{woken, expired}
+use Rattle.cics_machine.specs.declared.outcomes.Woken.{Woken}
+use Rattle.cics_machine.specs.declared.outcomes.Expired.{Expired}
 use Rattle.cics_stage.specs.Journal.{woken_line, expired_line}
 
 -- the region of a machine: its files and queues hold the replay of the surviving entries

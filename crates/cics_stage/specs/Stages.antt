@@ -7,14 +7,14 @@ use Rattle.cics_history.specs.State.{OpeningState}
 use Rattle.cics_history.specs.Openings.{nothing_defined, with_file, with_record, with_prefix, with_queue, with_td_record}
 use Rattle.cics_opening.specs.Faults.{file_fault, load_fault, load_td_fault, fault_if}
 use Rattle.cics_opening.specs.declared.opening.DefineFault.{DefineFault}
-use Rattle.cics_dispatch.specs.Machine.{Machine, RegionValue, beginning_region}
-use Rattle.cics_dispatch.specs.Steps.{attached, issued}
-use Rattle.cics_dispatch.specs.Waking.{clock_set}
-use Rattle.cics_dispatch.specs.Shutdown.{unless_down, shut_down}
-use Rattle.cics_dispatch.specs.Answers.{region_listing, replayed_listing}
+use Rattle.cics_machine.specs.Machine.{Machine, RegionValue, beginning_region}
+use Rattle.cics_machine.specs.Steps.{attached, issued}
+use Rattle.cics_machine.specs.Waking.{clock_set}
+use Rattle.cics_machine.specs.Shutdown.{unless_down, shut_down}
+use Rattle.cics_machine.specs.Answers.{region_listing, replayed_listing}
 use Rattle.cics_names.specs.declared.commands.Command.{Command}
-use Rattle.cics_dispatch.specs.declared.outcomes.Refused.{Refused}
-use Rattle.cics_dispatch.specs.declared.outcomes.Refused.TheVariants.{NoMemory}
+use Rattle.cics_machine.specs.declared.outcomes.Refused.{Refused}
+use Rattle.cics_machine.specs.declared.outcomes.Refused.TheVariants.{NoMemory}
 use Rattle.cics_script.specs.Lines.{line}
 use Rattle.cics_script.specs.declared.lines.Line.{Line}
 use Rattle.cics_script.specs.declared.lines.Line.TheVariants.{Blank, DefineFile, DefineTsPrefix, DefineTd, LoadFile, LoadTd, Attach, Clock, Issue, Shutdown}

@@ -11,14 +11,14 @@ use Rattle.cics_names.specs.Conditions.{number_of, title_of}
 use Rattle.cics_names.specs.declared.conditions.Condition.{Condition}
 use Rattle.cics_names.specs.declared.conditions.Condition.TheVariants as condition
 use Rattle.cics_names.specs.declared.conditions.AbendCode.{AbendCode}
-use Rattle.cics_dispatch.specs.Refusals.{refusal_number}
-use Rattle.cics_dispatch.specs.declared.outcomes.Number.{Number}
-use Rattle.cics_dispatch.specs.declared.outcomes.Number.TheVariants.{Item, Numrec}
-use Rattle.cics_dispatch.specs.declared.outcomes.Reply.{Reply}
-use Rattle.cics_dispatch.specs.declared.outcomes.Outcome.{Outcome}
-use Rattle.cics_dispatch.specs.declared.outcomes.Outcome.TheVariants.{Replied, Waiting, Abended, Ended}
-use Rattle.cics_dispatch.specs.declared.outcomes.Refused.{Refused}
-use Rattle.cics_dispatch.specs.declared.outcomes.Refused.TheVariants as refused
+use Rattle.cics_machine.specs.Refusals.{refusal_number}
+use Rattle.cics_machine.specs.declared.outcomes.Number.{Number}
+use Rattle.cics_machine.specs.declared.outcomes.Number.TheVariants.{Item, Numrec}
+use Rattle.cics_machine.specs.declared.outcomes.Reply.{Reply}
+use Rattle.cics_machine.specs.declared.outcomes.Outcome.{Outcome}
+use Rattle.cics_machine.specs.declared.outcomes.Outcome.TheVariants.{Replied, Waiting, Abended, Ended}
+use Rattle.cics_machine.specs.declared.outcomes.Refused.{Refused}
+use Rattle.cics_machine.specs.declared.outcomes.Refused.TheVariants as refused
 use Rattle.cics_script.specs.Texts.{has_character, shown, doubled, quoted, digit, hexadecimal, text_of, unfilled, bare}
 use Rattle.cics_run.specs.Lines.{is_in_line}
 use Rattle.cics_stage.specs.Journal.{condition_text, part, number_part, reply_text, abend_text, outcome_text, refusal_title, refusal_text}

@@ -10,11 +10,11 @@ use Rattle.cics_names.specs.Conditions.{number_of, title_of}
 use Rattle.cics_names.specs.declared.conditions.Condition.{Condition}
 use Rattle.cics_names.specs.declared.conditions.Condition.TheVariants as condition
 use Rattle.cics_names.specs.declared.conditions.AbendCode.{AbendCode}
-use Rattle.cics_dispatch.specs.declared.outcomes.Reply.{Reply}
-use Rattle.cics_dispatch.specs.declared.outcomes.Outcome.{Outcome}
-use Rattle.cics_dispatch.specs.declared.outcomes.Outcome.TheVariants.{Replied, Waiting, Abended, Ended}
-use Rattle.cics_dispatch.specs.declared.outcomes.Refused.{Refused}
-use Rattle.cics_dispatch.specs.declared.outcomes.Refused.TheVariants as refused
+use Rattle.cics_machine.specs.declared.outcomes.Reply.{Reply}
+use Rattle.cics_machine.specs.declared.outcomes.Outcome.{Outcome}
+use Rattle.cics_machine.specs.declared.outcomes.Outcome.TheVariants.{Replied, Waiting, Abended, Ended}
+use Rattle.cics_machine.specs.declared.outcomes.Refused.{Refused}
+use Rattle.cics_machine.specs.declared.outcomes.Refused.TheVariants as refused
 use Rattle.cics_script.specs.Texts.{name_text, bare}
 use Rattle.cics_stage.specs.Journal.{condition_text, abend_text, outcome_text, attached_line, outcome_line, refusal_text, refused_line, script_line}
 use Rattle.cics_told.specs.Amiss.{without_woken, is_told_amiss, has_front}

@@ -5,8 +5,8 @@ use Rattle.cics_names.specs.Keyed.{Bytes}
 use Rattle.cics_names.specs.declared.commands.Command.{Command}
 use Rattle.cics_names.specs.declared.commands.Verb.{Verb}
 use Rattle.cics_names.specs.declared.commands.Verb.TheVariants.{Read, Write, Delete, WriteqTs, DeleteqTs, WriteqTd, ReadqTd, DeleteqTd, Enq}
-use Rattle.cics_dispatch.specs.Machine.{Machine}
-use Rattle.cics_dispatch.specs.Blockers.{blocker_of, waiting_command}
+use Rattle.cics_machine.specs.Machine.{Machine}
+use Rattle.cics_machine.specs.Blockers.{blocker_of, waiting_command}
 use Rattle.cics_deadlock.specs.Deadlocks.{deadlocks}
 use Rattle.cics_script.specs.Texts.{text_of, name_text, bare}
 use Rattle.cics_stage.specs.Journal.{line}

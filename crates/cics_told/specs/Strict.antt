@@ -3,8 +3,8 @@ use Rattle.std.specs.Prelude.{◌≡◌, ◌≤◌, ℕ, Bool, true, false, ◌|
 use Rattle.std.specs.List.{fold, list_all}
 use Rattle.std.specs.Char.{is_ascii_alphanumeric}
 use Rattle.cics_names.specs.declared.conditions.AbendCode.{AbendCode}
-use Rattle.cics_dispatch.specs.declared.outcomes.Outcome.{Outcome}
-use Rattle.cics_dispatch.specs.declared.outcomes.Outcome.TheVariants.{Abended}
+use Rattle.cics_machine.specs.declared.outcomes.Outcome.{Outcome}
+use Rattle.cics_machine.specs.declared.outcomes.Outcome.TheVariants.{Abended}
 use Rattle.cics_script.specs.Texts.{bare}
 use Rattle.cics_told.specs.Amiss.{with_byte, has_front}
 use lib.Chars.{codes}

@@ -5,7 +5,7 @@ use Rattle.cics_script.specs.Columns.{IsFoundIn}
 use Rattle.cics_script.specs.declared.columns.Placed.{Placed}
 use Rattle.cics_script.specs.declared.faults.LineFault.{LineFault}
 use Rattle.cics_opening.specs.Faults.{fault_number}
-use Rattle.cics_dispatch.specs.Machine.{Machine}
+use Rattle.cics_machine.specs.Machine.{Machine}
 use Rattle.cics_deadlock.specs.Circles.{waiting_count}
 use Rattle.cics_deadlock.specs.Deadlocks.{waits_of}
 use Rattle.cics_advice.specs.Advice.{Advises}

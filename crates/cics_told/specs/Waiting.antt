@@ -1,7 +1,7 @@
 -- Whether a run leaves a task waiting.
 use Rattle.std.specs.Prelude.{ℕ, zero, suc, Bool, false, ◌||◌, option_and_then, is_some, length}
-use Rattle.cics_dispatch.specs.Machine.{Machine}
-use Rattle.cics_dispatch.specs.Blockers.{label_at, waiting_command}
+use Rattle.cics_machine.specs.Machine.{Machine}
+use Rattle.cics_machine.specs.Blockers.{label_at, waiting_command}
 use Rattle.cics_stage.specs.declared.stage.Stage.{Stage}
 use Rattle.cics_stage.specs.declared.stage.Stage.TheVariants.{Opening, Running}
 

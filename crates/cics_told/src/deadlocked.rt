@@ -5,7 +5,7 @@ ghost use Rattle.std.specs.List.{flat_map};
 ghost use Rattle.cics_told.specs.Deadlocked.{keys_text, queue_text, value_text, resource_text};
 ghost use Rattle.cics_told.specs.Deadlocked.{wait_text, next_wait_text, deadlock_line};
 ghost use Rattle.cics_told.specs.Deadlocked.{deadlock_lines, blocker_text, awaited_text};
-ghost use Rattle.cics_dispatch.specs.Blockers.{blocker_of, waiting_command};
+ghost use Rattle.cics_machine.specs.Blockers.{blocker_of, waiting_command};
 
 use cics_deadlock::deadlocks;
 use cics_dispatch::Region;

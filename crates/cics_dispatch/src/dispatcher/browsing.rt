@@ -7,19 +7,16 @@ ghost use Rattle.cics_names.specs.declared.conditions.Condition.TheVariants.{Nor
 ghost use Rattle.cics_history.specs.Execution.{IsOpenOrNone};
 ghost use Rattle.cics_history.specs.Headline.{IsHeadline};
 ghost use Rattle.cics_history.specs.Serial.{IsSerializable};
-ghost use Rattle.cics_dispatch.specs.Machine.{Machine, definition_of, with_units};
-ghost use Rattle.cics_dispatch.specs.Replies.{plain};
-ghost use Rattle.cics_dispatch.specs.Steps.{answered, unlocked, started, reset, browse_ended};
-ghost use Rattle.cics_dispatch.specs.Calls.{IsAwake, HasBrowse, IsStepOf};
-ghost use Rattle.cics_dispatch.specs.Calls.{IsStepOrRefused, reading, reading_on};
+ghost use Rattle.cics_machine.specs.Machine.{Machine, definition_of, with_units};
+ghost use Rattle.cics_machine.specs.Replies.{plain};
+ghost use Rattle.cics_machine.specs.Steps.{answered, unlocked, started, reset, browse_ended};
+ghost use Rattle.cics_machine.specs.Calls.{IsAwake, HasBrowse, IsStepOf};
+ghost use Rattle.cics_machine.specs.Calls.{IsStepOrRefused, reading, reading_on};
 
-use crate::browses::{Direction, Start, read_on};
 use crate::dispatcher::Dispatcher;
-use crate::outcomes::Outcome;
-use crate::reads::{plain_reply, read_plain};
-use crate::replies::reply_of_browsed;
 use cics_browse::Browse;
 use cics_history::UnitId;
+use cics_machine::{Direction, Outcome, Start, plain_reply, read_on, read_plain, reply_of_browsed};
 use cics_names::{Command, Condition, Name8, NoMemory};
 use cics_units::Units;
 

@@ -2,13 +2,11 @@
 
 ghost use Rattle.std.specs.Prelude.{◌≡◌, ◌<◌, length};
 ghost use Rattle.cics_names.specs.Commands.{length_of};
-ghost use Rattle.cics_dispatch.specs.Checks.{queue_fault, other_fault};
-ghost use Rattle.cics_dispatch.specs.Calls.{IsAwake, IsStepOrRefused, reading_item};
+ghost use Rattle.cics_machine.specs.Checks.{queue_fault, other_fault};
+ghost use Rattle.cics_machine.specs.Calls.{IsAwake, IsStepOrRefused, reading_item};
 
-use crate::checks::{item_fault, value_fault};
 use crate::dispatcher::Dispatcher;
-use crate::outcomes::Outcome;
-use crate::replies::reply_of_item;
+use cics_machine::{Outcome, item_fault, reply_of_item, value_fault};
 use cics_names::{Command, Condition, Name4, Name8, NoMemory, Verb};
 
 impl Dispatcher {

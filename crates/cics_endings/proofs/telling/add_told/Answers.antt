@@ -1,6 +1,6 @@
 use Rattle.std.proofs.Common.{arith, ◌≡◌, ◌≤◌, ◌∙◌, ℕ, zero, suc, min, List, [], ◌∷◌, ◌++◌, length, drop, refl, ap, sym, append-nil}
 use Rattle.cics_names.specs.Keyed.{Bytes}
-use Rattle.cics_dispatch.specs.declared.outcomes.Outcome.{Outcome}
+use Rattle.cics_machine.specs.declared.outcomes.Outcome.{Outcome}
 use Rattle.cics_plans.specs.Taking.{NumberedLine}
 use Rattle.cics_endings.specs.Telling.{told_parts}
 use Rattle.cics_endings.proofs.telling.add_told.Goals as goal

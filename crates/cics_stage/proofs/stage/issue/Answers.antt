@@ -1,5 +1,5 @@
-use Rattle.cics_dispatch.specs.Steps.{issued}
-use Rattle.cics_dispatch.specs.Shutdown.{unless_down}
+use Rattle.cics_machine.specs.Steps.{issued}
+use Rattle.cics_machine.specs.Shutdown.{unless_down}
 use Rattle.cics_stage.specs.Journal.{outcome_line, refused_line}
 use Rattle.cics_stage.proofs.Telling.{happens-answered}
 use Rattle.cics_stage.proofs.stage.issue.Goals as goal

@@ -1,5 +1,5 @@
-use Rattle.cics_dispatch.specs.Waking.{clock_set}
-use Rattle.cics_dispatch.specs.Shutdown.{unless_down}
+use Rattle.cics_machine.specs.Waking.{clock_set}
+use Rattle.cics_machine.specs.Shutdown.{unless_down}
 use Rattle.cics_stage.specs.Journal.{clock_line, clock_refused_line}
 use Rattle.cics_stage.proofs.Telling.{happens-answered}
 use Rattle.cics_stage.proofs.stage.set_clock.Goals as goal

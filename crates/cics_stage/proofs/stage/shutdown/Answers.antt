@@ -1,4 +1,4 @@
-use Rattle.cics_dispatch.specs.Shutdown.{unless_down, shut_down}
+use Rattle.cics_machine.specs.Shutdown.{unless_down, shut_down}
 use Rattle.cics_stage.specs.Journal.{shutdown_line, shutdown_refused_line}
 use Rattle.cics_stage.proofs.Telling.{happens-answered}
 use Rattle.cics_stage.proofs.stage.shutdown.Goals as goal

@@ -1,5 +1,5 @@
 use Rattle.std.proofs.Common.{◌++◌, codes}
-use Rattle.cics_dispatch.specs.Blockers.{blocker_of, waiting_command}
+use Rattle.cics_machine.specs.Blockers.{blocker_of, waiting_command}
 use Rattle.cics_script.specs.Texts.{bare}
 use Rattle.cics_told.specs.Deadlocked.{blocker_text, awaited_text}
 use Rattle.cics_told.proofs.Put.{put-put}

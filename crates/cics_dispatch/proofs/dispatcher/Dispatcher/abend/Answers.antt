@@ -1,10 +1,10 @@
 use Rattle.std.proofs.Common.{◌∙◌, sym, ap, subst}
 use Rattle.cics_history.specs.Execution.{IsOpenOrNone}
 use Rattle.cics_history.specs.declared.ops.UnitState.TheVariants.{BackedOut}
-use Rattle.cics_dispatch.specs.Machine.{not_waiting, units_after}
-use Rattle.cics_dispatch.specs.Regions.{region_of}
-use Rattle.cics_dispatch.proofs.KeptTasks.{acting_or_none}
-use Rattle.cics_dispatch.proofs.RegionSteps.{abended_kept}
+use Rattle.cics_machine.specs.Machine.{not_waiting, units_after}
+use Rattle.cics_machine.specs.Regions.{region_of}
+use Rattle.cics_machine.proofs.KeptTasks.{acting_or_none}
+use Rattle.cics_machine.proofs.RegionSteps.{abended_kept}
 use Rattle.cics_dispatch.proofs.dispatcher.Dispatcher.abend.Goals as goal
 
 pub end_unit-requires-clause-is_open : goal.end_unit-requires-clause-is_open

@@ -1,9 +1,9 @@
 use Rattle.std.proofs.Common.{sym}
-use Rattle.cics_dispatch.specs.Regions.{region_of}
-use Rattle.cics_dispatch.specs.Steps.{with_new_task}
-use Rattle.cics_dispatch.proofs.KeptTasks.{kept_attached}
-use Rattle.cics_dispatch.proofs.OwnedUnits.{owned_attached}
-use Rattle.cics_dispatch.proofs.RegionSteps.{kept_as, none_found}
+use Rattle.cics_machine.specs.Regions.{region_of}
+use Rattle.cics_machine.specs.Steps.{with_new_task}
+use Rattle.cics_machine.proofs.KeptTasks.{kept_attached}
+use Rattle.cics_machine.proofs.OwnedUnits.{owned_attached}
+use Rattle.cics_machine.proofs.RegionSteps.{kept_as, none_found}
 use Rattle.cics_dispatch.proofs.dispatcher.Dispatcher.attach.Goals as goal
 
 pub invariant_of-self-2 : goal.invariant_of-self-2

@@ -1,9 +1,9 @@
 use Rattle.std.proofs.Common.{◌∙◌, ap}
 use Rattle.cics_names.specs.declared.conditions.Condition.TheVariants.{Normal}
-use Rattle.cics_dispatch.specs.Replies.{plain}
-use Rattle.cics_dispatch.specs.Steps.{answered, dequeued, units_dequeued}
-use Rattle.cics_dispatch.proofs.RegionSteps.{seen_awake, seen_step, then_told}
-use Rattle.cics_dispatch.proofs.RegionEnqueuing.{dequeued_kept, dequeue_answered}
+use Rattle.cics_machine.specs.Replies.{plain}
+use Rattle.cics_machine.specs.Steps.{answered, dequeued, units_dequeued}
+use Rattle.cics_machine.proofs.RegionSteps.{seen_awake, seen_step, then_told}
+use Rattle.cics_machine.proofs.RegionEnqueuing.{dequeued_kept, dequeue_answered}
 use Rattle.cics_dispatch.proofs.dispatcher.Dispatcher.dequeue.Goals as goal
 
 pub invariant_of-self : goal.invariant_of-self

@@ -2,10 +2,10 @@ use Rattle.std.proofs.Common.{◌≡◌, ◌∙◌, ◌+◌, length, sym, ap, su
 use Rattle.std.specs.Prelude.{suc, drop, is_some, slice_get}
 use Rattle.std.proofs.lemmas.Option.{slice_get_within}
 use Rattle.cics_history.specs.declared.ops.UnitState.TheVariants.{BackedOut}
-use Rattle.cics_dispatch.specs.Machine.{unit_closed}
-use Rattle.cics_dispatch.specs.Tasks.{own_label, IsOwn}
-use Rattle.cics_dispatch.specs.Shutdown.{units_of, all_ended}
-use Rattle.cics_dispatch.proofs.RegionShutdown.{ended_long, ended_then, count_then, none_then, one_more, none_more}
+use Rattle.cics_machine.specs.Machine.{unit_closed}
+use Rattle.cics_machine.specs.Tasks.{own_label, IsOwn}
+use Rattle.cics_machine.specs.Shutdown.{units_of, all_ended}
+use Rattle.cics_machine.proofs.RegionShutdown.{ended_long, ended_then, count_then, none_then, one_more, none_more}
 use Rattle.cics_dispatch.proofs.dispatcher.Dispatcher.end_tasks.Goals.{then-is_some, else-is_some}
 use Rattle.cics_dispatch.proofs.dispatcher.Dispatcher.end_tasks.Goals as goal
 

@@ -1,12 +1,12 @@
 use Rattle.std.proofs.Common.{◌∙◌, sym, ap, subst, Some, Ok}
-use Rattle.cics_dispatch.specs.Regions.{region_of, IsRegionKept}
-use Rattle.cics_dispatch.specs.Calls.{HasReady, IsAttempt, going_on}
+use Rattle.cics_machine.specs.Regions.{region_of, IsRegionKept}
+use Rattle.cics_machine.specs.Calls.{HasReady, IsAttempt, going_on}
 use Rattle.cics_history.specs.Execution.{IfMustWait, IsOpenUnit}
 use Rattle.cics_history.specs.Holding.{awaited}
 use Rattle.cics_units.specs.Submitting.{as_done, IsBackIfItWaits}
-use Rattle.cics_dispatch.specs.Machine.{with_unit}
-use Rattle.cics_dispatch.specs.declared.outcomes.Attempt.TheVariants.{Told, MustWait}
-use Rattle.cics_dispatch.proofs.RegionSteps.{then_told, executes, waits_same, holder_awaited, acted_kept, acted_step, owner_free, owner_there, placed_within, one_task, seen_awake}
+use Rattle.cics_machine.specs.Machine.{with_unit}
+use Rattle.cics_machine.specs.declared.outcomes.Attempt.TheVariants.{Told, MustWait}
+use Rattle.cics_machine.proofs.RegionSteps.{then_told, executes, waits_same, holder_awaited, acted_kept, acted_step, owner_free, owner_there, placed_within, one_task, seen_awake}
 use Rattle.cics_dispatch.proofs.dispatcher.Dispatcher.execute.Goals as goal
 
 pub submit-requires-clause-ready : goal.submit-requires-clause-ready

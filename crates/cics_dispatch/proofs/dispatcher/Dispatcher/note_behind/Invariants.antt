@@ -1,5 +1,5 @@
 use Rattle.std.proofs.Common.{◌≡◌, ◌≤◌, ◌+◌, ◌-◌, drop}
-use Rattle.cics_dispatch.specs.Notes.{AreNotedNow}
+use Rattle.cics_machine.specs.Notes.{AreNotedNow}
 use Rattle.cics_waits.specs.Notes.{count}
 use Rattle.cics_dispatch.proofs.dispatcher.Dispatcher.note_behind.Given as goal
 

@@ -2,12 +2,12 @@ use Rattle.std.proofs.Common.{◌∙◌, ap}
 use Rattle.std.specs.Prelude.{option_map}
 use Rattle.cics_names.specs.Commands.{length_of}
 use Rattle.cics_history.specs.Execution.{item_asked}
-use Rattle.cics_dispatch.specs.Calls.{reading_item}
-use Rattle.cics_dispatch.specs.Regions.{region_of}
-use Rattle.cics_dispatch.specs.Steps.{answered, reply_with}
-use Rattle.cics_dispatch.specs.declared.outcomes.Number.TheVariants.{Item}
-use Rattle.cics_dispatch.proofs.RegionSteps.{seen_task, seen_awake, seen_step, then_told}
-use Rattle.cics_dispatch.proofs.RegionQueues.{item_read_machine, item_read_kept}
+use Rattle.cics_machine.specs.Calls.{reading_item}
+use Rattle.cics_machine.specs.Regions.{region_of}
+use Rattle.cics_machine.specs.Steps.{answered, reply_with}
+use Rattle.cics_machine.specs.declared.outcomes.Number.TheVariants.{Item}
+use Rattle.cics_machine.proofs.RegionSteps.{seen_task, seen_awake, seen_step, then_told}
+use Rattle.cics_machine.proofs.RegionQueues.{item_read_machine, item_read_kept}
 use Rattle.cics_dispatch.proofs.dispatcher.Dispatcher.read_item.Goals as goal
 
 pub invariant_of-self-2 : goal.invariant_of-self-2

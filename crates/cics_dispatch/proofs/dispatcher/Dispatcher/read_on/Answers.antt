@@ -2,11 +2,11 @@ use Rattle.std.proofs.Common.{◌∙◌, ap, sym}
 use Rattle.std.specs.Option.{option_copied_mut}
 use Rattle.cics_names.specs.Commands.{length_of}
 use Rattle.cics_names.specs.Keyed.{value_at}
-use Rattle.cics_dispatch.specs.Calls.{reading_on}
-use Rattle.cics_dispatch.specs.Replies.{cut}
-use Rattle.cics_dispatch.specs.Steps.{browse_reply}
-use Rattle.cics_dispatch.proofs.RegionBrowses.{never_none, lent, owner_within, browses_kept, same_browses, own_records, then_told_so, read_answered}
-use Rattle.cics_dispatch.proofs.RegionSteps.{seen_task, seen_awake, seen_browse, seen_step, refused_as_was}
+use Rattle.cics_machine.specs.Calls.{reading_on}
+use Rattle.cics_machine.specs.Replies.{cut}
+use Rattle.cics_machine.specs.Steps.{browse_reply}
+use Rattle.cics_machine.proofs.RegionBrowses.{never_none, lent, owner_within, browses_kept, same_browses, own_records, then_told_so, read_answered}
+use Rattle.cics_machine.proofs.RegionSteps.{seen_task, seen_awake, seen_browse, seen_step, refused_as_was}
 use Rattle.cics_dispatch.proofs.dispatcher.Dispatcher.read_on.Goals as goal
 
 pub unreachable-requires-in_default-get_mut : goal.unreachable-requires-in_default-get_mut

@@ -1,10 +1,10 @@
 use Rattle.std.proofs.Common.{◌∙◌, ap, sym}
 use Rattle.std.specs.Option.{option_copied_mut}
 use Rattle.cics_names.specs.Keyed.{value_at}
-use Rattle.cics_dispatch.specs.Replies.{plain}
-use Rattle.cics_dispatch.specs.Steps.{reset}
-use Rattle.cics_dispatch.proofs.RegionBrowses.{never_none, lent, owner_within, browses_kept, own_records, then_told_so, reset_answered}
-use Rattle.cics_dispatch.proofs.RegionSteps.{seen_task, seen_awake, seen_browse, seen_step}
+use Rattle.cics_machine.specs.Replies.{plain}
+use Rattle.cics_machine.specs.Steps.{reset}
+use Rattle.cics_machine.proofs.RegionBrowses.{never_none, lent, owner_within, browses_kept, own_records, then_told_so, reset_answered}
+use Rattle.cics_machine.proofs.RegionSteps.{seen_task, seen_awake, seen_browse, seen_step}
 use Rattle.cics_dispatch.proofs.dispatcher.Dispatcher.reset_browse.Goals as goal
 
 pub unreachable-requires-in_default-get_mut : goal.unreachable-requires-in_default-get_mut

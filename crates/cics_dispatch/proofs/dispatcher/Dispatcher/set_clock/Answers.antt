@@ -1,6 +1,6 @@
-use Rattle.cics_dispatch.specs.Regions.{region_of}
-use Rattle.cics_dispatch.proofs.KeptTasks.{kept_clock}
-use Rattle.cics_dispatch.proofs.OwnedUnits.{owned_clock}
+use Rattle.cics_machine.specs.Regions.{region_of}
+use Rattle.cics_machine.proofs.KeptTasks.{kept_clock}
+use Rattle.cics_machine.proofs.OwnedUnits.{owned_clock}
 use Rattle.cics_dispatch.proofs.dispatcher.Dispatcher.set_clock.Goals as goal
 
 pub invariant_of-self : goal.invariant_of-self

@@ -1,7 +1,7 @@
 use Rattle.std.proofs.Common.{◌∙◌, sym, ap}
 use Rattle.std.specs.Prelude.{slice_get}
-use Rattle.cics_dispatch.specs.Regions.{region_of}
-use Rattle.cics_dispatch.proofs.RegionShutdown.{none_live}
+use Rattle.cics_machine.specs.Regions.{region_of}
+use Rattle.cics_machine.proofs.RegionShutdown.{none_live}
 use Rattle.cics_dispatch.proofs.dispatcher.Dispatcher.shut_down.Goals as goal
 
 pub returns-clause-none_open : goal.returns-clause-none_open

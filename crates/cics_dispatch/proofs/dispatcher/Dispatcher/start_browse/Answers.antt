@@ -1,11 +1,11 @@
 use Rattle.std.proofs.Common.{◌∙◌, ap, sym}
 use Rattle.cics_names.specs.Keyed.{with_value}
 use Rattle.cics_names.specs.declared.conditions.Condition.TheVariants.{Normal}
-use Rattle.cics_dispatch.specs.Regions.{region_of}
-use Rattle.cics_dispatch.specs.Replies.{plain}
-use Rattle.cics_dispatch.specs.Steps.{answered, started}
-use Rattle.cics_dispatch.proofs.RegionBrowses.{owner_within, browses_kept, same_browses, own_records, then_told_so, started_there, not_started}
-use Rattle.cics_dispatch.proofs.RegionSteps.{seen_task, seen_awake, seen_step, told_as, refused_as_was}
+use Rattle.cics_machine.specs.Regions.{region_of}
+use Rattle.cics_machine.specs.Replies.{plain}
+use Rattle.cics_machine.specs.Steps.{answered, started}
+use Rattle.cics_machine.proofs.RegionBrowses.{owner_within, browses_kept, same_browses, own_records, then_told_so, started_there, not_started}
+use Rattle.cics_machine.proofs.RegionSteps.{seen_task, seen_awake, seen_step, told_as, refused_as_was}
 use Rattle.cics_dispatch.proofs.dispatcher.Dispatcher.start_browse.Goals as goal
 
 pub returns-in_default-start : goal.returns-in_default-start

@@ -1,14 +1,14 @@
 use Rattle.std.proofs.Common.{◌∙◌, sym, ap, subst, Ok}
-use Rattle.cics_dispatch.specs.Regions.{region_of}
-use Rattle.cics_dispatch.specs.Calls.{HasReady, IsStepOrRefused}
+use Rattle.cics_machine.specs.Regions.{region_of}
+use Rattle.cics_machine.specs.Calls.{HasReady, IsStepOrRefused}
 use Rattle.std.specs.Prelude.{◌++◌, ◌∷◌, []}
-use Rattle.cics_dispatch.specs.Machine.{with_waiting}
-use Rattle.cics_dispatch.proofs.KeptTasks.{begins_now, kept_suspended}
-use Rattle.cics_dispatch.proofs.OwnedUnits.{owned_suspended}
+use Rattle.cics_machine.specs.Machine.{with_waiting}
+use Rattle.cics_machine.proofs.KeptTasks.{begins_now, kept_suspended}
+use Rattle.cics_machine.proofs.OwnedUnits.{owned_suspended}
 use Rattle.std.specs.Prelude.{unwrap_or}
-use Rattle.cics_dispatch.specs.Steps.{with_outcome, suspended}
-use Rattle.cics_dispatch.specs.declared.outcomes.Outcome.TheVariants.{Waiting}
-use Rattle.cics_dispatch.proofs.RegionSteps.{kept_as, one_task}
+use Rattle.cics_machine.specs.Steps.{with_outcome, suspended}
+use Rattle.cics_machine.specs.declared.outcomes.Outcome.TheVariants.{Waiting}
+use Rattle.cics_machine.proofs.RegionSteps.{kept_as, one_task}
 use Rattle.cics_dispatch.proofs.dispatcher.Dispatcher.suspend.Goals as goal
 
 pub invariant_of-self-2 : goal.invariant_of-self-2

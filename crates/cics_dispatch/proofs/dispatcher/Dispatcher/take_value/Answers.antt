@@ -1,15 +1,15 @@
 use Rattle.std.proofs.Common.{refl, ◌∙◌, sym, ap, subst, None, Ok}
 use Rattle.std.specs.Prelude.{take}
-use Rattle.cics_dispatch.specs.Regions.{region_of, IsRegionKept}
-use Rattle.cics_dispatch.specs.Calls.{IsAttempt, going_on}
+use Rattle.cics_machine.specs.Regions.{region_of, IsRegionKept}
+use Rattle.cics_machine.specs.Calls.{IsAttempt, going_on}
 use Rattle.cics_history.specs.Execution.{IfEnqMustWait, IsOpenUnit}
-use Rattle.cics_dispatch.specs.Machine.{with_unit}
-use Rattle.cics_dispatch.specs.Steps.{other_command}
-use Rattle.cics_dispatch.specs.Waking.{awaited_by}
-use Rattle.cics_dispatch.specs.declared.outcomes.Attempt.TheVariants.{Told, MustWait}
-use Rattle.cics_dispatch.proofs.Ready.{value_ready, only_enq}
-use Rattle.cics_dispatch.proofs.RegionSteps.{then_told, placed_within, one_task, seen_awake}
-use Rattle.cics_dispatch.proofs.RegionEnqueuing.{first_fit, enqueues, enq_awaited, waits_same, full_kept, full_step, owner_free, owner_there, taken_kept, taken_step}
+use Rattle.cics_machine.specs.Machine.{with_unit}
+use Rattle.cics_machine.specs.Steps.{other_command}
+use Rattle.cics_machine.specs.Waking.{awaited_by}
+use Rattle.cics_machine.specs.declared.outcomes.Attempt.TheVariants.{Told, MustWait}
+use Rattle.cics_machine.proofs.Ready.{value_ready, only_enq}
+use Rattle.cics_machine.proofs.RegionSteps.{then_told, placed_within, one_task, seen_awake}
+use Rattle.cics_machine.proofs.RegionEnqueuing.{first_fit, enqueues, enq_awaited, waits_same, full_kept, full_step, owner_free, owner_there, taken_kept, taken_step}
 use Rattle.cics_dispatch.proofs.dispatcher.Dispatcher.take_value.Goals as goal
 
 pub unreachable-requires : goal.unreachable-requires

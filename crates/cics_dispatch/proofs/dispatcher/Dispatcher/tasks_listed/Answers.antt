@@ -1,6 +1,6 @@
 use Rattle.std.proofs.Common.{◌∙◌, sym, ap, [], ◌∷◌, ◌++◌}
 use Rattle.std.specs.Prelude.{slice_get}
-use Rattle.cics_dispatch.proofs.RegionListing.{rows_ended, rows_more}
+use Rattle.cics_machine.proofs.RegionListing.{rows_ended, rows_more}
 use Rattle.cics_dispatch.proofs.dispatcher.Dispatcher.tasks_listed.Goals.{then-not-has_ended+in_ok-push, else-not-has_ended}
 use Rattle.cics_dispatch.proofs.dispatcher.Dispatcher.tasks_listed.Goals as goal
 

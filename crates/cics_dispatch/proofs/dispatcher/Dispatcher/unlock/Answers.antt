@@ -1,10 +1,10 @@
 use Rattle.std.proofs.Common.{◌∙◌, ap}
-use Rattle.cics_dispatch.specs.Regions.{region_of}
+use Rattle.cics_machine.specs.Regions.{region_of}
 use Rattle.cics_names.specs.declared.conditions.Condition.TheVariants.{Normal}
-use Rattle.cics_dispatch.specs.Replies.{plain}
-use Rattle.cics_dispatch.specs.Steps.{answered, unlocked}
-use Rattle.cics_dispatch.proofs.RegionSteps.{seen_awake, seen_step, then_told}
-use Rattle.cics_dispatch.proofs.RegionBrowses.{unlocked_kept, unlock_answered}
+use Rattle.cics_machine.specs.Replies.{plain}
+use Rattle.cics_machine.specs.Steps.{answered, unlocked}
+use Rattle.cics_machine.proofs.RegionSteps.{seen_awake, seen_step, then_told}
+use Rattle.cics_machine.proofs.RegionBrowses.{unlocked_kept, unlock_answered}
 use Rattle.cics_dispatch.proofs.dispatcher.Dispatcher.unlock.Goals as goal
 
 pub invariant_of-self : goal.invariant_of-self

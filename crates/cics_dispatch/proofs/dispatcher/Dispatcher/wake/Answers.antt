@@ -1,15 +1,15 @@
 use Rattle.std.proofs.Common.{◌≡◌, ◌∙◌, sym, ap, subst, refl, Some}
-use Rattle.cics_dispatch.specs.Regions.{region_of, IsRegionKept}
+use Rattle.cics_machine.specs.Regions.{region_of, IsRegionKept}
 use Rattle.std.specs.Prelude.{[]}
-use Rattle.cics_dispatch.specs.Machine.{Machine, with_waiting}
-use Rattle.cics_dispatch.specs.Steps.{with_outcome}
-use Rattle.cics_dispatch.specs.Waking.{woken}
-use Rattle.cics_dispatch.specs.Notes.{IsFirstFree}
-use Rattle.cics_dispatch.specs.KeptTasks.{AreTasksKept}
-use Rattle.cics_dispatch.proofs.OwnedUnits.{owned_suspended}
-use Rattle.cics_dispatch.proofs.RegionSteps.{kept_as}
-use Rattle.cics_dispatch.proofs.RegionWaking.{woken_kept}
-use Rattle.cics_dispatch.proofs.Looks.{went_back}
+use Rattle.cics_machine.specs.Machine.{Machine, with_waiting}
+use Rattle.cics_machine.specs.Steps.{with_outcome}
+use Rattle.cics_machine.specs.Waking.{woken}
+use Rattle.cics_machine.specs.Notes.{IsFirstFree}
+use Rattle.cics_machine.specs.KeptTasks.{AreTasksKept}
+use Rattle.cics_machine.proofs.OwnedUnits.{owned_suspended}
+use Rattle.cics_machine.proofs.RegionSteps.{kept_as}
+use Rattle.cics_machine.proofs.RegionWaking.{woken_kept}
+use Rattle.cics_machine.proofs.Looks.{went_back}
 use Rattle.cics_dispatch.proofs.dispatcher.Dispatcher.wake.Goals as goal
 use Rattle.cics_dispatch.proofs.dispatcher.Dispatcher.wake.Goals.{After-remove}
 

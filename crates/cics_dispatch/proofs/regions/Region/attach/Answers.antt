@@ -1,6 +1,6 @@
-use Rattle.cics_dispatch.specs.Steps.{attached}
-use Rattle.cics_dispatch.specs.Notes.{IsRemembered}
-use Rattle.cics_dispatch.proofs.RegionRemembers.{after_step, remembered_attached}
+use Rattle.cics_machine.specs.Steps.{attached}
+use Rattle.cics_machine.specs.Notes.{IsRemembered}
+use Rattle.cics_machine.proofs.RegionRemembers.{after_step, remembered_attached}
 use Rattle.cics_dispatch.proofs.regions.Region.attach.Goals as goal
 
 pub invariant_of-self : goal.invariant_of-self

@@ -1,12 +1,12 @@
 use Rattle.std.proofs.Common.{◌∙◌, ap, subst, refl, Ok, Err}
 use Rattle.std.specs.Prelude.{◌&&◌, not, if◌then◌else◌, None}
-use Rattle.cics_dispatch.specs.Steps.{issued_by, issued}
-use Rattle.cics_dispatch.specs.Answers.{may_want}
-use Rattle.cics_dispatch.specs.Shutdown.{IsRegionStep}
-use Rattle.cics_dispatch.proofs.RegionShutdown.{up_step}
-use Rattle.cics_dispatch.specs.declared.outcomes.Refused.TheVariants.{NoTask}
-use Rattle.cics_dispatch.specs.Settled.{goes_on}
-use Rattle.cics_dispatch.proofs.RegionRemembers.{remembered_issued}
+use Rattle.cics_machine.specs.Steps.{issued_by, issued}
+use Rattle.cics_machine.specs.Answers.{may_want}
+use Rattle.cics_machine.specs.Shutdown.{IsRegionStep}
+use Rattle.cics_machine.proofs.RegionShutdown.{up_step}
+use Rattle.cics_machine.specs.declared.outcomes.Refused.TheVariants.{NoTask}
+use Rattle.cics_machine.specs.Settled.{goes_on}
+use Rattle.cics_machine.proofs.RegionRemembers.{remembered_issued}
 use Rattle.cics_dispatch.proofs.regions.Region.issue.Goals as goal
 
 pub returns-in_default-clause-step : goal.returns-in_default-clause-step

@@ -1,7 +1,7 @@
 use Rattle.std.proofs.Common.{false}
-use Rattle.cics_dispatch.specs.Waking.{clock_set}
-use Rattle.cics_dispatch.specs.Notes.{IsRemembered}
-use Rattle.cics_dispatch.proofs.RegionRemembers.{after_step, remembered_late, remembered_clock}
+use Rattle.cics_machine.specs.Waking.{clock_set}
+use Rattle.cics_machine.specs.Notes.{IsRemembered}
+use Rattle.cics_machine.proofs.RegionRemembers.{after_step, remembered_late, remembered_clock}
 use Rattle.cics_dispatch.proofs.regions.Region.set_clock.Goals as goal
 
 pub invariant_of-self : goal.invariant_of-self

@@ -1,12 +1,12 @@
 use Rattle.std.proofs.Common.{◌∙◌, sym, ap, subst, IfSome, IfNone, Ok}
-use Rattle.cics_dispatch.specs.declared.findings.Free.{Free}
-use Rattle.cics_dispatch.specs.Notes.{IsFreeAt, AreSettled}
-use Rattle.cics_dispatch.specs.Waking.{woken}
-use Rattle.cics_dispatch.specs.Answers.{IsHeadlineRegion, IsSerializableRegion}
-use Rattle.cics_dispatch.specs.Tasks.{had_by, own_unit}
-use Rattle.cics_dispatch.proofs.Deadlines.{due_within}
-use Rattle.cics_dispatch.proofs.FirstWaits.{first_woken}
-use Rattle.cics_dispatch.proofs.RegionRemembers.{woken_settled, settled_free, remembered_woken}
+use Rattle.cics_machine.specs.declared.findings.Free.{Free}
+use Rattle.cics_machine.specs.Notes.{IsFreeAt, AreSettled}
+use Rattle.cics_machine.specs.Waking.{woken}
+use Rattle.cics_machine.specs.Answers.{IsHeadlineRegion, IsSerializableRegion}
+use Rattle.cics_machine.specs.Tasks.{had_by, own_unit}
+use Rattle.cics_machine.proofs.Deadlines.{due_within}
+use Rattle.cics_machine.proofs.FirstWaits.{first_woken}
+use Rattle.cics_machine.proofs.RegionRemembers.{woken_settled, settled_free, remembered_woken}
 use Rattle.cics_dispatch.proofs.regions.Region.wake.Goals as goal
 
 pub returns-then-self-clause-step : goal.returns-then-self-clause-step
