@@ -39,12 +39,12 @@ use Rattle.cics_machine.specs.declared.outcomes.Refused.TheVariants.{NoTask, Reg
 use Rattle.cics_machine.proofs.TaskPlaces.{place_of_task}
 use Rattle.cics_machine.proofs.Remembered.{not_refused}
 use Rattle.cics_script.specs.Texts.{shown, unfilled, bare}
-use Rattle.cics_run.specs.Lines.{is_in_line}
+use Rattle.cics_session.specs.Lines.{is_in_line}
 use Rattle.cics_stage.specs.Journal.{outcome_line, refused_line}
 use Rattle.cics_stage.specs.Stages.{step, followed, answered as answered_step, region_of}
 use Rattle.cics_stage.specs.Settling.{settled}
 use Rattle.cics_stage.specs.declared.stage.Stage.{Stage}
-use Rattle.cics_run.proofs.Playing.{not-true}
+use Rattle.cics_session.proofs.Playing.{not-true}
 use Rattle.cics_picture.specs.declared.events.Kind.{Kind}
 use Rattle.cics_picture.specs.declared.events.Kind.TheVariants as kind
 use Rattle.cics_picture.specs.Events.{is_in_word, first_word, behind_word, is_number, region_kind, told_kind, kind_of}

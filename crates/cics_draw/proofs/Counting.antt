@@ -1,12 +1,12 @@
 -- What is counted of reads and writes, and which line is kept.
 use Rattle.std.proofs.Common.{◌≡◌, ℕ, Bool, true, false, List, refl, Option, Ok}
 use Rattle.std.specs.Io.KnownBytes.{Consumes}
-use Rattle.cics_run.specs.Running.{is_faulty}
-use Rattle.cics_run.specs.Streams.{Rises}
-use Rattle.cics_run.specs.declared.running.RunFault.{RunFault}
-use Rattle.cics_run.specs.declared.running.RunFault.TheVariants as faults
-use Rattle.cics_run.specs.declared.session.Session.{Session}
-use Rattle.cics_run.proofs.Counting.{rises-nothing}
+use Rattle.cics_session.specs.Running.{is_faulty}
+use Rattle.cics_session.specs.Streams.{Rises}
+use Rattle.cics_session.specs.declared.running.RunFault.{RunFault}
+use Rattle.cics_session.specs.declared.running.RunFault.TheVariants as faults
+use Rattle.cics_session.specs.declared.session.Session.{Session}
+use Rattle.cics_session.proofs.Counting.{rises-nothing}
 use Rattle.cics_picture.specs.declared.drawing.Undrawn.{Undrawn}
 use Rattle.cics_picture.specs.declared.drawing.Undrawn.TheVariants as undrawns
 use Rattle.cics_whole.specs.Reads.{StopsBehind, read_failures, write_failures}

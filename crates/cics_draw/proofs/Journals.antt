@@ -28,8 +28,8 @@ use Rattle.cics_stage.specs.declared.stage.Fault.{Fault}
 use Rattle.cics_stage.specs.declared.stage.Fault.TheVariants as faults
 use Rattle.cics_stage.specs.declared.stage.Stage.{Stage}
 use Rattle.cics_stage.specs.declared.stage.Stage.TheVariants.{Opening, Running}
-use Rattle.cics_run.specs.Running.{Played, has_fault, next}
-use Rattle.cics_run.proofs.Playing.{next-going, fault-fold}
+use Rattle.cics_session.specs.Running.{Played, has_fault, next}
+use Rattle.cics_session.proofs.Playing.{next-going, fault-fold}
 use Rattle.cics_draw.specs.Pictures.{printed, printed_from}
 use Rattle.cics_draw.proofs.Playing.{printed-first, printed-none}
 

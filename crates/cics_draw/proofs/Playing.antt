@@ -2,12 +2,12 @@
 use Rattle.std.proofs.Common.{◌≡◌, ℕ, true, false, cond, ◌+◌, ◌<◌, List, [], ◌∷◌, length, refl, ap, sym, ◌∙◌, subst, arith}
 use Rattle.std.specs.Prelude.{is_some}
 use Rattle.std.specs.List.{fold}
-use Rattle.cics_run.specs.Lines.{all_lines}
+use Rattle.cics_session.specs.Lines.{all_lines}
 use Rattle.cics_stage.specs.Stages.{step}
-use Rattle.cics_run.specs.Running.{Played, play, has_fault, next, stepped, is_faulty}
-use Rattle.cics_run.specs.Standing.{Ran, Keeps, next_step}
-use Rattle.cics_run.specs.declared.session.Session.{Session}
-use Rattle.cics_run.proofs.Playing.{next-going, fault-fold}
+use Rattle.cics_session.specs.Running.{Played, play, has_fault, next, stepped, is_faulty}
+use Rattle.cics_session.specs.Standing.{Ran, Keeps, next_step}
+use Rattle.cics_session.specs.declared.session.Session.{Session}
+use Rattle.cics_session.proofs.Playing.{next-going, fault-fold}
 use Rattle.cics_picture.specs.Lanes.{most_rows}
 use Rattle.cics_picture.specs.Drawings.{Drawn, rows_of, with_line}
 use Rattle.cics_picture.proofs.Counted.{line-counted, lines-counted}

@@ -1,17 +1,17 @@
 -- What a run prints of each line of a script, and the picture of that.
 use Rattle.std.specs.Prelude.{◌≡◌, ℕ, Bool, true, false, ◌+◌, ◌<◌, ◌≤◌, if◌then◌else◌, List, [], ◌∷◌, length, Option, Result, Ok, Err, IfOk, is_some, ⊤}
 use Rattle.std.specs.Io.KnownBytes.{Appends, Consumes, IsAtEnd}
-use Rattle.cics_run.specs.Lines.{all_lines}
+use Rattle.cics_session.specs.Lines.{all_lines}
 use Rattle.cics_stage.specs.Stages.{step}
-use Rattle.cics_run.specs.Running.{Played, play, has_fault, next, start, is_faulty, most_bytes}
-use Rattle.cics_run.specs.Standing.{Ran, Keeps}
-use Rattle.cics_run.specs.declared.session.Session.{Session}
+use Rattle.cics_session.specs.Running.{Played, play, has_fault, next, start, is_faulty, most_bytes}
+use Rattle.cics_session.specs.Standing.{Ran, Keeps}
+use Rattle.cics_session.specs.declared.session.Session.{Session}
 use Rattle.cics_stage.specs.declared.stage.Stage.{Stage}
-use Rattle.cics_run.specs.Printing.{AppendsFront}
-use Rattle.cics_run.specs.declared.running.Status.{Status}
-use Rattle.cics_run.specs.declared.running.Status.TheVariants as status
-use Rattle.cics_run.specs.declared.running.RunFault.{RunFault}
-use Rattle.cics_run.specs.declared.running.RunFault.TheVariants as faults
+use Rattle.cics_session.specs.Printing.{AppendsFront}
+use Rattle.cics_session.specs.declared.running.Status.{Status}
+use Rattle.cics_session.specs.declared.running.Status.TheVariants as status
+use Rattle.cics_session.specs.declared.running.RunFault.{RunFault}
+use Rattle.cics_session.specs.declared.running.RunFault.TheVariants as faults
 use Rattle.cics_picture.specs.Lanes.{most_rows}
 use Rattle.cics_picture.specs.Drawings.{Printed, Drawn, drawn}
 use Rattle.cics_picture.specs.Sheets.{sheet}

@@ -2,9 +2,9 @@
 
 ghost use Rattle.std.specs.Prelude.{◌≡◌, ◌↔◌, ◌++◌, ◌<◌, ◌≤◌, ◌+◌, ◌^◌, [], List, ℕ, IfOk};
 ghost use Rattle.std.specs.Prelude.{IfErr, OnOk, length};
-ghost use Rattle.cics_run.specs.Standing.{IsNew, next_step};
-ghost use Rattle.cics_run.specs.Lines.{all_lines};
-ghost use Rattle.cics_run.specs.Running.{is_faulty, play};
+ghost use Rattle.cics_session.specs.Standing.{IsNew, next_step};
+ghost use Rattle.cics_session.specs.Lines.{all_lines};
+ghost use Rattle.cics_session.specs.Running.{is_faulty, play};
 ghost use Rattle.cics_picture.specs.Lanes.{most_lanes, most_rows};
 ghost use Rattle.cics_picture.specs.Drawings.{drawn_of, nothing_drawn, with_line, rows_of};
 ghost use Rattle.cics_picture.specs.Drawings.{Row, all_rows, events_of};
@@ -25,7 +25,7 @@ use crate::titles::title_of;
 use cics_advice::keep_undefined;
 use cics_names::{Items, NoMemory};
 use cics_picture::{Drawing, Standing, Undrawn, push_sheet};
-use cics_run::Session;
+use cics_session::Session;
 use cics_whole::next_line;
 use std::alloc::Global;
 

@@ -1,15 +1,15 @@
 //! A script that is read and its picture that is written.
 
 ghost use Rattle.std.specs.Prelude.{◌≡◌};
-ghost use Rattle.cics_run.specs.Running.{most_reads};
-ghost use Rattle.cics_run.specs.Standing.{IsNew};
-ghost use Rattle.cics_run.specs.Streams.{Rises, RisesAtMost, failures};
+ghost use Rattle.cics_session.specs.Running.{most_reads};
+ghost use Rattle.cics_session.specs.Standing.{IsNew};
+ghost use Rattle.cics_session.specs.Streams.{Rises, RisesAtMost, failures};
 ghost use Rattle.cics_whole.specs.Reads.{read_failures, write_failures};
 ghost use Rattle.cics_draw.specs.Pictures.{Pictures, KeepsFault, failures_of, undrawn, run_status};
 
 use crate::drawing::draw_script;
 use cics_picture::Undrawn;
-use cics_run::{RunFault, Session, Sink, Source, Status, write_all};
+use cics_session::{RunFault, Session, Sink, Source, Status, write_all};
 use cics_whole::read_script;
 use thiserror::Error;
 

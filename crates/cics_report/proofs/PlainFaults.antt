@@ -19,7 +19,7 @@ use Rattle.cics_script.specs.declared.lines.Line.{Line}
 use Rattle.cics_script.specs.declared.lines.Line.TheVariants as says
 use Rattle.cics_script.specs.declared.faults.LineFault.{LineFault}
 use Rattle.cics_stage.specs.Journal.{attached_line, outcome_line, refused_line, clock_line, clock_refused_line, shutdown_line, shutdown_refused_line}
-use Rattle.cics_run.specs.Running.{Played, next, stepped, start}
+use Rattle.cics_session.specs.Running.{Played, next, stepped, start}
 use Rattle.cics_stage.specs.Stages as stages
 use Rattle.cics_stage.specs.declared.stage.Fault.{Fault}
 use Rattle.cics_stage.specs.declared.stage.Stage.{Stage}

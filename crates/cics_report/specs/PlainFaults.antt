@@ -1,7 +1,7 @@
 -- The fault of a script that is taken apart is that of its plain run.
 use Rattle.std.specs.Prelude.{◌≡◌, ℕ, List, Some, None, Result, Ok, Err}
 use Rattle.cics_names.specs.Keyed.{Bytes}
-use Rattle.cics_run.specs.Running.{Played, play}
+use Rattle.cics_session.specs.Running.{Played, play}
 use Rattle.cics_plans.specs.Taking.{Taken, nothing_taken, taken_apart}
 use Rattle.cics_plans.specs.declared.plans.ScriptFault.{ScriptFault}
 use Rattle.cics_report.specs.Reporting.{as_fault}

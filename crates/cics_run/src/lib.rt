@@ -1,14 +1,10 @@
-//! Runs the script of a region from a source, and writes its journal and what follows it to a sink.
+//! Runs of a script, as `cics_session` has them, and what the words of a command line ask for.
 #![tactic(auto)]
 
 mod command_line;
-mod running;
-mod session;
-mod streams;
-mod writing;
 
-pub use command_line::{Asked, Orders, arguments, exit_status, strict_status};
-pub use running::{CHUNK, LIMIT, Options, RunFault, Status, Wanted, run, run_over};
-pub use session::{Session, line_len};
-pub use streams::{Failed, Sink, Source};
-pub use writing::{Stop, write_all, write_pending};
+pub use cics_session::{
+    CHUNK, Failed, LIMIT, Options, RunFault, Session, Sink, Source, Status, Stop, Wanted,
+    exit_status, line_len, run, run_over, strict_status, write_all, write_pending,
+};
+pub use command_line::{Asked, Orders, arguments};

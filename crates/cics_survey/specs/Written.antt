@@ -1,12 +1,12 @@
 -- What is written of the orders of a script.
 use Rattle.std.specs.Prelude.{◌≡◌, ℕ, ◌+◌, ◌≤◌, Bool, if◌then◌else◌, List, [], ◌++◌, length, Option, Some, None, Result, Ok, Err}
 use Rattle.std.specs.Io.KnownBytes.{Appends, Consumes, IsAtEnd}
-use Rattle.cics_run.specs.Lines.{all_lines}
-use Rattle.cics_run.specs.Running.{most_bytes}
-use Rattle.cics_run.specs.Printing.{AppendsFront}
+use Rattle.cics_session.specs.Lines.{all_lines}
+use Rattle.cics_session.specs.Running.{most_bytes}
+use Rattle.cics_session.specs.Printing.{AppendsFront}
 use Rattle.cics_run.specs.declared.command_line.Orders.{Orders}
-use Rattle.cics_run.specs.declared.running.RunFault.{RunFault}
-use Rattle.cics_run.specs.declared.running.RunFault.TheVariants as faults
+use Rattle.cics_session.specs.declared.running.RunFault.{RunFault}
+use Rattle.cics_session.specs.declared.running.RunFault.TheVariants as faults
 use Rattle.cics_plans.specs.Taking.{nothing_taken, taken_apart, planned}
 use Rattle.cics_plans.specs.declared.plans.Planned.{Planned}
 use Rattle.cics_plans.specs.declared.plans.ScriptFault.{ScriptFault}

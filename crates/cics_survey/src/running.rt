@@ -1,15 +1,16 @@
 //! A script that is read, and what is written of its orders.
 
 ghost use Rattle.std.specs.Prelude.{◌≡◌, [], IfOk};
-ghost use Rattle.cics_run.specs.Running.{most_reads};
-ghost use Rattle.cics_run.specs.Streams.{Rises, RisesAtMost, failures};
+ghost use Rattle.cics_session.specs.Running.{most_reads};
+ghost use Rattle.cics_session.specs.Streams.{Rises, RisesAtMost, failures};
 ghost use Rattle.cics_whole.specs.Reads.{read_failures, write_failures};
 ghost use Rattle.cics_survey.specs.Written.{ending_of, Writes, IsPrinted, Surveys};
 
 use crate::surveys::{Survey, survey_script};
 use cics_names::NoMemory;
 use cics_report::{push_fault, push_report, push_script};
-use cics_run::{Orders, RunFault, Sink, Source, write_all};
+use cics_run::Orders;
+use cics_session::{RunFault, Sink, Source, write_all};
 use cics_whole::{lines_of, read_script};
 use std::alloc::Global;
 

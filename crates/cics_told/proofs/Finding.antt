@@ -10,7 +10,7 @@ use Rattle.std.specs.Char.{is_ascii_alphanumeric}
 use Rattle.cics_told.specs.Amiss.{is_in_label, behind_label, has_front, without_woken, begins_with_digit, is_refusal, is_unasked, is_abend, is_told_amiss, is_of_script, is_amiss, with_byte}
 use Rattle.cics_told.specs.Strict.{Finds}
 use Rattle.cics_told.proofs.InLine.{InLine}
-use Rattle.cics_run.specs.Lines.{is_in_line}
+use Rattle.cics_session.specs.Lines.{is_in_line}
 use lib.Chars.{codes}
 
 is_false : (b : Bool) → not b ≡ true → b ≡ false

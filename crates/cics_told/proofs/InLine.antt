@@ -20,7 +20,7 @@ use Rattle.cics_machine.specs.declared.outcomes.Outcome.TheVariants.{Replied, Wa
 use Rattle.cics_machine.specs.declared.outcomes.Refused.{Refused}
 use Rattle.cics_machine.specs.declared.outcomes.Refused.TheVariants as refused
 use Rattle.cics_script.specs.Texts.{has_character, shown, doubled, quoted, digit, hexadecimal, text_of, unfilled, bare}
-use Rattle.cics_run.specs.Lines.{is_in_line}
+use Rattle.cics_session.specs.Lines.{is_in_line}
 use Rattle.cics_stage.specs.Journal.{condition_text, part, number_part, reply_text, abend_text, outcome_text, refusal_title, refusal_text}
 use lib.Chars.{codes}
 

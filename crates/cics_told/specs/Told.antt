@@ -15,7 +15,7 @@ use Rattle.cics_stage.specs.declared.stage.Fault.{Fault}
 use Rattle.cics_stage.specs.declared.stage.Fault.TheVariants as faults
 use Rattle.cics_stage.specs.declared.stage.Stage.{Stage}
 use Rattle.cics_stage.specs.declared.stage.Stage.TheVariants.{Opening, Running}
-use Rattle.cics_run.specs.declared.session.Session.{Session}
+use Rattle.cics_session.specs.declared.session.Session.{Session}
 use Rattle.cics_told.specs.Deadlocked.{deadlock_lines}
 use Rattle.cics_told.specs.declared.told.TheConstants.{MOST_WAITING}
 

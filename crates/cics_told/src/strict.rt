@@ -9,7 +9,7 @@ ghost use Rattle.cics_machine.specs.declared.outcomes.Outcome.{Outcome};
 ghost use Rattle.cics_machine.specs.declared.outcomes.Woken.{Woken};
 ghost use Rattle.cics_machine.specs.declared.outcomes.Expired.{Expired};
 ghost use Rattle.cics_machine.specs.declared.outcomes.Refused.{Refused};
-ghost use Rattle.cics_run.specs.Lines.{is_in_line};
+ghost use Rattle.cics_session.specs.Lines.{is_in_line};
 ghost use Rattle.cics_stage.specs.Journal.{attached_line, outcome_line, woken_line, expired_line};
 ghost use Rattle.cics_stage.specs.Journal.{refused_line, clock_line, clock_refused_line};
 ghost use Rattle.cics_stage.specs.Journal.{shutdown_line, shutdown_refused_line, script_line};

@@ -10,8 +10,8 @@ use cics_advice::{Cause, Named, push_advice};
 use cics_deadlock::waiting_count;
 use cics_dispatch::Region;
 use cics_names::NoMemory;
-use cics_run::Session;
 use cics_script::{Placed, find_fault, skip_blanks};
+use cics_session::Session;
 use cics_stage::{Fault, Stage};
 use std::alloc::Global;
 

@@ -4,7 +4,7 @@ ghost use Rattle.std.specs.Prelude.{◌≡◌, length};
 ghost use Rattle.cics_told.specs.Waiting.{waits_at, one_waits_below, is_left_waiting};
 
 use cics_dispatch::Region;
-use cics_run::Session;
+use cics_session::Session;
 use cics_stage::Stage;
 
 // Returns whether the task of a number waits.

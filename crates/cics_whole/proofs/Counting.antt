@@ -1,6 +1,6 @@
 -- What is counted of reads, one further.
 use Rattle.std.proofs.Common.{ℕ, ◌+◌, ◌≤◌, arith, Option, Some, None}
-use Rattle.cics_run.specs.Streams.{Rises, RisesAtMost}
+use Rattle.cics_session.specs.Streams.{Rises, RisesAtMost}
 
 pub at-most-nothing : (a : Option ℕ) (most : ℕ) → RisesAtMost a a most
 at-most-nothing None most = tt

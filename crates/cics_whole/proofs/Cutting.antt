@@ -3,9 +3,9 @@ use Rattle.std.proofs.Common.{◌≡◌, ◌<◌, ℕ, true, ◌==◌, List, [],
 use Rattle.std.proofs.lemmas.Bool.{and_parts}
 use Rattle.std.specs.List.{list_all, prefix_len}
 use Rattle.std.specs.Io.BufRead.{strip_last}
-use Rattle.cics_run.specs.Lines.{pieces, last_line, all_lines, is_in_line}
-use Rattle.cics_run.proofs.Playing.{not-true}
-use Rattle.cics_run.proofs.Steps.{cut-line}
+use Rattle.cics_session.specs.Lines.{pieces, last_line, all_lines, is_in_line}
+use Rattle.cics_session.proofs.Playing.{not-true}
+use Rattle.cics_session.proofs.Steps.{cut-line}
 
 pieces-first : (front after : List ℕ) → list_all is_in_line front ≡ true → pieces (front ++ 10 ∷ after) ≡ (front ∷ (pieces after).0, (pieces after).1)
 pieces-first [] after all = refl

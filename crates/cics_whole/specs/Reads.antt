@@ -1,9 +1,9 @@
 -- A script that is read whole.
 use Rattle.std.specs.Prelude.{◌≡◌, ℕ, ◌+◌, ◌≤◌, List, length, Option, Result, Ok, Err}
 use Rattle.std.specs.Io.KnownBytes.{Consumes, IsAtEnd}
-use Rattle.cics_run.specs.Running.{most_bytes}
-use Rattle.cics_run.specs.declared.running.RunFault.{RunFault}
-use Rattle.cics_run.specs.declared.running.RunFault.TheVariants as faults
+use Rattle.cics_session.specs.Running.{most_bytes}
+use Rattle.cics_session.specs.declared.running.RunFault.{RunFault}
+use Rattle.cics_session.specs.declared.running.RunFault.TheVariants as faults
 
 -- What was read when reading stopped: more than a script may have, or a part of what there is.
 -- Reading never fails to write.

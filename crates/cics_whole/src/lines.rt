@@ -2,10 +2,10 @@
 
 ghost use Rattle.std.specs.Prelude.{◌≡◌, ◌∷◌, ◌<◌, [], length, IfNone, IfOk, IfSome};
 ghost use Rattle.std.specs.Io.BufRead.{strip_last};
-ghost use Rattle.cics_run.specs.Lines.{all_lines};
+ghost use Rattle.cics_session.specs.Lines.{all_lines};
 
 use cics_names::{Items, NoMemory, Record};
-use cics_run::line_len;
+use cics_session::line_len;
 use std::alloc::Global;
 
 const CR: u8 = 13;

@@ -1,12 +1,12 @@
 //! A script that is read whole.
 
 ghost use Rattle.std.specs.Prelude.{◌≡◌, ◌++◌, [], OnOk};
-ghost use Rattle.cics_run.specs.Running.{most_reads};
-ghost use Rattle.cics_run.specs.Streams.{Rises, RisesAtMost, failures};
+ghost use Rattle.cics_session.specs.Running.{most_reads};
+ghost use Rattle.cics_session.specs.Streams.{Rises, RisesAtMost, failures};
 ghost use Rattle.cics_whole.specs.Reads.{Reads, read_failures};
 
 use cics_names::NoMemory;
-use cics_run::{CHUNK, LIMIT, RunFault, Source};
+use cics_session::{CHUNK, LIMIT, RunFault, Source};
 
 // Adds the bytes of a source to the end of a text.
 fn push_chunk(script: &mut Vec<u8>, chunk: &[u8]) -> Result<(), NoMemory>

@@ -7,7 +7,7 @@ mod streams;
 ghost use Rattle.std.specs.Prelude.{◌≡◌};
 
 use crate::streams::{Calls, Page, Script};
-use cics_run::{CHUNK, LIMIT, Options, RunFault, Session, Status, Wanted, run, run_over};
+use cics_session::{CHUNK, LIMIT, Options, RunFault, Session, Status, Wanted, run, run_over};
 use std::io;
 use std::marker::Brand;
 use std::process::ExitCode;

@@ -1,6 +1,6 @@
 use Rattle.std.proofs.Common.{[], cond, refl, ap, sym, ◌∙◌, arith}
-use Rattle.cics_run.specs.Lines.{all_lines}
-use Rattle.cics_run.specs.Running.{start}
+use Rattle.cics_session.specs.Lines.{all_lines}
+use Rattle.cics_session.specs.Running.{start}
 use Rattle.cics_picture.specs.Drawings.{drawn_of}
 use Rattle.cics_draw.proofs.Playing.{drawn_from, stands-next, stands-stopped, stands-over}
 use Rattle.cics_draw.proofs.drawing.draw_lines.Goals as goal

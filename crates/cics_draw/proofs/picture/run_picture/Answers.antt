@@ -1,5 +1,5 @@
 use Rattle.std.proofs.Common.{arith, ◌≡◌, ◌∙◌, ◌++◌, ap, subst}
-use Rattle.cics_run.specs.Printing.{AppendsFront}
+use Rattle.cics_session.specs.Printing.{AppendsFront}
 use Rattle.cics_draw.specs.Pictures.{picture_of}
 use Rattle.cics_draw.proofs.picture.run_picture.Goals as goal
 

@@ -1,5 +1,5 @@
 use Rattle.std.proofs.Common.{◌≡◌, ◌++◌, length}
-use Rattle.cics_run.specs.Lines.{all_lines}
+use Rattle.cics_session.specs.Lines.{all_lines}
 use Rattle.cics_whole.proofs.lines.lines_of.Given as goal
 
 -- the lines so far, and those that are left

@@ -1,5 +1,5 @@
 use Rattle.std.proofs.Common.{◌∷◌, ◌∙◌, ◌<◌, ap, sym, arith, length}
-use Rattle.cics_run.specs.Lines.{all_lines}
+use Rattle.cics_session.specs.Lines.{all_lines}
 use Rattle.cics_whole.proofs.Cutting.{line-first, line-last}
 use Rattle.cics_whole.proofs.lines.next_line.Goals as goal
 

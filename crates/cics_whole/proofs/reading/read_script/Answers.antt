@@ -1,7 +1,7 @@
 use Rattle.std.proofs.Common.{arith, ◌≡◌, ◌≤◌, ◌++◌, length, take, drop, length-append, length-take}
-use Rattle.cics_run.specs.declared.running.TheConstants.{LIMIT}
-use Rattle.cics_run.proofs.Known.{consumes-append}
-use Rattle.cics_run.proofs.Reading.{chunk-length, read_more, one_more}
+use Rattle.cics_session.specs.declared.running.TheConstants.{LIMIT}
+use Rattle.cics_session.proofs.Known.{consumes-append}
+use Rattle.cics_session.proofs.Reading.{chunk-length, read_more, one_more}
 use Rattle.cics_whole.proofs.reading.read_script.Goals as goal
 
 pub returns-in-Ok-clause-reads : goal.returns-in-Ok-clause-reads

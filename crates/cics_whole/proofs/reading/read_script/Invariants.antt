@@ -1,7 +1,7 @@
 use Rattle.std.proofs.Common.{◌≡◌, ◌+◌, length}
 use Rattle.std.specs.Io.KnownBytes.{Consumes}
-use Rattle.cics_run.specs.Streams.{Rises, RisesAtMost}
-use Rattle.cics_run.specs.declared.running.TheConstants.{LIMIT, CHUNK}
+use Rattle.cics_session.specs.Streams.{Rises, RisesAtMost}
+use Rattle.cics_session.specs.declared.running.TheConstants.{LIMIT, CHUNK}
 use Rattle.cics_whole.proofs.reading.read_script.Given as goal
 
 abbrev pub invariant-reads : goal.invariant-reads
