@@ -3,7 +3,8 @@
 ghost use Rattle.std.specs.Prelude.{◌≡◌, ◌++◌, OnOk};
 ghost use Rattle.cics_stage.specs.Journal.{numbered, condition_text, part, number_part, reply_text};
 ghost use Rattle.cics_stage.specs.Journal.{abend_text, outcome_text, attached_line, outcome_line};
-ghost use Rattle.cics_stage.specs.Journal.{woken_line, expired_line, clock_line, clock_refused_line};
+ghost use Rattle.cics_stage.specs.Journal.{woken_line, expired_line, clock_line};
+ghost use Rattle.cics_stage.specs.Journal.{clock_refused_line};
 ghost use Rattle.cics_stage.specs.Journal.{shutdown_line, shutdown_refused_line, refusal_title};
 ghost use Rattle.cics_stage.specs.Journal.{refusal_text, refused_line, define_title};
 ghost use Rattle.cics_stage.specs.Journal.{define_fault_line, line_fault_line, script_line};

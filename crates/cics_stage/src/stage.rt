@@ -11,7 +11,8 @@ ghost use Rattle.cics_stage.specs.Stages.{first_stage, region_of, event};
 ghost use Rattle.cics_stage.specs.Stages.{task_attached, clock_moved, command_issued, region_shut};
 ghost use Rattle.cics_stage.specs.Stages.{fault_line, followed, step};
 ghost use Rattle.cics_stage.specs.Stages.{defined, told_line, IsAnswered, IsPlayed, Happens};
-ghost use Rattle.cics_stage.specs.declared.stage.Stage.TheVariants.{Opening as OpeningStage, Running};
+ghost use Rattle.cics_stage.specs.declared.stage.Stage.TheVariants.{Opening as OpeningStage};
+ghost use Rattle.cics_stage.specs.declared.stage.Stage.TheVariants.{Running};
 
 use crate::journal::{
     push_attached, push_clock, push_clock_refused, push_define_fault, push_line_fault,
