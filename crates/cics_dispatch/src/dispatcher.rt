@@ -46,7 +46,7 @@ ghost use Rattle.cics_history.specs.Openings.{is_key};
 use cics_history::UnitId;
 use cics_ksds::FileDef;
 use cics_machine::{
-    Attempt, Outcome, Refused, Reply, Tasks, Waits, file_fault, plain_reply, refill,
+    Attempt, Ending, Outcome, Refused, Reply, Tasks, Waits, file_fault, plain_reply, refill,
     reply_of_answer,
 };
 use cics_names::{Command, Condition, Name4, Name8, NoMemory, Verb};
