@@ -41,6 +41,14 @@ pub enum Stage {
     Running(Region),
 }
 
+// A task that is to be attached.
+#[derive(Clone, Copy)]
+struct NewTask {
+    label: Name8,
+    transaction: Name4,
+    dtimout: u64,
+}
+
 // By hand: a derived drop is taken apart wherever a stage is dropped.
 impl Drop for Stage {
     fn drop(self) {
@@ -108,26 +116,27 @@ impl Stage {
                 label,
                 transaction,
                 dtimout,
-            } => self.attach(label, transaction, dtimout, out),
+            } => {
+                let task = NewTask {
+                    label,
+                    transaction,
+                    dtimout,
+                };
+                self.attach(task, out)
+            }
             Line::Clock(seconds) => self.set_clock(seconds, out),
             Line::Issue(label, command) => self.issue(label, command, out),
             Line::Shutdown => self.shutdown(out),
         }
     }
 
-    fn attach(
-        &mut self,
-        label: Name8,
-        transaction: Name4,
-        dtimout: u64,
-        out: &mut Vec<u8>,
-    ) -> Result<Option<Fault>, NoMemory>
-        ensures { IsPlayed (task_attached (region_of self.old).machine label transaction dtimout)
-            self.new out.old.items out.new.items result }
+    fn attach(&mut self, task: NewTask, out: &mut Vec<u8>) -> Result<Option<Fault>, NoMemory>
+        ensures { IsPlayed (task_attached (region_of self.old).machine task.label task.transaction
+            task.dtimout) self.new out.old.items out.new.items result }
     {
         self.open()?;
         match self {
-            Stage::Running(region) => attach(region, label, transaction, dtimout, out)?,
+            Stage::Running(region) => attach(region, task, out)?,
             Stage::Opening(_) => unreachable!(),
         }
         Ok(None)
@@ -242,18 +251,12 @@ fn tell_defined(
 }
 
 // Attaches a task, prints the line of that, and drains the region.
-fn attach(
-    region: &mut Region,
-    label: Name8,
-    transaction: Name4,
-    dtimout: u64,
-    out: &mut Vec<u8>,
-) -> Result<(), NoMemory>
-    ensures { Happens (task_attached region.old.machine label transaction dtimout) region.new
-        out.old.items out.new.items result }
+fn attach(region: &mut Region, task: NewTask, out: &mut Vec<u8>) -> Result<(), NoMemory>
+    ensures { Happens (task_attached region.old.machine task.label task.transaction task.dtimout)
+        region.new out.old.items out.new.items result }
 {
-    let answer = region.attach(label, transaction, dtimout);
-    tell_attached(label, transaction, answer, out)?;
+    let answer = region.attach(task.label, task.transaction, task.dtimout);
+    tell_attached(task.label, task.transaction, answer, out)?;
     go_on(region, out)
 }
 

@@ -6,6 +6,6 @@ use Rattle.cics_stage.proofs.stage.attach.Goals as goal
 
 pub returns : goal.returns
 returns c =
-    happens-answered (λ _. attached_line c.args.label c.args.transaction) (refused_line c.args.label) _ c.args.region.now (unless_down c.args.region.now.machine (attached c.args.region.now.machine c.args.label c.args.dtimout))
+    happens-answered (λ _. attached_line c.args.task.label c.args.task.transaction) (refused_line c.args.task.label) _ c.args.region.now (unless_down c.args.region.now.machine (attached c.args.region.now.machine c.args.task.label c.args.task.dtimout))
     c.attach-answer.new.self c.attach-answer.result c.go_on.new.region c.args.out.now.items c.go_on.new.out.items c.go_on.result
     c.attach-answer.ensures.step c.in_ok-tell_attached.ensures.answered (c.go_on.ensures _ _ c.in_ok-tell_attached.ensures.text)
