@@ -4,7 +4,7 @@
 //! `Region` that changes it is one step. Read the modules in this order:
 //!
 //! - `regions`: the public calls.
-//! - `dispatcher`: the parts of a region, and the step of each command.
+//! - `dispatcher`: the state of a region, and the step of each command.
 #![tactic(auto)]
 
 mod dispatcher;

@@ -1,4 +1,4 @@
-//! A region as a machine: the definitions of its steps, and the parts that they are made of.
+//! A region as a machine: the definitions of its steps, and the parts that a region is made of.
 //!
 //! `specs/Machine`, `Checks`, `Steps`, `Waking`, `Shutdown` and `Answers` define a region as a
 //! machine. `cics_dispatch` has the region, each call of which is a step. Read the modules in this
@@ -9,7 +9,7 @@
 //! - `updates`: the updating command (`Op`) that a task's command asks for, if it asks for one.
 //! - `reads`, `replies`: what a command is answered.
 //! - `task`, `tasks`, `browses`, `waits`: what a region stores.
-//! - `findings`: what its looks at waiting commands find.
+//! - `findings`: what looks at waiting commands find.
 #![tactic(auto)]
 
 mod browses;

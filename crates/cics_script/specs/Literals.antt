@@ -29,12 +29,12 @@ abbrev pub encoded_text : Encoding → List ℕ → List ℕ
 encoded_text AsWritten text = text
 encoded_text Ebcdic text = map ebcdic text
 
--- bytes in front of a text
+-- a text with several bytes more at its start; none if there is none
 abbrev pub with_front : List ℕ → Text → Text
 with_front front None = None
 with_front front (Some t) = Some (front ++ t.0, t.1)
 
--- a text in an encoding, and what follows it
+-- a text whose bytes are in an encoding; what follows it stays
 abbrev pub coded : Encoding → Text → Text
 coded encoding None = None
 coded encoding (Some t) = Some (encoded_text encoding t.0, t.1)

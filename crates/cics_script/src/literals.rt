@@ -245,7 +245,7 @@ fn short_record(alloc: Global, plain: &[u8]) -> Result<Record, NoMemory>
     Record::from_slice(alloc, codes)
 }
 
-// Appends plain characters.
+// Appends bytes, as they are or by their EBCDIC codes.
 fn push_plain(text: &mut Vec<u8>, encoding: Encoding, plain: &[u8]) -> Result<(), AllocError>
     ensures { OnOk result (text.new.items ≡ text.old.items ++ encoded_text encoding plain.now) }
 {
@@ -269,7 +269,7 @@ fn copy_plain(alloc: Global, encoding: Encoding, plain: &[u8]) -> Result<Vec<u8>
     Ok(text)
 }
 
-// Returns the byte that two hexadecimal digits make, or `None` if they are no digits.
+// Returns the byte that two hexadecimal digits make, or `None` unless both are digits.
 fn pair_of(first: u8, second: u8) -> Option<u8>
     ensures { IfSome result (λ byte. (rest : List ℕ) →
         digit_pairs (first ∷ second ∷ rest) ≡ with_byte byte (digit_pairs rest)) }
@@ -300,7 +300,7 @@ fn first_pairs(bytes: &[u8]) -> Option<(u8, u8, u8, u8)>
 }
 
 // Returns what follows the pieces of a literal that are read at once: its plain characters, or a
-// run of its digits.
+// run of its digits. If there are none, returns all bytes.
 fn behind_run(notation: Notation, bytes: &[u8]) -> &[u8]
     ensures rest { option_map (λ t. t.1) (text_in notation result.now)
         ≡ option_map (λ t. t.1) (text_in notation bytes.now) }
@@ -315,7 +315,7 @@ fn behind_run(notation: Notation, bytes: &[u8]) -> &[u8]
     }
 }
 
-// Appends what the same pieces say, and returns what follows them.
+// Appends what the pieces that `behind_run` passes say, and returns what follows them.
 fn push_run<'a>(
     text: &mut Vec<u8>,
     encoding: Encoding,

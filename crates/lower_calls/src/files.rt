@@ -150,7 +150,7 @@ impl Files {
         })
     }
 
-    // Makes a call that changes no record, with a key or a prefix.
+    // Makes a call that changes no record. Some have a key or a prefix.
     fn call_on(&mut self, word: &str, bytes: &[u8], told: &mut String) -> Result<(), NoMemory> {
         match word {
             "copy" => self.copy(),
