@@ -1,7 +1,7 @@
 -- Literals, one byte further.
-use Rattle.std.proofs.Common.{◌≡◌, ℕ, true, false, List, [], ◌∷◌, ◌++◌, take, drop, refl, ap, sym, ◌∙◌, Some, None, append_assoc, append-nil, inl, inr}
+use Rattle.std.proofs.Common.{◌≡◌, ℕ, true, false, List, [], ◌∷◌, ◌++◌, ◌+◌, length, take, drop, map, length-append, refl, ap, sym, ◌∙◌, Some, None, append_assoc, append-nil, inl, inr}
 use Rattle.std.proofs.lemmas.Bool.{cases_Bool}
-use Rattle.std.proofs.lemmas.List.{map-append}
+use Rattle.std.proofs.lemmas.List.{map-append, take_at, length-map}
 use Rattle.std.proofs.Math.Numerals.{one-add}
 use Rattle.std.specs.List.{prefix_len}
 use Rattle.std.specs.Prelude.{option_map, is_some}
@@ -151,3 +151,14 @@ run-digits Hexadecimal bytes made behind is read rest = read ∙ ap (λ b. with_
 pub rest-run : (notation : Notation) (front bytes behind : List ℕ) → text_in notation bytes ≡ with_front front (text_in notation behind)
     → option_map (λ t. t.1) (text_in notation behind) ≡ option_map (λ t. t.1) (text_in notation bytes)
 rest-run notation front bytes behind step = sym (rest-with_front front (text_in notation behind)) ∙ ap (option_map (λ t. t.1)) (sym step)
+
+-- bytes put behind others, then others over them
+pub put-over : (f : ℕ → ℕ) (front bytes items text : List ℕ) (start n : ℕ) → start ≡ length front → items ≡ front ++ bytes
+    → text ≡ take start items ++ map f bytes → n ≡ length items → take n (text ++ drop (length text) items) ≡ front ++ map f bytes
+put-over f front bytes items text start n from here put count =
+    let before : take start items ≡ front = ap (λ i. take i items) from ∙ ap (take (length front)) here ∙ take_at front bytes _ refl in
+    let whole : text ≡ front ++ map f bytes = put ∙ ap (λ x. x ++ map f bytes) before in
+    let size : length text ≡ length items =
+    ap length whole ∙ length-append front (map f bytes) ∙ ap (λ k. length front + k) (length-map bytes f)
+    ∙ sym (ap length here ∙ length-append front bytes) in
+    ap (λ k. take k (text ++ drop (length text) items)) (count ∙ sym size) ∙ take_at text (drop (length text) items) _ refl ∙ whole

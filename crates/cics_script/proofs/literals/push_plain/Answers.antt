@@ -1,6 +1,6 @@
 use Rattle.std.proofs.Common.{rules, ◌++◌, ap, sym, ◌∙◌}
 use Rattle.cics_script.specs.Literals.{ebcdic, encoded_text}
-use Rattle.cics_script.proofs.PlainTexts.{put-over}
+use Rattle.cics_script.proofs.Copies.{put-over}
 use Rattle.cics_script.proofs.literals.push_plain.Goals as goal
 
 pub returns-in-AsWritten : goal.returns-in-AsWritten
