@@ -3,7 +3,7 @@
 ghost use Rattle.std.specs.Prelude.{◌<◌, IfSome};
 
 use crate::lines::{Call, Ending};
-use crate::records::{further, push_all, push_condition, push_number, push_own, push_record};
+use crate::records::{further, push_all, push_own, push_record};
 use crate::tries::Lower;
 use cics_images::{Images, Undoable};
 use cics_ksds::{File, FileDef};
@@ -149,46 +149,29 @@ impl Files {
             number
         })
     }
-
-    // Makes a call that changes no record. Some have a key or a prefix.
-    fn call_on(&mut self, word: &str, bytes: &[u8], told: &mut String) -> Result<(), NoMemory> {
-        match word {
-            "copy" => self.copy(),
-            "listing" => push_own(told, self.file.listing()?.as_slice(), self.more),
-            "read" => push_record(told, self.file.read(bytes)),
-            "from" => push_record(told, self.file.first_from(bytes, false)),
-            "after" => push_record(told, self.file.first_from(bytes, true)),
-            "to" => push_record(told, self.file.last_to(bytes, false)),
-            "before" => push_record(told, self.file.last_to(bytes, true)),
-            "count" => push_number(told, self.file.count_prefix(bytes)),
-            "sweep" => {
-                self.file.sweep(bytes);
-                Ok(())
-            }
-            "commit" => {
-                self.images.forget(&mut self.file);
-                Ok(())
-            }
-            _ => Ok(told.push_str("no call")?),
-        }
-    }
-
-    // Goes on with a copy of the file.
-    fn copy(&mut self) -> Result<(), NoMemory> {
-        self.file = self.file.copy()?;
-        Ok(())
-    }
 }
 
 impl Lower for Files {
     fn call(&mut self, call: &Call<'_>, given: Record, told: &mut String) -> Result<(), NoMemory> {
+        let bytes = given.bytes();
         match call.word {
-            "write" => push_condition(told, self.write(given, call.ending)),
-            "rewrite" => push_condition(told, self.rewrite(given, call.ending)),
-            "delete" => push_condition(told, self.delete(given.bytes(), call.ending)),
-            "clear" => push_number(told, self.clear(given.bytes(), call.ending)?),
-            word => self.call_on(word, given.bytes(), told),
+            "write" => told.push_str(self.write(given, call.ending)?.name())?,
+            "rewrite" => told.push_str(self.rewrite(given, call.ending)?.name())?,
+            "delete" => told.push_str(self.delete(bytes, call.ending)?.name())?,
+            "clear" => write!(told, "{}", self.clear(bytes, call.ending)?)?,
+            "copy" => self.file = self.file.copy()?,
+            "listing" => push_own(told, self.file.listing()?.as_slice(), self.more)?,
+            "read" => push_record(told, self.file.read(bytes))?,
+            "from" => push_record(told, self.file.first_from(bytes, false))?,
+            "after" => push_record(told, self.file.first_from(bytes, true))?,
+            "to" => push_record(told, self.file.last_to(bytes, false))?,
+            "before" => push_record(told, self.file.last_to(bytes, true))?,
+            "count" => write!(told, "{}", self.file.count_prefix(bytes))?,
+            "sweep" => self.file.sweep(bytes),
+            "commit" => self.images.forget(&mut self.file),
+            _ => told.push_str("no call")?,
         }
+        Ok(())
     }
 
     fn show(&self, text: &mut String) -> Result<(), NoMemory> {

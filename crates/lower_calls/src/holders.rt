@@ -186,20 +186,6 @@ impl Holders {
         }
     }
 
-    // Makes a call on the resource of a text for a unit.
-    fn call_with(
-        &mut self,
-        word: &str,
-        text: &[u8],
-        unit: UnitId,
-        told: &mut String,
-    ) -> Result<(), NoMemory> {
-        match resource_of(text) {
-            Ok(Some(resource)) => self.call_on(word, resource, unit, told),
-            _ => Ok(told.push_str("no resource")?),
-        }
-    }
-
     // Makes a call on a resource for a unit.
     fn call_on(
         &mut self,
@@ -234,15 +220,16 @@ impl Holders {
 impl Lower for Holders {
     fn call(&mut self, call: &Call<'_>, given: Record, told: &mut String) -> Result<(), NoMemory> {
         let unit = UnitId::new(call.name.parse::<u64>().unwrap_or(0));
-        match call.word {
-            "enq" => self.enq(given.bytes(), unit, told),
-            "fill" => self.fill(given.bytes(), unit, told),
-            "under" => self.under(given.bytes(), unit, told),
-            "release" => {
+        match (call.word, resource_of(given.bytes())) {
+            ("enq", _) => self.enq(given.bytes(), unit, told),
+            ("fill", _) => self.fill(given.bytes(), unit, told),
+            ("under", _) => self.under(given.bytes(), unit, told),
+            ("release", _) => {
                 self.table.release_all(unit);
                 Ok(())
             }
-            word => self.call_with(word, given.bytes(), unit, told),
+            (word, Ok(Some(resource))) => self.call_on(word, resource, unit, told),
+            _ => Ok(told.push_str("no resource")?),
         }
     }
 

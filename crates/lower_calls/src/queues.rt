@@ -1,7 +1,7 @@
 //! Calls of a transient data queue.
 
 use crate::lines::{Call, Ending};
-use crate::records::{further, push_all, push_condition, push_own, push_record};
+use crate::records::{further, push_all, push_own, push_record};
 use crate::tries::Lower;
 use cics_images::Undoable;
 use cics_names::{Condition, NoMemory, Record};
@@ -68,43 +68,6 @@ impl Queue {
         }
         changed.condition
     }
-
-    // Makes a call that is given no record.
-    fn call_on(
-        &mut self,
-        word: &str,
-        is_writer: bool,
-        ending: Ending,
-        told: &mut String,
-    ) -> Result<(), NoMemory> {
-        match word {
-            "read" => push_read(told, &self.read(is_writer, ending)?),
-            "delete" => push_condition(told, Ok(self.delete(ending))),
-            "first" => push_record(told, self.queue.first(is_writer)),
-            "copy" => self.copy(),
-            "listing" => push_own(told, self.queue.listing()?.as_slice(), self.more),
-            "commit" => {
-                self.commit(is_writer);
-                Ok(())
-            }
-            _ => Ok(told.push_str("no call")?),
-        }
-    }
-
-    // Goes on with a copy of the queue.
-    fn copy(&mut self) -> Result<(), NoMemory> {
-        self.queue = self.queue.copy()?;
-        Ok(())
-    }
-
-    // Commits the writing end, or the reading end.
-    fn commit(&mut self, is_writer: bool) {
-        if is_writer {
-            self.queue.commit_writer();
-        } else {
-            self.queue.commit_reader();
-        }
-    }
 }
 
 // Puts what READQ TD answered at the end.
@@ -118,9 +81,17 @@ impl Lower for Queue {
     fn call(&mut self, call: &Call<'_>, given: Record, told: &mut String) -> Result<(), NoMemory> {
         let is_writer = call.name == "writer";
         match call.word {
-            "write" => push_condition(told, self.write(given, call.ending)),
-            word => self.call_on(word, is_writer, call.ending, told),
+            "write" => told.push_str(self.write(given, call.ending)?.name())?,
+            "read" => push_read(told, &self.read(is_writer, call.ending)?)?,
+            "delete" => told.push_str(self.delete(call.ending).name())?,
+            "first" => push_record(told, self.queue.first(is_writer))?,
+            "copy" => self.queue = self.queue.copy()?,
+            "listing" => push_own(told, self.queue.listing()?.as_slice(), self.more)?,
+            "commit" if is_writer => self.queue.commit_writer(),
+            "commit" => self.queue.commit_reader(),
+            _ => told.push_str("no call")?,
         }
+        Ok(())
     }
 
     fn show(&self, text: &mut String) -> Result<(), NoMemory> {

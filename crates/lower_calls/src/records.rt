@@ -2,7 +2,7 @@
 
 use crate::lines::Call;
 use crate::tries::Lower;
-use cics_names::{Condition, Items, NoMemory, Record};
+use cics_names::{Items, NoMemory, Record};
 use std::alloc::Global;
 use std::fmt::Write;
 
@@ -26,19 +26,6 @@ pub(crate) fn push_record(text: &mut String, record: Option<&Record>) -> Result<
         }
         None => Ok(text.push_str("none")?),
     }
-}
-
-/// Puts the condition that a call returned at the end, if it was not refused.
-pub(crate) fn push_condition(
-    text: &mut String,
-    came: Result<Condition, NoMemory>,
-) -> Result<(), NoMemory> {
-    Ok(text.push_str(came?.name())?)
-}
-
-/// Puts a number at the end.
-pub(crate) fn push_number(text: &mut String, number: u64) -> Result<(), NoMemory> {
-    Ok(write!(text, "{number}")?)
 }
 
 /// Puts the records that aren't further ones at the end, with a stroke behind each, and tells if
@@ -111,25 +98,18 @@ impl Records {
         }
         self.record.part(offset, count)
     }
-
-    // Makes a call that doesn't keep what it is given.
-    fn call_on(&mut self, word: &str, given: &[u8], told: &mut String) -> Result<(), NoMemory> {
-        match word {
-            "make" => self.record = Record::from_slice(self.alloc, given)?,
-            "copy" => self.record = self.record.copy()?,
-            "part" => self.record = self.part(given)?,
-            _ => told.push_str("no call")?,
-        }
-        Ok(())
-    }
 }
 
 impl Lower for Records {
     fn call(&mut self, call: &Call<'_>, given: Record, told: &mut String) -> Result<(), NoMemory> {
         match call.word {
-            "push" => self.list.push(given),
-            word => self.call_on(word, given.bytes(), told),
+            "make" => self.record = Record::from_slice(self.alloc, given.bytes())?,
+            "copy" => self.record = self.record.copy()?,
+            "part" => self.record = self.part(given.bytes())?,
+            "push" => self.list.push(given)?,
+            _ => told.push_str("no call")?,
         }
+        Ok(())
     }
 
     fn show(&self, text: &mut String) -> Result<(), NoMemory> {

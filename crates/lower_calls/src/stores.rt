@@ -2,7 +2,7 @@
 
 use crate::files::end;
 use crate::lines::{Call, Ending};
-use crate::records::{further, push_all, push_condition, push_number, push_own, push_record};
+use crate::records::{further, push_all, push_own, push_record};
 use crate::tries::Lower;
 use cics_images::Images;
 use cics_names::{Condition, Name8, NoMemory, Record};
@@ -122,32 +122,6 @@ impl Queues {
         }
         Ok(write!(told, " and {}", own.saturating_sub(self.more))?)
     }
-
-    // READQ TS ITEM.
-    fn push_item(&mut self, name: &Name8, item: u64, told: &mut String) -> Result<(), NoMemory> {
-        push_read(told, &self.store.read_item(name, item)?)
-    }
-
-    // Makes a call that is given no item.
-    fn call_on(&mut self, word: &str, name: &Name8, told: &mut String) -> Result<(), NoMemory> {
-        match word {
-            "next" => push_read(told, &self.store.read_next(name)?),
-            "place" => push_number(told, u64::from(self.store.next_place(name))),
-            "copy" => self.copy(),
-            "listing" => self.push_listing(told),
-            "commit" => {
-                self.images.forget(&mut self.store);
-                Ok(())
-            }
-            _ => Ok(told.push_str("no call")?),
-        }
-    }
-
-    // Goes on with a copy of the store.
-    fn copy(&mut self) -> Result<(), NoMemory> {
-        self.store = self.store.copy()?;
-        Ok(())
-    }
 }
 
 impl Lower for Queues {
@@ -156,12 +130,21 @@ impl Lower for Queues {
             return Ok(told.push_str("no name")?);
         };
         match call.word {
-            "write" => push_condition(told, self.write(name, given, call.ending)),
-            "rewrite" => push_condition(told, self.rewrite(&name, given, call.ending)),
-            "delete" => push_condition(told, self.delete(&name, call.ending)),
-            "item" => self.push_item(&name, number_in(given.bytes()), told),
-            word => self.call_on(word, &name, told),
+            "write" => told.push_str(self.write(name, given, call.ending)?.name())?,
+            "rewrite" => told.push_str(self.rewrite(&name, given, call.ending)?.name())?,
+            "delete" => told.push_str(self.delete(&name, call.ending)?.name())?,
+            "item" => push_read(
+                told,
+                &self.store.read_item(&name, number_in(given.bytes()))?,
+            )?,
+            "next" => push_read(told, &self.store.read_next(&name)?)?,
+            "place" => write!(told, "{}", self.store.next_place(&name))?,
+            "copy" => self.store = self.store.copy()?,
+            "listing" => self.push_listing(told)?,
+            "commit" => self.images.forget(&mut self.store),
+            _ => told.push_str("no call")?,
         }
+        Ok(())
     }
 
     fn show(&self, text: &mut String) -> Result<(), NoMemory> {
