@@ -5,3 +5,6 @@ pub mod Givers
 pub mod Parts
 mod Rows
 pub mod Telling
+pub mod Tables
+pub mod Joining
+pub mod Searching

@@ -33,9 +33,13 @@ abbrev pub firsts : List Run → List Run
 firsts [] = []
 firsts (r ∷ rs) = r ∷ filter (λ s. not (are_same s.ending r.ending)) (firsts rs)
 
--- a number as it is kept: no more than 2^64 - 1
+-- the greatest number that is kept: 2^128 - 1
+abbrev pub greatest : ℕ
+greatest = 340282366920938463463374607431768211455
+
+-- a number as it is kept: the greatest one stands for all above it too
 abbrev pub kept_number : ℕ → ℕ
-kept_number n = min n 18446744073709551615
+kept_number n = min n greatest
 
 -- the ending of a run as it is reported, counted over all runs
 abbrev pub reported : List Run → Run → Reported

@@ -1,3 +1,5 @@
 pub mod Orders
 pub mod Endings
 pub mod Reports
+pub mod Tables
+pub mod Searches

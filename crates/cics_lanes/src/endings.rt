@@ -1,18 +1,22 @@
 //! Gathers the endings that runs lead to, each once.
 
-ghost use Rattle.std.specs.Prelude.{◌≡◌, OnOk};
+ghost use Rattle.std.specs.Prelude.{◌≡◌, map, IfOk, OnOk};
 ghost use Rattle.cics_lanes.specs.Endings.{are_same, counted, first_run, place_of, told};
+ghost use Rattle.cics_lanes.specs.Tables.{added, begun_by, joined, summed};
 
 use cics_names::{Items, NoMemory, Record};
+use std::alloc::Global;
 use std::marker::Model;
+use std::rc::Rc;
 
 /// An ending, with its first order and how many orders lead to it.
 #[derive(Drop)]
 pub struct Ending {
     order: Items<usize>,
-    parts: Items<Record>,
-    orders: u64,
-    serial: u64,
+    // Endings of many tables share them.
+    parts: Rc<Items<Record>>,
+    orders: u128,
+    serial: u128,
 }
 
 impl Model for Ending {
@@ -22,7 +26,7 @@ impl Model for Ending {
 
     ghost view = { λ e. record {
       order = e.order;
-      ending = e.parts;
+      ending = e.parts.value;
       orders = e.orders;
       serial = e.serial;
     } };
@@ -43,15 +47,15 @@ impl Ending {
         self.parts.as_slice()
     }
 
-    /// Returns how many orders lead to it; `u64::MAX` is that many or more.
-    pub fn orders(&self) -> u64
+    /// Returns how many orders lead to it; `u128::MAX` is that many or more.
+    pub fn orders(&self) -> u128
         ensures { result ≡ self.now.orders }
     {
         self.orders
     }
 
-    /// Returns how many serial orders lead to it; `u64::MAX` is that many or more.
-    pub fn serial(&self) -> u64
+    /// Returns how many serial orders lead to it; `u128::MAX` is that many or more.
+    pub fn serial(&self) -> u128
         ensures { result ≡ self.now.serial }
     {
         self.serial
@@ -65,7 +69,7 @@ impl Ending {
             order: run.order,
             parts: run.parts,
             orders: 1,
-            serial: u64::from(run.is_serial),
+            serial: u64::from(run.is_serial) as u128,
         }
     }
 
@@ -77,6 +81,29 @@ impl Ending {
         if is_serial {
             self.serial = self.serial.saturating_add(1);
         }
+    }
+
+    // Counts the orders of another table that lead to it.
+    fn sum(&mut self, other: &Ending)
+        ensures { self.new ≡ summed self.old other.now }
+    {
+        self.orders = self.orders.saturating_add(other.orders);
+        self.serial = self.serial.saturating_add(other.serial);
+    }
+
+    // Returns the same ending, whose first order a lane begins.
+    fn begun_by(&self, alloc: Global, lane: usize) -> Result<Ending, NoMemory>
+        ensures { IfOk result (λ ending. ending ≡ begun_by lane self.now) }
+    {
+        let mut order = Vec::new(alloc);
+        order.push(lane)?;
+        order.extend_from_slice(self.order.as_slice())?;
+        Ok(Ending {
+            order: Items::from_vec(order),
+            parts: self.parts.clone()?,
+            orders: self.orders,
+            serial: self.serial,
+        })
     }
 }
 
@@ -99,7 +126,7 @@ fn are_same(parts: &[Record], others: &[Record]) -> bool
 #[derive(Drop)]
 pub(crate) struct Run {
     pub(crate) order: Items<usize>,
-    pub(crate) parts: Items<Record>,
+    pub(crate) parts: Rc<Items<Record>>,
     pub(crate) is_serial: bool,
 }
 
@@ -110,7 +137,7 @@ impl Model for Run {
 
     ghost view = { λ r. record {
       order = r.order;
-      ending = r.parts;
+      ending = r.parts.value;
       is_serial = r.is_serial;
     } };
 }
@@ -141,4 +168,32 @@ pub(crate) fn tell(endings: &mut Vec<Ending>, run: Run) -> Result<(), NoMemory>
             Ok(())
         }
     }
+}
+
+// Adds to a table an ending of another one, whose orders a lane begins.
+fn add(table: &mut Vec<Ending>, lane: usize, ending: &Ending) -> Result<(), NoMemory>
+    ensures { OnOk result (table.new.items ≡ added table.old.items (begun_by lane ending.now)) }
+{
+    match find(table.as_slice(), ending.parts()) {
+        Some(at) => {
+            table[at].sum(ending);
+            Ok(())
+        }
+        None => {
+            let alloc = *table.allocator();
+            table.push(ending.begun_by(alloc, lane)?)?;
+            Ok(())
+        }
+    }
+}
+
+/// Adds to a table all endings of another one, whose orders a lane begins and come later.
+pub(crate) fn join(table: &mut Vec<Ending>, lane: usize, more: &[Ending]) -> Result<(), NoMemory>
+    ensures { OnOk result (table.new.items
+        ≡ joined table.old.items (map (begun_by lane) more.now)) }
+{
+    for i in 0..more.len() {
+        add(table, lane, &more[i])?;
+    }
+    Ok(())
 }

@@ -9,6 +9,7 @@ use crate::endings::{Ending, Run, tell};
 use crate::walks::Walk;
 use cics_names::{Items, NoMemory};
 use std::alloc::Global;
+use std::rc::Rc;
 
 /// Where the next order branches off: its first `depth` lanes are those of this one, and then
 /// `lane` gives.
@@ -23,8 +24,8 @@ pub(crate) struct Branch {
 pub struct Report {
     /// The endings, in the order of their first orders.
     pub endings: Items<Ending>,
-    /// How many orders were followed.
-    pub orders: u64,
+    /// How many orders were followed; u128::MAX is that many or more.
+    pub orders: u128,
     /// Whether these are all orders.
     pub is_whole: bool,
 }
@@ -43,7 +44,7 @@ fn branch_at<W: Walk>(walk: &W, depth: usize, lane: usize, before: Option<Branch
 }
 
 // Gives the lines of an order. Returns where the next order branches off.
-fn retrace<W: Walk>(walk: &mut W, order: &[usize]) -> Result<Option<Branch>, NoMemory>
+pub(crate) fn retrace<W: Walk>(walk: &mut W, order: &[usize]) -> Result<Option<Branch>, NoMemory>
     ensures { IfOk result (λ branch. (n : ℕ) → length order.now ≤ n →
         Reaches W.lanes n walk.old order.now walk.new order.now branch) }
 {
@@ -97,13 +98,13 @@ fn follow<W: Walk>(
 }
 
 // Returns the run of an order that was followed.
-fn run_to<W: Walk>(alloc: Global, walk: &W, order: &[usize]) -> Result<Run, NoMemory>
+pub(crate) fn run_to<W: Walk>(alloc: Global, walk: &W, order: &[usize]) -> Result<Run, NoMemory>
     ensures { IfOk result (λ run. run ≡ run_to W.ending W.serial order.now walk.now) }
 {
     let order = Vec::from_slice(alloc, order)?;
     Ok(Run {
         order: Items::from_vec(order),
-        parts: walk.parts()?,
+        parts: Rc::new(alloc, walk.parts()?)?,
         is_serial: walk.is_serial(),
     })
 }
@@ -133,7 +134,7 @@ pub fn explore<W: Walk>(alloc: Global, walk: &mut W, limit: u64) -> Result<Repor
         let Some(branch) = branch else {
             return Ok(Report {
                 endings: Items::from_vec(endings),
-                orders: told + 1,
+                orders: told as u128 + 1,
                 is_whole: true,
             });
         };
@@ -142,7 +143,7 @@ pub fn explore<W: Walk>(alloc: Global, walk: &mut W, limit: u64) -> Result<Repor
     }
     Ok(Report {
         endings: Items::from_vec(endings),
-        orders: limit,
+        orders: limit as u128,
         is_whole: false,
     })
 }

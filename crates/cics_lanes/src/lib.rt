@@ -9,8 +9,10 @@
 
 mod endings;
 mod exploring;
+mod merging;
 mod walks;
 
 pub use endings::Ending;
 pub use exploring::{Report, explore};
-pub use walks::Walk;
+pub use merging::explore_merged;
+pub use walks::{Merge, Walk};

@@ -1,8 +1,10 @@
 //! What `explore` walks along an order.
 
 ghost use Rattle.std.specs.Prelude.{◌≡◌, ℕ, suc, Bool, [], All, IfOk, OnOk};
-ghost use Rattle.cics_lanes.specs.Orders.{Lanes, IsFirst, IsOrdered, after, orders};
+ghost use Rattle.std.specs.Bool.{OnTrue};
+ghost use Rattle.cics_lanes.specs.Orders.{Order, Lanes, IsFirst, IsOrdered, after, orders};
 ghost use Rattle.cics_lanes.specs.Endings.{Parts};
+ghost use Rattle.cics_lanes.specs.Tables.{HaveOneTable};
 
 use cics_names::{Items, NoMemory, Record};
 
@@ -64,4 +66,30 @@ pub trait Walk {
     /// Returns whether the order so far is serial.
     fn is_serial(&self) -> bool
         ensures { result ≡ serial self.now };
+}
+
+/// A walk whose states have keys: of two states with the same key the same is reported.
+pub trait Merge: Walk {
+    /// What is compared of a state.
+    type Key: Drop;
+
+    /// A state may have this key.
+    ghost is_key: { Self → Self.Key → Type 0 };
+
+    /// Returns the key of the state.
+    fn key(&self) -> Result<Self::Key, NoMemory>
+        ensures { IfOk result (λ key. is_key self.now key) };
+
+    /// Returns a number by which keys are sought. Keys that are the same have to have the same
+    /// number to be found; no contract needs it.
+    fn key_hash(key: &Self::Key) -> u64;
+
+    /// Returns whether two keys are the same. If so, of any states after orders from one start,
+    /// which have these keys, the same is reported. It may return `false` of any two keys.
+    fn is_same(key: &Self::Key, other: &Self::Key) -> bool
+        ensures { OnTrue result ((s : Self) (o p : Order) →
+            let one = after Self.lanes (Self.start s) o in
+            let another = after Self.lanes (Self.start s) p in
+            is_key one key.now → is_key another other.now →
+            HaveOneTable Self.lanes Self.ending Self.serial one another) };
 }

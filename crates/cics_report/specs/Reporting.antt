@@ -1,5 +1,5 @@
 -- The bytes of a report on the orders of a script's lines, and those of an order as a script.
-use Rattle.std.specs.Prelude.{◌≡◌, ℕ, ◌+◌, ◌-◌, ◌==◌, Bool, true, false, if◌then◌else◌, nat_lt, List, [], ◌∷◌, ◌++◌, length, Option, Some, None, option_map, slice_get, Result, Ok, codes}
+use Rattle.std.specs.Prelude.{◌≡◌, ℕ, ◌+◌, ◌-◌, ◌==◌, Bool, true, false, not, ◌&&◌, if◌then◌else◌, nat_lt, List, [], ◌∷◌, ◌++◌, length, Option, Some, None, option_map, slice_get, Result, Ok, codes}
 use Rattle.std.specs.List.{fold, flat_map, count_by}
 use Rattle.std.specs.Fmt.{decimal}
 use Rattle.cics_script.specs.Texts.{bare}
@@ -12,7 +12,7 @@ use Rattle.cics_run.specs.Stages.{fault_line}
 use Rattle.cics_run.specs.declared.stage.Fault.{Fault}
 use Rattle.cics_run.specs.declared.stage.Fault.TheVariants as faults
 use Rattle.cics_lanes.specs.Orders.{Order}
-use Rattle.cics_lanes.specs.Endings.{Parts, Reported, kept_number}
+use Rattle.cics_lanes.specs.Endings.{Parts, Reported, greatest, kept_number}
 use Rattle.cics_lanes.specs.declared.exploring.Report.{Report}
 use Rattle.cics_plans.specs.Taking.{NumberedLine}
 use Rattle.cics_plans.specs.declared.plans.Plan.{Plan}
@@ -41,13 +41,13 @@ refused_text r = codes "LINE " ++ (decimal r.number ++ (codes " " ++ refused_lin
 
 -- ---- Numbers
 
--- the words before a number, which is a lower bound if orders were left out
-abbrev pub bound_text : Bool → List ℕ
-bound_text is_whole = if is_whole then [] else codes "AT LEAST "
+-- the words before a number, which is a lower bound if orders were left out or it is the greatest one that is kept
+abbrev pub bound_text : Bool → ℕ → List ℕ
+bound_text is_whole n = if is_whole && not (n == greatest) then [] else codes "AT LEAST "
 
 -- such a number
 abbrev pub count_text : Bool → ℕ → List ℕ
-count_text is_whole n = bound_text is_whole ++ decimal n
+count_text is_whole n = bound_text is_whole n ++ decimal n
 
 -- two numbers: of all, and of the serial ones
 abbrev pub both_text : Bool → ℕ → ℕ → List ℕ

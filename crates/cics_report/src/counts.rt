@@ -1,6 +1,7 @@
 //! The numbers of a report.
 
 ghost use Rattle.std.specs.Prelude.{◌≡◌, ◌++◌, OnOk};
+ghost use Rattle.std.specs.Fmt.{decimal};
 ghost use Rattle.cics_report.specs.Reporting.{bound_text, count_text, both_text, heading_text};
 ghost use Rattle.cics_report.specs.Reporting.{serial_orders, serial_endings, limit_text};
 ghost use Rattle.cics_report.specs.Reporting.{totals_text};
@@ -10,23 +11,38 @@ use cics_lanes::{Ending, Report};
 use cics_names::NoMemory;
 use cics_script::{push_number, push_str};
 
-// Returns the words before a number, which is a lower bound if orders were left out.
-fn bound_text(is_whole: bool) -> &'static str
-    ensures { result.now ≡ bound_text is_whole }
+// Returns the words before a number. It is a lower bound if orders were left out, and so is the
+// greatest number that is kept.
+fn bound_text(is_whole: bool, count: u128) -> &'static str
+    ensures { result.now ≡ bound_text is_whole count }
 {
-    if is_whole { "" } else { "AT LEAST " }
+    if !is_whole || count == u128::MAX {
+        return "AT LEAST ";
+    }
+    ""
+}
+
+// Appends a number in decimal.
+fn push_wide(out: &mut Vec<u8>, number: u128) -> Result<(), NoMemory>
+    ensures { OnOk result (out.new.items ≡ out.old.items ++ decimal number) }
+{
+    if number >= 10 {
+        push_wide(out, number / 10)?;
+    }
+    out.push(b'0' + (number % 10) as u8)?;
+    Ok(())
 }
 
 /// Appends a number, which is a lower bound if orders were left out.
-pub(crate) fn push_count(out: &mut Vec<u8>, is_whole: bool, count: u64) -> Result<(), NoMemory>
+pub(crate) fn push_count(out: &mut Vec<u8>, is_whole: bool, count: u128) -> Result<(), NoMemory>
     ensures { OnOk result (out.new.items ≡ out.old.items ++ count_text is_whole count) }
 {
-    push_str(out, bound_text(is_whole))?;
-    push_number(out, count)
+    push_str(out, bound_text(is_whole, count))?;
+    push_wide(out, count)
 }
 
 // Appends two numbers: of all, and of the serial ones.
-fn push_both(out: &mut Vec<u8>, is_whole: bool, all: u64, serial: u64) -> Result<(), NoMemory>
+fn push_both(out: &mut Vec<u8>, is_whole: bool, all: u128, serial: u128) -> Result<(), NoMemory>
     ensures { OnOk result (out.new.items ≡ out.old.items ++ both_text is_whole all serial) }
 {
     push_count(out, is_whole, all)?;
@@ -49,10 +65,10 @@ pub(crate) fn push_heading(
 }
 
 // Returns how many serial orders lead to endings.
-fn serial_orders(endings: &[Ending]) -> u64
+fn serial_orders(endings: &[Ending]) -> u128
     ensures { result ≡ serial_orders endings.now }
 {
-    let mut count = 0u64;
+    let mut count = 0u128;
     for i in 0..endings.len() {
         count = count.saturating_add(endings[i].serial());
     }
@@ -96,8 +112,8 @@ pub(crate) fn push_totals(out: &mut Vec<u8>, report: &Report) -> Result<(), NoMe
     push_both(
         out,
         is_whole,
-        endings.len() as u64,
-        serial_endings(endings) as u64,
+        endings.len() as u128,
+        serial_endings(endings) as u128,
     )?;
     push_str(out, "\n")
 }

@@ -72,7 +72,7 @@ fn push_title(
     push_str(out, "* ENDING ")?;
     push_number(out, number)?;
     push_str(out, " OF ")?;
-    push_count(out, report.is_whole, report.endings.len() as u64)?;
+    push_count(out, report.is_whole, report.endings.len() as u128)?;
     push_heading(out, report.is_whole, ending)
 }
 
