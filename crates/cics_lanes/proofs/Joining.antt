@@ -1,13 +1,18 @@
 -- Tables of some orders: a lane's orders are joined to those of the lanes before it.
-use Rattle.std.proofs.Common.{◌≡◌, ◌<◌, inl, inr, ℕ, zero, suc, ◌+◌, Bool, true, false, List, [], ◌∷◌, ◌++◌, map, length, get_or, take, refl, ap, sym, ◌∙◌, arith, append-nil, length-append, subst}
+use Rattle.std.proofs.Common.{◌≡◌, ◌<◌, inl, inr, ℕ, zero, suc, ◌+◌, Bool, true, List, [], ◌∷◌, ◌++◌, map, length, take, drop, Option, Some, None, refl, ap, sym, ◌∙◌, arith, append-nil, append_assoc, length-append, subst}
 use Rattle.std.proofs.lemmas.Grind.{flat_map-append}
-use Rattle.std.proofs.lemmas.List.{length-map, take_more}
-use Rattle.std.proofs.lemmas.Bool.{true≢false}
-use Rattle.cics_lanes.specs.Orders.{Order, Lanes, orders as all_orders, led_by, led_by_any}
+use Rattle.std.proofs.lemmas.List.{length-map, take-append-drop}
+use Rattle.std.proofs.Math.Seq.{take-length}
+use Rattle.std.proofs.lemmas.List.Elements.{All-head, All-tail}
+use Rattle.std.specs.Prelude.{slice_get, unwrap_or}
+use Rattle.std.specs.List.{AllZip}
+use Rattle.cics_lanes.specs.Orders.{Order, Lanes, after, orders as all_orders, led_by, led_by_any}
 use Rattle.cics_lanes.specs.Endings.{Parts, Reported, report, run_to}
 use Rattle.cics_lanes.specs.Reports.{runs}
-use Rattle.cics_lanes.specs.Tables.{joined, begun_by, found, AreAmong, IsTable, Joins, JoinsSome, lanes_left}
-use Rattle.cics_lanes.proofs.Branching.{some_order}
+use Rattle.cics_lanes.specs.Tables.{joined, begun_by, AreAmong, GoOnAlike, IsTable, lanes_left}
+use Rattle.cics_lanes.specs.Levels.{sole_of, IsNodeAt, AreNodes, LeadsTo, IsLinked, table_at, steps_joined, table_by, tables_by}
+use Rattle.cics_lanes.specs.declared.merging.Node.{Node}
+use Rattle.cics_lanes.proofs.Elements.{zip_get}
 use Rattle.cics_lanes.proofs.Tables.{report_joined, report_led, runs_led, runs_both}
 
 -- ---- Some of them
@@ -16,7 +21,7 @@ pub among_all : {X : Type 0} (xs : List X) → AreAmong xs xs
 among_all [] = refl
 among_all (x ∷ xs) = inr (xs, refl, among_all xs)
 
-pub among_none : {X : Type 0} (xs : List X) → AreAmong [] xs
+among_none : {X : Type 0} (xs : List X) → AreAmong [] xs
 among_none [] = refl
 among_none (x ∷ xs) = inl (among_none xs)
 
@@ -37,14 +42,10 @@ among_map f xs (u ∷ us) (inr (more, at, rest)) = inr (map f more, ap (map f) a
 
 -- ---- The lanes so far
 
--- one lane more
-pub lanes_on : (ls : List ℕ) (i l : ℕ) → i < length ls → l ≡ get_or ls i l → take (i + 1) ls ≡ take i ls ++ l ∷ []
-lanes_on ls i l short is = take_more ls i l short ∙ ap (λ k. take i ls ++ k ∷ []) (sym is)
-
 -- a table reports some orders that these lanes begin, and all if it is whole
-pub record IsPart {S : Type 0} (lanes : Lanes S) (ending : S → Parts) (serial : S → Bool) (n : ℕ) (s : S) (ls : List ℕ) (is_whole : Bool) (table : List Reported) : Type 0 where
+record IsPart {S : Type 0} (lanes : Lanes S) (ending : S → Parts) (serial : S → Bool) (n : ℕ) (s : S) (ls : List ℕ) (is_whole : Bool) (table : List Reported) : Type 0 where
   pub orders : List Order
-  pub some : 0 < length orders
+  pub some : 0 < length ls → 0 < length orders
   pub among : AreAmong orders (led_by (λ l. all_orders lanes n (lanes.given s l)) ls)
   pub reports : table ≡ report (runs lanes ending serial s orders)
   pub whole : is_whole ≡ true → orders ≡ led_by (λ l. all_orders lanes n (lanes.given s l)) ls
@@ -58,64 +59,59 @@ module _ {S : Type 0} (lanes : Lanes S) (ending : S → Parts) (serial : S → B
       ∙ ap (λ os. led_by (λ l. all_orders lanes n (lanes.given s l)) ls ++ os) (append-nil (map (λ o. l ∷ o) (all_orders lanes n (lanes.given s l))))
 
   -- the report of orders and of later ones that a lane begins
-  reports_more : (s : S) (l : ℕ) (os ps : List Order) (old new : List Reported) → old ≡ report (runs lanes ending serial s os) →
-      new ≡ joined old (map (begun_by l) (report (runs lanes ending serial (lanes.given s l) ps))) →
-      new ≡ report (runs lanes ending serial s (os ++ map (λ o. l ∷ o) ps))
-  reports_more s l os ps old new so_far is =
-      is
-      ∙ ap (λ t. joined t (map (begun_by l) (report (runs lanes ending serial (lanes.given s l) ps)))) so_far
+  reports_more : (s : S) (l : ℕ) (os ps : List Order) (old : List Reported) → old ≡ report (runs lanes ending serial s os) →
+      joined old (map (begun_by l) (report (runs lanes ending serial (lanes.given s l) ps)))
+      ≡ report (runs lanes ending serial s (os ++ map (λ o. l ∷ o) ps))
+  reports_more s l os ps old so_far =
+      ap (λ t. joined t (map (begun_by l) (report (runs lanes ending serial (lanes.given s l) ps)))) so_far
       ∙ ap (joined (report (runs lanes ending serial s os))) (sym (report_led l (runs lanes ending serial (lanes.given s l) ps)) ∙ ap report (sym (runs_led lanes ending serial s l ps)))
       ∙ report_joined (runs lanes ending serial s os) (runs lanes ending serial s (map (λ o. l ∷ o) ps))
       ∙ ap report (sym (runs_both lanes ending serial s os (map (λ o. l ∷ o) ps)))
 
-  -- the first lane
-  pub part_first : (n : ℕ) (s : S) (l : ℕ) (b : Bool) (new : List Reported) → JoinsSome lanes ending serial n s l b [] new →
-      IsPart lanes ending serial n s (l ∷ []) b new
-  part_first n s l b new first = let joins = first.joins in record {
-    orders = map (λ o. l ∷ o) joins.orders;
-    some = omega (arith, first.some, length-map joins.orders (λ o. l ∷ o));
-    among = subst (AreAmong (map (λ o. l ∷ o) joins.orders)) (sym (led_more n s [] l)) (among_map (λ o. l ∷ o) joins.orders (all_orders lanes n (lanes.given s l)) joins.among);
-    reports = reports_more s l [] joins.orders [] new refl joins.joins;
-    whole = λ is. ap (map (λ o. l ∷ o)) (joins.whole is) ∙ sym (led_more n s [] l);
-  }
+  -- no lane
+  part_none : (n : ℕ) (s : S) (b : Bool) → IsPart lanes ending serial n s [] b []
+  part_none n s b = record { orders = []; some = λ some. absurd (omega (arith, some)); among = refl; reports = refl; whole = λ _. refl }
 
   -- another lane
-  pub part_more : (n : ℕ) (s : S) (ls : List ℕ) (l : ℕ) (b c : Bool) (old new : List Reported) → (c ≡ true → b ≡ true) →
-      IsPart lanes ending serial n s ls b old → Joins lanes ending serial n s l c old new → IsPart lanes ending serial n s (ls ++ l ∷ []) c new
-  part_more n s ls l b c old new stays part joins =
+  part_more : (n : ℕ) (s : S) (ls : List ℕ) (l : ℕ) (b : Bool) (old table : List Reported) → IsPart lanes ending serial n s ls b old →
+      IsTable lanes ending serial n (lanes.given s l) b table → IsPart lanes ending serial n s (ls ++ l ∷ []) b (joined old (map (begun_by l) table))
+  part_more n s ls l b old table part at =
       let os = part.orders in
-      let ps = map (λ o. l ∷ o) joins.orders in
+      let ps = map (λ o. l ∷ o) at.orders in
       record {
         orders = os ++ ps;
-        some = omega (arith, part.some, length-append os ps);
+        some = λ _. omega (arith, at.some, length-append os ps, length-map at.orders (λ o. l ∷ o));
         among = subst (AreAmong (os ++ ps)) (sym (led_more n s ls l))
             (among_both os ps (led_by (λ l. all_orders lanes n (lanes.given s l)) ls) (map (λ o. l ∷ o) (all_orders lanes n (lanes.given s l))) part.among
-            (among_map (λ o. l ∷ o) joins.orders (all_orders lanes n (lanes.given s l)) joins.among));
-        reports = reports_more s l os joins.orders old new part.reports joins.joins;
+            (among_map (λ o. l ∷ o) at.orders (all_orders lanes n (lanes.given s l)) at.among));
+        reports = ap (λ t. joined old (map (begun_by l) t)) at.reports ∙ reports_more s l os at.orders old part.reports;
         whole = λ is.
-            ap (λ qs. qs ++ ps) (part.whole (stays is))
-            ∙ ap (λ qs. led_by (λ l. all_orders lanes n (lanes.given s l)) ls ++ map (λ o. l ∷ o) qs) (joins.whole is)
+            ap (λ qs. qs ++ ps) (part.whole is)
+            ∙ ap (λ qs. led_by (λ l. all_orders lanes n (lanes.given s l)) ls ++ map (λ o. l ∷ o) qs) (at.whole is)
             ∙ sym (led_more n s ls l);
       }
 
-  -- all lanes that may give
-  pub part_all : (n m : ℕ) (s : S) (ls : List ℕ) (b : Bool) (t : List Reported) → n ≡ suc m → lanes_left lanes n s ≡ ls → 0 < length ls →
-      IsPart lanes ending serial m s ls b t → IsTable lanes ending serial n s b t
-  part_all n m s [] b t one is some part = absurd (omega (arith, some))
-  part_all n m s (l ∷ ls) b t one is some part =
+  -- the first lanes that may give, and all of them if it is whole
+  part_all : (n m k : ℕ) (s : S) (l : ℕ) (ls : List ℕ) (b : Bool) (t : List Reported) → n ≡ suc m → lanes_left lanes n s ≡ l ∷ ls → 0 < length (take k (l ∷ ls)) →
+      (b ≡ true → k ≡ length (l ∷ ls)) → IsPart lanes ending serial m s (take k (l ∷ ls)) b t → IsTable lanes ending serial n s b t
+  part_all n m k s l ls b t one is some every part =
+      let more = λ l. all_orders lanes m (lanes.given s l) in
+      let first = take k (l ∷ ls) in
       let givers : lanes.givers s 0 ≡ l ∷ ls = ap (λ k. lanes_left lanes k s) (sym one) ∙ is in
-      let all : all_orders lanes n s ≡ led_by (λ l. all_orders lanes m (lanes.given s l)) (l ∷ ls)
-      = ap (λ k. all_orders lanes k s) one ∙ ap (led_by_any (λ l. all_orders lanes m (lanes.given s l))) givers in
+      let all : all_orders lanes n s ≡ led_by more (l ∷ ls) = ap (λ k. all_orders lanes k s) one ∙ ap (led_by_any more) givers in
+      let both : led_by more (l ∷ ls) ≡ led_by more first ++ led_by more (drop k (l ∷ ls))
+      = ap (led_by more) (sym (take-append-drop k (l ∷ ls))) ∙ flat_map-append (λ l. map (λ o. l ∷ o) (more l)) first (drop k (l ∷ ls)) in
+      let among = among_both part.orders [] (led_by more first) (led_by more (drop k (l ∷ ls))) part.among (among_none (led_by more (drop k (l ∷ ls)))) in
       record {
         orders = part.orders;
-        some = part.some;
-        among = subst (AreAmong part.orders) (sym all) part.among;
+        some = part.some some;
+        among = subst (AreAmong part.orders) (sym (all ∙ both)) (subst (λ os. AreAmong os (led_by more first ++ led_by more (drop k (l ∷ ls)))) (append-nil part.orders) among);
         reports = part.reports;
-        whole = λ is. part.whole is ∙ sym all;
+        whole = λ whole. part.whole whole ∙ ap (led_by more) (ap (λ k. take k (l ∷ ls)) (every whole) ∙ take-length (l ∷ ls)) ∙ sym all;
       }
 
   -- where no lane may give, or no line is left, the empty order is all
-  pub table_sole : (n : ℕ) (s : S) (b : Bool) (t : List Reported) → lanes_left lanes n s ≡ [] → t ≡ report (run_to ending serial [] s ∷ []) →
+  table_sole : (n : ℕ) (s : S) (b : Bool) (t : List Reported) → lanes_left lanes n s ≡ [] → t ≡ report (run_to ending serial [] s ∷ []) →
       IsTable lanes ending serial n s b t
   table_sole n s b t none is = record {
     orders = [] ∷ [];
@@ -129,34 +125,83 @@ module _ {S : Type 0} (lanes : Lanes S) (ending : S → Parts) (serial : S → B
       all zero none = refl
       all (suc n) none = ap (led_by_any (λ l. all_orders lanes n (lanes.given s l))) none
 
-  -- a table of the state after a line is joined
-  pub joins_table : (n : ℕ) (s : S) (l : ℕ) (b : Bool) (old new table : List Reported) → IsTable lanes ending serial n (lanes.given s l) b table →
-      new ≡ joined old (map (begun_by l) table) → JoinsSome lanes ending serial n s l b old new
-  joins_table n s l b old new table at is = record {
-    joins = record {
-      orders = at.orders;
-      among = at.among;
-      joins = is ∙ ap (λ t. joined old (map (begun_by l) t)) at.reports;
-      whole = at.whole;
-    };
+  -- the table of a state is that of each state from which it goes on alike
+  table_alike : (n : ℕ) (s t : S) (b : Bool) (table : List Reported) → GoOnAlike lanes ending serial s t → IsTable lanes ending serial n t b table →
+      IsTable lanes ending serial n s b table
+  table_alike n s t b table same at = record {
+    orders = at.orders;
     some = at.some;
+    among = subst (AreAmong at.orders) (sym (same.same_orders n)) at.among;
+    reports = at.reports ∙ ap report (sym (same.same_runs at.orders));
+    whole = λ is. at.whole is ∙ sym (same.same_orders n);
   }
 
-  -- what is found in a state is a table of it
-  pub table_found : (n : ℕ) (s : S) (b : Bool) (table : List Reported) → table ≡ found lanes ending serial n s → IsTable lanes ending serial n s b table
-  table_found n s b table is = record {
-    orders = all_orders lanes n s;
-    some = some_order lanes n s;
-    among = among_all (all_orders lanes n s);
-    reports = is;
-    whole = λ _. refl;
-  }
+  -- ---- The next level
 
-  -- nothing is joined
-  pub joins_none : (n : ℕ) (s : S) (l : ℕ) (b : Bool) (t : List Reported) → b ≡ false → Joins lanes ending serial n s l b t t
-  joins_none n s l b t left_out = record {
-    orders = [];
-    among = among_none (all_orders lanes n (lanes.given s l));
-    joins = refl;
-    whole = λ is. absurd (true≢false (sym is ∙ left_out));
-  }
+  -- tables of the next level
+  abbrev pub AreTables : ℕ → S → Bool → List Node → List (List Reported) → Type 0
+  AreTables n s b nodes ts = AllZip (λ (x : Node) t. IsTable lanes ending serial n (after lanes s x.order) b t) nodes ts
+
+  -- the table at a place to which a lane leads
+  led_table : (n : ℕ) (s t : S) (b : Bool) (next : List Node) (ts : List (List Reported)) (at : ℕ) → AreTables n s b next ts →
+      LeadsTo lanes ending serial s next t at → IsTable lanes ending serial n t b (table_at ts at)
+  led_table n s t b next ts at all leads =
+      let x = leads.0 in
+      let there = zip_get (λ (x : Node) t. IsTable lanes ending serial n (after lanes s x.order) b t) next ts at x all leads.1 in
+      table_alike n t (after lanes s x.order) b (table_at ts at) leads.2 (subst (IsTable lanes ending serial n (after lanes s x.order) b) (sym (found there.0 there.1)) there.2)
+    where
+      found : (t : List Reported) → slice_get ts at ≡ Some t → table_at ts at ≡ t
+      found t is = ap (λ o. unwrap_or o []) is
+
+  -- the lanes so far and those that are left, as far as they are followed
+  steps_part : (n : ℕ) (s t : S) (b : Bool) (next : List Node) (ts : List (List Reported)) → AreTables n s b next ts → (done ls ps : List ℕ) (table : List Reported) →
+      IsPart lanes ending serial n t done b table → AllZip (λ l at. LeadsTo lanes ending serial s next (lanes.given t l) at) (take (length ps) ls) ps →
+      IsPart lanes ending serial n t (done ++ take (length ps) ls) b (steps_joined table ls ps ts)
+  steps_part n s t b next ts all done [] [] table part leads = subst (λ ks. IsPart lanes ending serial n t ks b table) (sym (append-nil done)) part
+  steps_part n s t b next ts all done [] (p ∷ ps) table part leads = absurd leads
+  steps_part n s t b next ts all done (l ∷ ls) [] table part leads = subst (λ ks. IsPart lanes ending serial n t ks b table) (sym (append-nil done)) part
+  steps_part n s t b next ts all done (l ∷ ls) (p ∷ ps) table part leads =
+      subst (λ ks. IsPart lanes ending serial n t ks b (steps_joined table (l ∷ ls) (p ∷ ps) ts)) (append_assoc done (l ∷ []) (take (length ps) ls))
+      (steps_part n s t b next ts all (done ++ l ∷ []) ls ps (joined table (map (begun_by l) (table_at ts p)))
+      (part_more n t done l b table (table_at ts p) part (led_table n s (lanes.given t l) b next ts p all leads.0)) leads.1)
+
+  -- the table of a state by those of the next level
+  node_table : (n : ℕ) (s : S) (b : Bool) (next : List Node) (ts : List (List Reported)) → ((m : ℕ) → n ≡ suc m → AreTables m s b next ts) → (x : Node) (ps : List ℕ) →
+      IsNodeAt lanes ending serial n (after lanes s x.order) x → IsLinked lanes ending serial s b next x ps → IsTable lanes ending serial n (after lanes s x.order) b (table_by x ps ts)
+  node_table n s b next ts below x ps node linked = by x.lanes refl
+    where
+      here : S
+      here = after lanes s x.order
+
+      more : (l : ℕ) (ls : List ℕ) → x.lanes ≡ l ∷ ls → (n : ℕ) → lanes_left lanes n here ≡ l ∷ ls → ((m : ℕ) → n ≡ suc m → AreTables m s b next ts) → IsTable lanes ending serial n here b (table_by x ps ts)
+      more l ls is zero left below = cc
+      more l ls is (suc m) left below =
+          let k = length ps in
+          let start : x.sole ≡ [] = node.sole ∙ ap (sole_of ending serial here) is in
+          let leads = subst (λ ks. AllZip (λ l at. LeadsTo lanes ending serial s next (lanes.given here l) at) (take k ks) ps) is linked.leads in
+          let part = steps_part m s here b next ts (below m refl) [] (l ∷ ls) ps [] (part_none m here b) leads in
+          let some : 0 < length ps = linked.some (omega (arith, ap length is)) in
+          subst (IsTable lanes ending serial (suc m) here b) (ap (λ t. steps_joined t (l ∷ ls) ps ts) (sym start) ∙ ap (λ ks. steps_joined x.sole ks ps ts) (sym is))
+          (part_all (suc m) m k here l ls b _ refl left (some_taken k (l ∷ ls) some (omega arith)) (λ whole. linked.whole whole ∙ ap length is) part)
+        where
+          some_taken : (k : ℕ) (ks : List ℕ) → 0 < k → 0 < length ks → 0 < length (take k ks)
+          some_taken zero ks k_some some = absurd (omega (arith, k_some))
+          some_taken (suc k) [] k_some some = absurd (omega (arith, some))
+          some_taken (suc k) (j ∷ js) k_some some = omega arith
+
+      by : (ks : List ℕ) → x.lanes ≡ ks → IsTable lanes ending serial n here b (table_by x ps ts)
+      by [] is =
+          table_sole n here b (table_by x ps ts) (sym node.may ∙ is)
+          (ap (λ ks. steps_joined x.sole ks ps ts) is ∙ (node.sole ∙ ap (sole_of ending serial here) is))
+      by (l ∷ ls) is = more l ls is n (sym node.may ∙ is) below
+
+  -- the tables of a level by those of the next one
+  pub level_tables : (n : ℕ) (s : S) (b : Bool) (next : List Node) (ts : List (List Reported)) → ((m : ℕ) → n ≡ suc m → AreTables m s b next ts) → (level : List Node) (pss : List (List ℕ)) →
+      AreNodes lanes ending serial n s level → AllZip (λ x ps. IsLinked lanes ending serial s b next x ps) level pss → AreTables n s b level (tables_by level pss ts)
+  level_tables n s b next ts below [] [] nodes linked = tt
+  level_tables n s b next ts below [] (ps ∷ pss) nodes linked = absurd linked
+  level_tables n s b next ts below (x ∷ xs) [] nodes linked = absurd linked
+  level_tables n s b next ts below (x ∷ xs) (ps ∷ pss) nodes linked = (
+    node_table n s b next ts below x ps (All-head (λ (x : Node). IsNodeAt lanes ending serial n (after lanes s x.order) x) x xs nodes) linked.0,
+    level_tables n s b next ts below xs pss (All-tail (λ (x : Node). IsNodeAt lanes ending serial n (after lanes s x.order) x) x xs nodes) linked.1,
+  )

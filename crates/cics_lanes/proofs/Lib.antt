@@ -6,5 +6,6 @@ pub mod Parts
 mod Rows
 pub mod Telling
 pub mod Tables
+pub mod Elements
 pub mod Joining
 pub mod Searching

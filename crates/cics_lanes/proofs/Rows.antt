@@ -1,10 +1,10 @@
 -- Worked example: two lanes add one to a number, each by a line that reads it and a line that writes it.
-use Rattle.std.specs.Prelude.{◌≡◌, ℕ, suc, ◌+◌, Bool, true, not, ◌==◌, if◌then◌else◌, [], ◌∷◌, ◌++◌, map, Option, Some, None, refl}
+use Rattle.std.specs.Prelude.{◌≡◌, ℕ, suc, ◌+◌, Bool, true, not, ◌==◌, if◌then◌else◌, List, [], ◌∷◌, ◌++◌, map, Option, Some, None, refl}
 use Rattle.std.specs.List.{count_by}
 use Rattle.cics_lanes.specs.Orders.{Order, Lanes, numbered_from, orders}
-use Rattle.cics_lanes.specs.Endings.{Parts, greatest, kept_number, report}
+use Rattle.cics_lanes.specs.Endings.{Parts, Reported, greatest, kept_number, report}
 use Rattle.cics_lanes.specs.Reports.{runs}
-use Rattle.cics_lanes.specs.Tables.{begun_by, found, joined}
+use Rattle.cics_lanes.specs.Tables.{begun_by, joined}
 
 -- a state is the order so far: a lane may give until it has given two lines
 abbrev two : Lanes Order
@@ -48,12 +48,16 @@ all_endings = refl
 cut_orders : orders two 1 [] ≡ (0 ∷ []) ∷ (1 ∷ []) ∷ []
 cut_orders = refl
 
+-- what is reported of the orders from a state on
+abbrev found : ℕ → Order → List Reported
+found n s = report (runs two ending serial s (orders two n s))
+
 -- whichever lane reads first, after both have read the same is reported
-both_read : found two ending serial 2 (0 ∷ 1 ∷ []) ≡ found two ending serial 2 (1 ∷ 0 ∷ [])
+both_read : found 2 (0 ∷ 1 ∷ []) ≡ found 2 (1 ∷ 0 ∷ [])
 both_read = refl
 
 -- the tables of the states after each lane's first line, joined, are what all orders lead to
-all_joined : joined (map (begun_by 0) (found two ending serial 3 (0 ∷ []))) (map (begun_by 1) (found two ending serial 3 (1 ∷ []))) ≡ found two ending serial 4 []
+all_joined : joined (map (begun_by 0) (found 3 (0 ∷ []))) (map (begun_by 1) (found 3 (1 ∷ []))) ≡ found 4 []
 all_joined = refl
 
 -- the greatest number stands for those above it

@@ -1,172 +1,188 @@
--- A search goes on: where it is, and what it keeps.
-use Rattle.std.proofs.Common.{◌≡◌, ◌==◌, ◌<◌, ◌≤◌, ℕ, ◌-◌, zero, suc, Bool, true, false, Option, List, [], ◌∷◌, ◌++◌, length, refl, ap, sym, ◌∙◌, arith, length-append, subst, take}
-use Rattle.std.proofs.lemmas.Bool.{true≢false}
+-- A search goes on: what it has found, and what it reports.
+use Rattle.std.proofs.Common.{◌≡◌, ◌<◌, ◌≤◌, ℕ, suc, Bool, true, Option, List, [], ◌∷◌, ◌++◌, length, take, refl, ap, sym, ◌∙◌, arith, subst, append-nil, append_assoc}
 use Rattle.std.proofs.lemmas.List.{length-map, length-take-le}
-use Rattle.std.proofs.lemmas.List.Elements.{All-push}
-use Rattle.std.proofs.Math.Dec.{eqb-suc-zero}
-use Rattle.std.proofs.Math.Seq.{take-length, take-append_seam}
+use Rattle.std.proofs.lemmas.List.Elements.{All-nil, All-push}
+use Rattle.std.proofs.lemmas.Slice.Zip.{all_zipped_more}
+use Rattle.std.proofs.Math.Seq.{take-length}
+use Rattle.std.specs.Prelude.{slice_get, unwrap_or}
+use Rattle.std.specs.List.{All, AllZip}
 use Rattle.cics_lanes.specs.Orders.{Order, Lanes, after, orders as all_orders}
 use Rattle.cics_lanes.specs.Endings.{Parts, Reported, greatest, kept_number, report, run_to}
 use Rattle.cics_lanes.specs.Reports.{IsReport, runs}
-use Rattle.cics_lanes.specs.Tables.{found, lanes_left, order_count, IsKept, IsTable, IsMerged, Joins}
-use Rattle.cics_lanes.specs.Searches.{AreKept, GoesOn}
+use Rattle.cics_lanes.specs.Tables.{GoOnAlike, order_count, IsTable, IsMerged}
+use Rattle.cics_lanes.specs.Levels.{IsNodeAt, AreNodes, IsFront, LeadsTo, IsLinked, Follows, FollowsLevel, HasTables, table_at, tables_by}
 use Rattle.cics_lanes.specs.declared.exploring.Report.{Report}
-use Rattle.cics_lanes.specs.declared.merging.Kept.{Kept}
+use Rattle.cics_lanes.specs.declared.merging.Node.{Node}
+use Rattle.cics_lanes.specs.declared.merging.Next.{Next}
+use Rattle.cics_lanes.specs.declared.merging.Seen.{Seen}
+use Rattle.cics_lanes.specs.declared.merging.Front.{Front}
 use Rattle.cics_lanes.specs.declared.merging.Search.{Search}
 use Rattle.cics_lanes.proofs.Branching.{after-append, some_order}
-use Rattle.cics_lanes.proofs.Joining.{among_front, joins_none}
+use Rattle.cics_lanes.proofs.Elements.{get_front, get_end, zip_get, zip_weaker}
+use Rattle.cics_lanes.proofs.Joining.{among_front, AreTables, level_tables}
 use Rattle.cics_lanes.proofs.Tables.{order_count_all}
 
 -- the state after a line more
 pub entered : {S : Type 0} (lanes : Lanes S) (start : S → S) → ((s : S) (l : ℕ) → start (lanes.given s l) ≡ start s) →
-    (now new : S) (o p : Order) (l : ℕ) → now ≡ after lanes (start now) o → new ≡ lanes.given now l → p ≡ o ++ l ∷ [] →
-    (start new ≡ start now) × (new ≡ after lanes (start new) p) × (new ≡ after lanes (start now) p)
-entered lanes start stays now new o p l at is made =
-    let first : start new ≡ start now = ap start is ∙ stays now l in
-    let there : new ≡ after lanes (start now) p =
-    is ∙ (ap (λ t. lanes.given t l) at ∙ (sym (after-append lanes (start now) o l) ∙ ap (after lanes (start now)) (sym made))) in
-    (first, there ∙ ap (λ t. after lanes t p) (sym first), there)
-
--- so many lines are left then
-pub left_then : (lines : ℕ) (o p : Order) (l : ℕ) → p ≡ o ++ l ∷ [] → lines - length p ≡ lines - suc (length o)
-left_then lines o p l made = omega (arith, ap length made, length-append o (l ∷ []))
-
--- the order as it was
-pub order_back : (o p : Order) (l d : ℕ) → p ≡ o ++ l ∷ [] → d ≡ length o → take d p ≡ o
-order_back o p l d made depth = ap (take d) made ∙ (ap (λ k. take k (o ++ l ∷ [])) depth ∙ take-append_seam o (l ∷ []))
-
--- a table of a state, told otherwise
-pub table_as : {S : Type 0} (lanes : Lanes S) (ending : S → Parts) (serial : S → Bool) (n m : ℕ) (s t : S) (b c : Bool) (table : List Reported) →
-    n ≡ m → s ≡ t → (c ≡ true → b ≡ true) → IsTable lanes ending serial n s b table → IsTable lanes ending serial m t c table
-table_as lanes ending serial n m s t b c table lines here stays is =
-    subst (λ k. IsTable lanes ending serial k t c table) lines (subst (λ u. IsTable lanes ending serial n u c table) here (record {
-      orders = is.orders;
-      some = is.some;
-      among = is.among;
-      reports = is.reports;
-      whole = λ whole. is.whole (stays whole);
-    }))
-
--- a whole table may be kept
-pub kept_one : {S K : Type 0} (lanes : Lanes S) (ending : S → Parts) (serial : S → Bool) (is_key : S → K → Type 0) (s t : S) (n left : ℕ) (key : K) (o : Order)
-    (b : Bool) (table : List Reported) → t ≡ after lanes s o → is_key t key → left ≡ n → IsTable lanes ending serial n t b table →
-    b ≡ true → IsKept lanes ending serial is_key s left key table
-kept_one lanes ending serial is_key s t n left key o b table at keyed same is whole = (
-  o,
-  subst (λ u. is_key u key) at keyed,
-  is.reports
-      ∙ (ap (λ os. report (runs lanes ending serial t os)) (is.whole whole)
-      ∙ (ap (found lanes ending serial n) at ∙ ap (λ m. found lanes ending serial m (after lanes s o)) (sym same))),
+    (s now new : S) (o : Order) (l : ℕ) → now ≡ after lanes s o → start now ≡ s → new ≡ lanes.given now l →
+    (start new ≡ s) × (new ≡ after lanes s (o ++ l ∷ []))
+entered lanes start stays s now new o l at first is = (
+  ap start is ∙ (stays now l ∙ first),
+  is ∙ (ap (λ t. lanes.given t l) at ∙ sym (after-append lanes s o l)),
 )
 
--- one table more is kept
-pub kept_more : {S K : Type 0} (lanes : Lanes S) (ending : S → Parts) (serial : S → Bool) (is_key : S → K → Type 0) (s : S) (ts new : List (Kept K)) (t : Kept K)
-    (n : Option ℕ) → AreKept lanes ending serial is_key s ts → IsKept lanes ending serial is_key s t.left t.key t.table.items →
-    new ≡ ts ++ (record t { next = n }) ∷ [] → AreKept lanes ending serial is_key s new
-kept_more {S} {K} lanes ending serial is_key s ts new t n all is made =
-    let P = λ (u : Kept K). IsKept lanes ending serial is_key s u.left u.key u.table.items in
-    subst (AreKept lanes ending serial is_key s) (sym made) (All-push P ts (record t { next = n }) all is)
+module _ {S : Type 0} (lanes : Lanes S) (ending : S → Parts) (serial : S → Bool) where
+  alike_itself : (s : S) → GoOnAlike lanes ending serial s s
+  alike_itself s = record { same_orders = λ n. refl; same_runs = λ os. refl }
 
--- a search in which only the mark on lanes left out may change
-pub marked : {S K : Type 0} (lanes : Lanes S) (ending : S → Parts) (serial : S → Bool) (is_key : S → K → Type 0) (origin now : S) (old new : Search K) (b : Bool) →
-    new ≡ record old { is_whole = b } → (b ≡ true → old.is_whole ≡ true) → now ≡ origin → AreKept lanes ending serial is_key origin old.tables.kept.items →
-    GoesOn lanes ending serial is_key origin now old new
-marked {S} {K} lanes ending serial is_key origin now old new b is stays start kept = record {
-  order = ap (λ (r : Search K). r.order.items) is;
-  lines = ap (λ (r : Search K). r.lines) is;
-  start = start;
-  kept = subst (λ (r : Search K). AreKept lanes ending serial is_key origin r.tables.kept.items) (sym is) kept;
-  whole = λ whole. stays (sym (ap (λ (r : Search K). r.is_whole) is) ∙ whole);
-}
+  -- a state that is added is there
+  pub leads_there : (s t : S) (nodes new : List Node) (x : Node) (at : ℕ) → new ≡ nodes ++ x ∷ [] → at ≡ length nodes → t ≡ after lanes s x.order →
+      LeadsTo lanes ending serial s new t at
+  leads_there s t nodes new x at made is there = (
+    x,
+    ap (λ ys. slice_get ys at) made ∙ (ap (slice_get (nodes ++ x ∷ [])) is ∙ get_end nodes x),
+    subst (λ u. GoOnAlike lanes ending serial t u) there (alike_itself t),
+  )
 
--- a search that has just left a lane out
-pub left_out : {S K : Type 0} (lanes : Lanes S) (ending : S → Parts) (serial : S → Bool) (is_key : S → K → Type 0) (origin : S) (old new : Search K) (b : Bool)
-    (n : ℕ) (s : S) (l : ℕ) (table : List Reported) → new ≡ record old { is_whole = b } → b ≡ false →
-    AreKept lanes ending serial is_key origin old.tables.kept.items →
-    GoesOn lanes ending serial is_key origin origin old new × Joins lanes ending serial n s l new.is_whole table table
-left_out {S} {K} lanes ending serial is_key origin old new b n s l table is cut kept = (
-  marked lanes ending serial is_key origin origin old new b is (λ whole. absurd (true≢false (sym whole ∙ cut))) refl kept,
-  joins_none lanes ending serial n s l new.is_whole table (ap (λ (r : Search K). r.is_whole) is ∙ cut),
-)
+  -- and stays when others are added
+  leads_still : (s t : S) (nodes new xs : List Node) (at : ℕ) → new ≡ nodes ++ xs → LeadsTo lanes ending serial s nodes t at → LeadsTo lanes ending serial s new t at
+  leads_still s t nodes new xs at made leads = (leads.0, ap (λ ys. slice_get ys at) made ∙ get_front nodes xs at leads.0 leads.1, leads.2)
 
--- orders that are joined, told otherwise
-pub joins_as : {S : Type 0} (lanes : Lanes S) (ending : S → Parts) (serial : S → Bool) (n m : ℕ) (s t : S) (l : ℕ) (b : Bool) (old new : List Reported) →
-    n ≡ m → s ≡ t → Joins lanes ending serial n s l b old new → Joins lanes ending serial m t l b old new
-joins_as lanes ending serial n m s t l b old new lines here joins =
-    subst (λ k. Joins lanes ending serial k t l b old new) lines (subst (λ u. Joins lanes ending serial n u l b old new) here joins)
+  pub all_lead_still : (s t : S) (nodes new : List Node) → ((xs : List Node) × (new ≡ nodes ++ xs)) → (ls ps : List ℕ) →
+      AllZip (λ l at. LeadsTo lanes ending serial s nodes (lanes.given t l) at) ls ps → AllZip (λ l at. LeadsTo lanes ending serial s new (lanes.given t l) at) ls ps
+  all_lead_still s t nodes new more ls ps all =
+      zip_weaker (λ l at. LeadsTo lanes ending serial s nodes (lanes.given t l) at) (λ l at. LeadsTo lanes ending serial s new (lanes.given t l) at)
+      (λ l at leads. leads_still s (lanes.given t l) nodes new more.0 at more.1 leads) ls ps all
 
--- the lanes that may give, counted
-pub is_none : (ls : List ℕ) (b : Bool) → b ≡ (length ls == 0) → b ≡ true → ls ≡ []
-is_none [] b is empty = refl
-is_none (l ∷ ls) b is empty = absurd (true≢false (sym empty ∙ (is ∙ eqb-suc-zero (length ls))))
+  -- lanes that were followed, and no more
+  pub linked_by : (s : S) (b : Bool) (nodes : List Node) (x : Node) (ps : List ℕ) (i : ℕ) → length ps ≡ i → i ≤ length x.lanes → (0 < length x.lanes → 0 < i) →
+      (b ≡ true → i ≡ length x.lanes) → AllZip (λ l at. LeadsTo lanes ending serial s nodes (lanes.given (after lanes s x.order) l) at) (take i x.lanes) ps →
+      IsLinked lanes ending serial s b nodes x ps
+  linked_by s b nodes x ps i long fits some every leads = record {
+    some = λ one. omega (arith, long, some one);
+    fits = omega (arith, long, fits);
+    leads = subst (λ k. AllZip (λ l at. LeadsTo lanes ending serial s nodes (lanes.given (after lanes s x.order) l) at) (take k x.lanes) ps) (sym long) leads;
+    whole = λ whole. long ∙ every whole;
+  }
 
-pub is_some : (ls : List ℕ) (b : Bool) → b ≡ (length ls == 0) → b ≡ false → 0 < length ls
-is_some [] b is some = absurd (true≢false (sym is ∙ some))
-is_some (l ∷ ls) b is some = omega arith
+  -- they still lead there when others were followed
+  pub linked_still : (s : S) (b c : Bool) (nodes new : List Node) → ((xs : List Node) × (new ≡ nodes ++ xs)) → (c ≡ true → b ≡ true) → (x : Node) (ps : List ℕ) →
+      IsLinked lanes ending serial s b nodes x ps → IsLinked lanes ending serial s c new x ps
+  linked_still s b c nodes new more stays x ps linked = record {
+    some = linked.some;
+    fits = linked.fits;
+    leads = all_lead_still s (after lanes s x.order) nodes new more (take (length ps) x.lanes) ps linked.leads;
+    whole = λ whole. linked.whole (stays whole);
+  }
 
--- if a lane may give, a line is left
-pub some_left : {S : Type 0} (lanes : Lanes S) (n : ℕ) (s : S) (ls : List ℕ) → ls ≡ lanes_left lanes n s → 0 < length ls → 0 < n
-some_left lanes zero s ls is some = absurd (omega (arith, ap length is, some))
-some_left lanes (suc n) s ls is some = omega arith
+  -- a state more
+  pub front_more : {K : Type 0} (is_key : S → K → Type 0) (n : ℕ) (s : S) (f g : Front K) (x : Node) (k : Seen K) (p : Option ℕ) → IsFront lanes ending serial is_key n s f →
+      IsNodeAt lanes ending serial n (after lanes s x.order) x → is_key (after lanes s x.order) k.key → g.nodes.items ≡ f.nodes.items ++ x ∷ [] →
+      g.seen.items ≡ f.seen.items ++ (record k { next = p }) ∷ [] → IsFront lanes ending serial is_key n s g
+  front_more {K} is_key n s f g x k p front node key nodes seen =
+      let N = λ (y : Node). IsNodeAt lanes ending serial n (after lanes s y.order) y in
+      let P = λ (y : Node) (j : Seen K). is_key (after lanes s y.order) j.key in
+      record {
+        nodes = subst (All N) (sym nodes) (All-push N f.nodes.items x front.nodes node);
+        seen = subst (λ ys. AllZip P ys g.seen.items) (sym nodes) (subst (AllZip P (f.nodes.items ++ x ∷ [])) (sym seen)
+            (all_zipped_more P f.nodes.items f.seen.items x (record k { next = p }) front.seen key));
+      }
 
--- a search that stays as it is
-pub goes_nowhere : {S K : Type 0} (lanes : Lanes S) (ending : S → Parts) (serial : S → Bool) (is_key : S → K → Type 0) (origin : S) (old : Search K) →
-    AreKept lanes ending serial is_key origin old.tables.kept.items → GoesOn lanes ending serial is_key origin origin old old
-goes_nowhere lanes ending serial is_key origin old kept = record { order = refl; lines = refl; start = refl; kept = kept; whole = λ is. is }
+  -- a search goes on twice
+  pub follows_on : {K : Type 0} (is_key : S → K → Type 0) (n : ℕ) (origin now last : S) (old mid new : Search) (f g h : Front K) →
+      Follows lanes ending serial is_key n origin now old mid f g → (last ≡ now) → IsFront lanes ending serial is_key n origin h →
+      ((xs : List Node) × (h.nodes.items ≡ g.nodes.items ++ xs)) → (new.is_whole ≡ true → mid.is_whole ≡ true) → Follows lanes ending serial is_key n origin last old new f h
+  follows_on is_key n origin now last old mid new f g h first start front more whole = record {
+    start = start ∙ first.start;
+    front = front;
+    more = (first.more.0 ++ more.0, more.1 ∙ (ap (λ xs. xs ++ more.0) first.more.1 ∙ append_assoc f.nodes.items first.more.0 more.0));
+    whole = λ is. first.whole (whole is);
+  }
 
--- a search that goes on twice
-pub goes_on : {S K : Type 0} (lanes : Lanes S) (ending : S → Parts) (serial : S → Bool) (is_key : S → K → Type 0) (origin now last : S) (old mid new : Search K) →
-    GoesOn lanes ending serial is_key origin now old mid → GoesOn lanes ending serial is_key now last mid new → GoesOn lanes ending serial is_key origin last old new
-goes_on lanes ending serial is_key origin now last old mid new first second =
-    record {
-      order = second.order ∙ first.order;
-      lines = second.lines ∙ first.lines;
-      start = second.start ∙ first.start;
-      kept = subst (λ s. AreKept lanes ending serial is_key s new.tables.kept.items) first.start second.kept;
-      whole = λ whole. first.whole (second.whole whole);
-    }
+  -- the tables of a level, if lines are left
+  pub has_tables : (n m : ℕ) (origin now last : S) (old mid new : Search) (level : List Node) (next : Next) (below tables : List (List Reported)) → n ≡ suc m →
+      AreNodes lanes ending serial n origin level → FollowsLevel lanes ending serial m origin now old mid level next →
+      HasTables lanes ending serial m now last mid new next.nodes.items below → tables ≡ tables_by level next.places below →
+      HasTables lanes ending serial n origin last old new level tables
+  has_tables n m origin now last old mid new level next below tables one nodes follows has made =
+      let at = subst (λ s. AreTables lanes ending serial m s new.is_whole next.nodes.items below) follows.start has.tables in
+      let linked = zip_weaker (λ x ps. IsLinked lanes ending serial origin mid.is_whole next.nodes.items x ps) (λ x ps. IsLinked lanes ending serial origin new.is_whole next.nodes.items x ps)
+      (λ x ps. linked_still origin mid.is_whole new.is_whole next.nodes.items next.nodes.items ([], sym (append-nil next.nodes.items)) has.whole x ps) level next.places follows.linked in
+      record {
+        start = has.start ∙ follows.start;
+        tables = subst (AreTables lanes ending serial n origin new.is_whole level) (sym made)
+            (level_tables lanes ending serial n origin new.is_whole next.nodes.items below
+            (λ k is. subst (λ j. AreTables lanes ending serial j origin new.is_whole next.nodes.items below) (omega (arith, one, is)) at) level next.places nodes linked);
+        whole = λ is. follows.whole (has.whole is);
+      }
 
--- a report of the table of the start
-pub merged_of : {S : Type 0} (lanes : Lanes S) (ending : S → Parts) (serial : S → Bool) (most : ℕ) (s : S) (r : Report) (table : List Reported) →
-    IsTable lanes ending serial most s r.is_whole table → r.endings ≡ table → r.orders ≡ order_count table → IsMerged lanes ending serial most s r
-merged_of lanes ending serial most s r table is same number =
-    record {
-      kept = is.orders;
-      some = is.some;
-      among = is.among;
-      followed = number ∙ (ap order_count is.reports ∙ (order_count_all (runs lanes ending serial s is.orders)
-          ∙ ap kept_number (length-map is.orders (λ o. run_to ending serial o (after lanes s o)))));
-      endings = same ∙ is.reports;
-      whole = is.whole;
-    }
+  -- and if none is left
+  pub has_last_tables : (n m : ℕ) (origin now : S) (old new : Search) (level : List Node) (next : Next) (tables : List (List Reported)) → n ≡ 0 →
+      AreNodes lanes ending serial n origin level → FollowsLevel lanes ending serial m origin now old new level next → tables ≡ tables_by level next.places [] →
+      HasTables lanes ending serial n origin now old new level tables
+  has_last_tables n m origin now old new level next tables none nodes follows made = record {
+    start = follows.start;
+    tables = subst (AreTables lanes ending serial n origin new.is_whole level) (sym made)
+        (level_tables lanes ending serial n origin new.is_whole next.nodes.items [] (λ k is. absurd (omega (arith, none, is))) level next.places nodes follows.linked);
+    whole = follows.whole;
+  }
 
--- a report of each order in turn
-pub merged_as : {S : Type 0} (lanes : Lanes S) (ending : S → Parts) (serial : S → Bool) (most limit : ℕ) (s : S) (r : Report) → 0 < limit → limit ≤ greatest →
-    IsReport lanes ending serial most limit s r → IsMerged lanes ending serial most s r
-merged_as lanes ending serial most limit s r one fits is =
-    let all = all_orders lanes most s in
-    let kept = take r.orders all in
-    let long : length kept ≡ r.orders = length-take-le r.orders all (omega (arith, is.followed)) in
-    record {
-      kept = kept;
-      some = omega (arith, long, is.followed, one, some_order lanes most s);
-      among = among_front r.orders all;
-      followed = omega (arith, long, is.followed, fits);
-      endings = is.endings;
-      whole = λ whole.
-          let every : r.orders ≡ length all = omega (arith, is.followed, is.whole.0 whole) in
-          ap (λ k. take k all) every ∙ take-length all;
-    }
+  -- the state of the first level
+  pub first_nodes : (n : ℕ) (s now : S) (level : List Node) (x : Node) → level ≡ x ∷ [] → x.order ≡ [] → now ≡ s → IsNodeAt lanes ending serial n now x →
+      AreNodes lanes ending serial n s level
+  first_nodes n s now level x one none here node =
+      let N = λ (y : Node). IsNodeAt lanes ending serial n (after lanes s y.order) y in
+      subst (All N) (sym one) (All-push N [] x (All-nil N) (subst (λ u. IsNodeAt lanes ending serial n u x) (here ∙ sym (ap (after lanes s) none)) node))
 
--- a whole report is that of each order in turn
-pub as_explored : {S : Type 0} (lanes : Lanes S) (ending : S → Parts) (serial : S → Bool) (most : ℕ) (s : S) (r : Report) →
-    IsMerged lanes ending serial most s r → r.is_whole ≡ true → length (all_orders lanes most s) ≤ greatest →
-    IsReport lanes ending serial most greatest s r
-as_explored lanes ending serial most s r is whole fits =
-    let all = all_orders lanes most s in
-    let number : r.orders ≡ length all = omega (arith, is.followed, ap length (is.whole whole), fits) in
-    record {
-      followed = omega (arith, number, fits);
-      endings = is.endings ∙ ap (λ os. report (runs lanes ending serial s os)) (is.whole whole ∙ sym (ap (λ k. take k all) number ∙ take-length all));
-      whole = (λ _. fits, λ _. whole);
-    }
+  -- and its table
+  pub first_table : (n m : ℕ) (s now : S) (b : Bool) (level : List Node) (x : Node) (tables : List (List Reported)) (table : List Reported) → level ≡ x ∷ [] → x.order ≡ [] →
+      now ≡ s → n ≡ m → AreTables lanes ending serial n now b level tables → table ≡ table_at tables 0 → IsTable lanes ending serial m s b table
+  first_table n m s now b level x tables table one none here same all made =
+      let there = zip_get (λ (y : Node) t. IsTable lanes ending serial n (after lanes now y.order) b t) level tables 0 x all (ap (λ ys. slice_get ys 0) one) in
+      let is = subst (λ t. IsTable lanes ending serial n (after lanes now x.order) b t) (sym (made ∙ ap (λ o. unwrap_or o []) there.1)) there.2 in
+      subst (λ k. IsTable lanes ending serial k s b table) same (subst (λ u. IsTable lanes ending serial n u b table) (ap (after lanes now) none ∙ here) is)
+
+  -- a report of the table of the start
+  pub merged_of : (most : ℕ) (s : S) (r : Report) (table : List Reported) →
+      IsTable lanes ending serial most s r.is_whole table → r.endings ≡ table → r.orders ≡ order_count table → IsMerged lanes ending serial most s r
+  merged_of most s r table is same number =
+      record {
+        kept = is.orders;
+        some = is.some;
+        among = is.among;
+        followed = number ∙ (ap order_count is.reports ∙ (order_count_all (runs lanes ending serial s is.orders)
+            ∙ ap kept_number (length-map is.orders (λ o. run_to ending serial o (after lanes s o)))));
+        endings = same ∙ is.reports;
+        whole = is.whole;
+      }
+
+  -- a report of each order in turn
+  pub merged_as : (most limit : ℕ) (s : S) (r : Report) → 0 < limit → limit ≤ greatest →
+      IsReport lanes ending serial most limit s r → IsMerged lanes ending serial most s r
+  merged_as most limit s r one fits is =
+      let all = all_orders lanes most s in
+      let kept = take r.orders all in
+      let long : length kept ≡ r.orders = length-take-le r.orders all (omega (arith, is.followed)) in
+      record {
+        kept = kept;
+        some = omega (arith, long, is.followed, one, some_order lanes most s);
+        among = among_front r.orders all;
+        followed = omega (arith, long, is.followed, fits);
+        endings = is.endings;
+        whole = λ whole.
+            let every : r.orders ≡ length all = omega (arith, is.followed, is.whole.0 whole) in
+            ap (λ k. take k all) every ∙ take-length all;
+      }
+
+  -- a whole report is that of each order in turn
+  pub as_explored : (most : ℕ) (s : S) (r : Report) →
+      IsMerged lanes ending serial most s r → r.is_whole ≡ true → length (all_orders lanes most s) ≤ greatest →
+      IsReport lanes ending serial most greatest s r
+  as_explored most s r is whole fits =
+      let all = all_orders lanes most s in
+      let number : r.orders ≡ length all = omega (arith, is.followed, ap length (is.whole whole), fits) in
+      record {
+        followed = omega (arith, number, fits);
+        endings = is.endings ∙ ap (λ os. report (runs lanes ending serial s os)) (is.whole whole ∙ sym (ap (λ k. take k all) number ∙ take-length all));
+        whole = (λ _. fits, λ _. whole);
+      }

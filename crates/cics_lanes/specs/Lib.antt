@@ -2,4 +2,4 @@ pub mod Orders
 pub mod Endings
 pub mod Reports
 pub mod Tables
-pub mod Searches
+pub mod Levels

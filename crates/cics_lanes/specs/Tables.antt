@@ -1,7 +1,7 @@
 -- What is reported of the orders from a state on, as a table that its lanes' tables give.
-use Rattle.std.specs.Prelude.{◌≡◌, ◌<◌, ◌≤◌, ◌⊎◌, ℕ, zero, suc, ◌+◌, Bool, true, if◌then◌else◌, List, [], ◌∷◌, map, length}
+use Rattle.std.specs.Prelude.{◌≡◌, ◌<◌, ◌≤◌, ◌⊎◌, ℕ, zero, suc, ◌+◌, Bool, true, if◌then◌else◌, List, [], ◌∷◌, length}
 use Rattle.std.specs.List.{fold}
-use Rattle.cics_lanes.specs.Orders.{Order, Lanes, after, orders, orders as all_orders}
+use Rattle.cics_lanes.specs.Orders.{Order, Lanes, orders as all_orders}
 use Rattle.cics_lanes.specs.Endings.{Parts, Reported, are_same, greatest, kept_number, report}
 use Rattle.cics_lanes.specs.Reports.{IsReport, runs}
 use Rattle.cics_lanes.specs.declared.exploring.Report.{Report}
@@ -24,18 +24,10 @@ joined fs (g ∷ gs) = joined (added fs g) gs
 abbrev pub begun_by : ℕ → Reported → Reported
 begun_by l f = record f { order = l ∷ f.order }
 
--- what is reported of the orders from a state on
-abbrev pub found : {S : Type 0} → Lanes S → (S → Parts) → (S → Bool) → ℕ → S → List Reported
-found lanes ending serial n s = report (runs lanes ending serial s (orders lanes n s))
-
--- of two states the same is reported
-abbrev pub HaveOneTable : {S : Type 0} → Lanes S → (S → Parts) → (S → Bool) → S → S → Type 0
-HaveOneTable lanes ending serial s t = (n : ℕ) → found lanes ending serial n s ≡ found lanes ending serial n t
-
--- a table that is kept: it is that of a state after an order from here, which has this key
-abbrev pub IsKept : {S K : Type 0} → Lanes S → (S → Parts) → (S → Bool) → (S → K → Type 0) → S → ℕ → K → List Reported → Type 0
-IsKept lanes ending serial is_key s n key table =
-    (o : Order) × is_key (after lanes s o) key × (table ≡ found lanes ending serial n (after lanes s o))
+-- from two states the same orders lead on, and each to the same ending
+pub record GoOnAlike {S : Type 0} (lanes : Lanes S) (ending : S → Parts) (serial : S → Bool) (s t : S) : Type 0 where
+  pub same_orders : (n : ℕ) → all_orders lanes n s ≡ all_orders lanes n t
+  pub same_runs : (os : List Order) → runs lanes ending serial s os ≡ runs lanes ending serial t os
 
 -- some of these, in the same order
 abbrev pub AreAmong : {X : Type 0} → List X → List X → Type 0
@@ -49,18 +41,6 @@ pub record IsTable {S : Type 0} (lanes : Lanes S) (ending : S → Parts) (serial
   pub among : AreAmong orders (all_orders lanes n s)
   pub reports : table ≡ report (runs lanes ending serial s orders)
   pub whole : is_whole ≡ true → orders ≡ all_orders lanes n s
-
--- To a table some orders are joined that a lane begins, and all of them if it is whole.
-pub record Joins {S : Type 0} (lanes : Lanes S) (ending : S → Parts) (serial : S → Bool) (n : ℕ) (s : S) (l : ℕ) (is_whole : Bool) (old new : List Reported) : Type 0 where
-  pub orders : List Order
-  pub among : AreAmong orders (all_orders lanes n (lanes.given s l))
-  pub joins : new ≡ joined old (map (begun_by l) (report (runs lanes ending serial (lanes.given s l) orders)))
-  pub whole : is_whole ≡ true → orders ≡ all_orders lanes n (lanes.given s l)
-
--- To a table at least one order is joined that a lane begins.
-pub record JoinsSome {S : Type 0} (lanes : Lanes S) (ending : S → Parts) (serial : S → Bool) (n : ℕ) (s : S) (l : ℕ) (is_whole : Bool) (old new : List Reported) : Type 0 where
-  pub joins : Joins lanes ending serial n s l is_whole old new
-  pub some : 0 < length joins.orders
 
 -- the lanes that may give if so many lines are left
 abbrev pub lanes_left : {S : Type 0} → Lanes S → ℕ → S → List ℕ
@@ -80,7 +60,8 @@ pub record IsMerged {S : Type 0} (lanes : Lanes S) (ending : S → Parts) (seria
   pub endings : r.endings ≡ report (runs lanes ending serial s kept)
   pub whole : r.is_whole ≡ true → kept ≡ all_orders lanes most s
 
--- a whole report is that of each order in turn, unless there are more orders than the greatest number
+-- A whole report is that of each order in turn, unless there are more orders than the greatest
+-- number.
 abbrev pub IsAsExplored : {S : Type 0} → Lanes S → (S → Parts) → (S → Bool) → ℕ → S → Report → Type 0
 IsAsExplored lanes ending serial most s r =
     r.is_whole ≡ true → length (all_orders lanes most s) ≤ greatest → IsReport lanes ending serial most greatest s r

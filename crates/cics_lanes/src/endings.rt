@@ -91,6 +91,18 @@ impl Ending {
         self.serial = self.serial.saturating_add(other.serial);
     }
 
+    // Returns a copy.
+    fn copy(&self, alloc: Global) -> Result<Ending, NoMemory>
+        ensures { IfOk result (λ ending. ending ≡ self.now) }
+    {
+        Ok(Ending {
+            order: Items::from_vec(Vec::from_slice(alloc, self.order.as_slice())?),
+            parts: self.parts.clone()?,
+            orders: self.orders,
+            serial: self.serial,
+        })
+    }
+
     // Returns the same ending, whose first order a lane begins.
     fn begun_by(&self, alloc: Global, lane: usize) -> Result<Ending, NoMemory>
         ensures { IfOk result (λ ending. ending ≡ begun_by lane self.now) }
@@ -196,4 +208,15 @@ pub(crate) fn join(table: &mut Vec<Ending>, lane: usize, more: &[Ending]) -> Res
         add(table, lane, &more[i])?;
     }
     Ok(())
+}
+
+/// Returns copies of endings.
+pub(crate) fn copied(alloc: Global, endings: &[Ending]) -> Result<Vec<Ending>, NoMemory>
+    ensures { IfOk result (λ copies. copies.items ≡ endings.now) }
+{
+    let mut copies = Vec::new(alloc);
+    for i in 0..endings.len() {
+        copies.push(endings[i].copy(alloc)?)?;
+    }
+    Ok(copies)
 }

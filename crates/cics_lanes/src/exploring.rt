@@ -44,7 +44,7 @@ fn branch_at<W: Walk>(walk: &W, depth: usize, lane: usize, before: Option<Branch
 }
 
 // Gives the lines of an order. Returns where the next order branches off.
-pub(crate) fn retrace<W: Walk>(walk: &mut W, order: &[usize]) -> Result<Option<Branch>, NoMemory>
+fn retrace<W: Walk>(walk: &mut W, order: &[usize]) -> Result<Option<Branch>, NoMemory>
     ensures { IfOk result (λ branch. (n : ℕ) → length order.now ≤ n →
         Reaches W.lanes n walk.old order.now walk.new order.now branch) }
 {

@@ -1,59 +1,78 @@
-//! Every order, where states of which the same is reported are followed once.
+//! Follows every order level by level, and states of one key once.
+//!
+//! A *level* has the states that orders of so many lines lead to. First each line that may come
+//! next is given from each state of a level, which makes the next level. When the last level is
+//! made, the *table* of each state is joined from those of the states after it. It has the endings
+//! that the orders from there on lead to. So only one level has keys at a time, and only two have
+//! tables.
 
-ghost use Rattle.std.specs.Prelude.{◌≡◌, ◌<◌, ◌-◌, ◌++◌, ℕ, suc, [], ◌∷◌, Option, true};
+ghost use Rattle.std.specs.Prelude.{◌≡◌, ◌<◌, ◌++◌, ℕ, [], ◌∷◌, Option, true, false};
 ghost use Rattle.std.specs.Prelude.{IfOk, OnOk, IfSome, length};
 ghost use Rattle.cics_lanes.specs.Orders.{Order, after};
-ghost use Rattle.cics_lanes.specs.Endings.{report, run_to};
-ghost use Rattle.cics_lanes.specs.Tables.{found, lanes_left, order_count};
-ghost use Rattle.cics_lanes.specs.Tables.{IsKept, IsTable, Joins, JoinsSome, IsMerged, IsAsExplored};
-ghost use Rattle.cics_lanes.specs.Searches.{AreKept, GoesOn};
+ghost use Rattle.cics_lanes.specs.Tables.{lanes_left, order_count, IsMerged, IsAsExplored};
+ghost use Rattle.cics_lanes.specs.Levels.{IsNodeAt, AreNodes, AreSeen, IsFront, LeadsTo, IsLinked};
+ghost use Rattle.cics_lanes.specs.Levels.{Follows, FollowsLevel, HasTables, table_at, table_by};
+ghost use Rattle.cics_lanes.specs.Levels.{sole_of, tables_by};
 
-use crate::endings::{Ending, join, tell};
-use crate::exploring::{Report, explore, retrace, run_to};
+use crate::endings::{Ending, copied, join, tell};
+use crate::exploring::{Report, explore, run_to};
 use crate::walks::{Merge, Walk};
 use cics_names::{Items, NoMemory};
 use std::alloc::Global;
 
-// How many chains the kept tables are in.
-const CHAINS: usize = 65536;
+// How many chains the keys of a level are in.
+const CHAINS: usize = 4096;
 
-// How many lines an order may have at most in a search with tables: each takes room on the stack.
+// How many lines an order may have at most: each level takes room on the stack, and each state is
+// run from the start.
 const MOST_LINES: usize = 2000;
 
-// The table of a state, and what is compared of the state.
+// A state of a level.
 #[derive(Drop)]
-struct Kept<K> {
-    left: usize,
+struct Node {
+    // An order that leads to it.
+    order: Items<usize>,
+    // The lanes that may give.
+    lanes: Items<usize>,
+    // Its table if none may.
+    sole: Items<Ending>,
+}
+
+// The key of a state.
+#[derive(Drop)]
+struct Seen<K> {
     hash: u64,
     key: K,
-    table: Vec<Ending>,
     // The place of the one before it in its chain.
     next: Option<usize>,
 }
 
-// Tables that are kept, in chains by the numbers of their keys.
+// The states of a level that are found so far, and their keys, in chains by hash.
 #[derive(Drop)]
-struct Tables<K> {
-    kept: Vec<Kept<K>>,
+struct Front<K> {
+    nodes: Vec<Node>,
+    seen: Vec<Seen<K>>,
     // The place of the last one of each chain.
     heads: Vec<Option<usize>>,
 }
 
-impl<K: Drop> Tables<K> {
-    fn new(alloc: Global) -> Result<Tables<K>, NoMemory>
-        ensures { IfOk result (λ tables. tables.kept.items ≡ []) }
+impl<K: Drop> Front<K> {
+    fn new(alloc: Global) -> Result<Front<K>, NoMemory>
+        ensures nodes { IfOk result (λ front. front.nodes.items ≡ []) }
+        ensures seen { IfOk result (λ front. front.seen.items ≡ []) }
     {
         let mut heads = Vec::new(alloc);
         for _ in 0..CHAINS {
             heads.push(None)?;
         }
-        Ok(Tables {
-            kept: Vec::new(alloc),
+        Ok(Front {
+            nodes: Vec::new(alloc),
+            seen: Vec::new(alloc),
             heads,
         })
     }
 
-    // Returns the place of the last one in the chain of a number.
+    // Returns the place of the last key in the chain of a hash.
     fn last(&self, hash: u64) -> Option<usize> {
         match self.heads.get((hash % CHAINS as u64) as usize) {
             Some(head) => *head,
@@ -61,92 +80,78 @@ impl<K: Drop> Tables<K> {
         }
     }
 
-    // Keeps the table of a state.
-    fn keep(&mut self, kept: Kept<K>) -> Result<(), NoMemory>
-        ensures { OnOk result ((next : Option ℕ) ×
-            (self.new.kept.items ≡ self.old.kept.items ++ (record kept { next = next }) ∷ [])) }
+    // Adds a state and its key. Returns its place.
+    fn add(&mut self, node: Node, seen: Seen<K>) -> Result<usize, NoMemory>
+        ensures nodes { OnOk result (self.new.nodes.items ≡ self.old.nodes.items ++ node ∷ []) }
+        ensures seen { OnOk result ((next : Option ℕ) ×
+            (self.new.seen.items ≡ self.old.seen.items ++ (record seen { next = next }) ∷ [])) }
+        ensures at { IfOk result (λ at. at ≡ length self.old.nodes.items) }
     {
-        let mut kept = kept;
-        let chain = (kept.hash % CHAINS as u64) as usize;
-        let at = self.kept.len();
-        kept.next = self.last(kept.hash);
-        self.kept.push(kept)?;
+        let mut seen = seen;
+        let chain = (seen.hash % CHAINS as u64) as usize;
+        let at = self.nodes.len();
+        seen.next = self.last(seen.hash);
+        self.nodes.push(node)?;
+        self.seen.push(seen)?;
         if chain < self.heads.len() {
             self.heads[chain] = Some(at);
         }
-        Ok(())
+        Ok(at)
     }
 }
 
-// Returns the table that is kept for a state with this key that has so many lines left.
-fn find<'t, W: Merge>(
-    tables: &'t Tables<W::Key>,
-    left: usize,
-    hash: u64,
-    key: &W::Key,
-) -> Option<&'t [Ending]>
-    ensures { IfSome result (λ table. (s : W) (o : Order) →
-        AreKept W.lanes W.ending W.serial W.is_key (W.start s) tables.now.kept.items →
+// Returns the place of a state of this key, if one is there.
+fn find<W: Merge>(front: &Front<W::Key>, hash: u64, key: &W::Key) -> Option<usize>
+    ensures { IfSome result (λ at. (s : W) (o : Order) →
+        AreSeen W.lanes W.is_key (W.start s) front.now.nodes.items front.now.seen.items →
         W.is_key (after W.lanes (W.start s) o) key.now →
-        table.now ≡ found W.lanes W.ending W.serial left (after W.lanes (W.start s) o)) }
+        LeadsTo W.lanes W.ending W.serial (W.start s) front.now.nodes.items
+        (after W.lanes (W.start s) o) at) }
 {
-    let mut place = tables.last(hash);
-    for _ in 0..tables.kept.len() {
+    let mut place = front.last(hash);
+    for _ in 0..front.seen.len() {
         let Some(at) = place else {
             return None;
         };
-        if at >= tables.kept.len() {
+        if at >= front.seen.len() {
             return None;
         }
-        let kept = &tables.kept[at];
-        if kept.left == left && kept.hash == hash && W::is_same(&kept.key, key) {
-            return Some(kept.table.as_slice());
+        let seen = &front.seen[at];
+        if seen.hash == hash && W::is_same(key, &seen.key) {
+            return Some(at);
         }
-        place = kept.next;
+        place = seen.next;
     }
     None
 }
 
-// Where a search is.
+// How far a search may go.
 #[derive(Drop)]
-struct Search<K> {
-    // The order that was followed to the state.
-    order: Vec<usize>,
-    // How many lines an order may have at most.
-    lines: usize,
-    tables: Tables<K>,
+struct Search {
+    // How many states are found.
+    states: u64,
+    // From so many states on only the first lane of each state is followed.
     limit: u64,
     // Whether no lane was left out so far.
     is_whole: bool,
 }
 
-impl<K> Search<K> {
-    // Returns whether another lane may be followed. Else it is left out.
-    fn may_branch(&mut self) -> bool
-        ensures value { self.new ≡ record self.old { is_whole = result } }
-        ensures whole { result ≡ true → self.old.is_whole ≡ true }
+impl Search {
+    // Returns whether the lane of this number, among those of a state, may be followed. Else it is
+    // left out.
+    fn may_follow(&mut self, number: usize) -> bool
+        ensures first { result ≡ false → 0 < number }
+        ensures cut { result ≡ false → self.new.is_whole ≡ false }
+        ensures whole { self.new.is_whole ≡ true → self.old.is_whole ≡ true }
     {
-        if self.tables.kept.len() as u64 >= self.limit {
+        if number == 0 {
+            return true;
+        }
+        if self.states >= self.limit {
             self.is_whole = false;
         }
         self.is_whole
     }
-}
-
-// Keeps a table if no lane was left out so far.
-fn keep<W: Merge>(search: &mut Search<W::Key>, kept: Kept<W::Key>) -> Result<(), NoMemory>
-    ensures value { OnOk result (search.new ≡ record search.old { tables = search.new.tables }) }
-    ensures kept { OnOk result ((s : W) →
-        AreKept W.lanes W.ending W.serial W.is_key s search.old.tables.kept.items →
-        (search.old.is_whole ≡ true →
-        IsKept W.lanes W.ending W.serial W.is_key s kept.left kept.key kept.table.items) →
-        AreKept W.lanes W.ending W.serial W.is_key s search.new.tables.kept.items) }
-{
-    if !search.is_whole {
-        return Ok(());
-    }
-    search.tables.keep(kept)?;
-    Ok(())
 }
 
 // Returns the lanes that may give.
@@ -162,135 +167,228 @@ fn givers<W: Walk>(alloc: Global, walk: &W) -> Result<Vec<usize>, NoMemory>
     Ok(lanes)
 }
 
-// Returns the lanes that may give if lines are left.
-fn lanes_left<W: Merge>(search: &Search<W::Key>, walk: &W) -> Result<Vec<usize>, NoMemory>
-    ensures { IfOk result (λ ls. ls.items
-        ≡ lanes_left W.lanes (search.now.lines - length search.now.order.items) walk.now) }
+// Returns the lanes that may give if so many lines are left.
+fn lanes_left<W: Walk>(alloc: Global, walk: &W, left: usize) -> Result<Vec<usize>, NoMemory>
+    ensures { IfOk result (λ lanes. lanes.items ≡ lanes_left W.lanes left walk.now) }
 {
-    let alloc = *search.order.allocator();
-    if search.order.len() >= search.lines {
+    if left == 0 {
         return Ok(Vec::new(alloc));
     }
     givers(alloc, walk)
 }
 
-// Goes back to the state after the order.
-fn go_back<W: Merge>(search: &Search<W::Key>, walk: &mut W) -> Result<(), NoMemory>
-    ensures at { OnOk result (walk.new
-        ≡ after W.lanes (W.start walk.old) search.now.order.items) }
+// Returns the table of a state if none of these lanes may give, or else no ending yet.
+fn sole_of<W: Walk>(alloc: Global, walk: &W, lanes: &[usize]) -> Result<Vec<Ending>, NoMemory>
+    ensures { IfOk result (λ table.
+        table.items ≡ sole_of W.ending W.serial walk.now lanes.now) }
+{
+    let mut table = Vec::new(alloc);
+    if lanes.is_empty() {
+        tell(&mut table, run_to(alloc, walk, &[])?)?;
+        return Ok(table);
+    }
+    Ok(table)
+}
+
+// Returns the state of a walk, to which an order led, with so many lines left.
+fn node_at<W: Walk>(
+    alloc: Global,
+    walk: &W,
+    order: Items<usize>,
+    left: usize,
+) -> Result<Node, NoMemory>
+    ensures order { IfOk result (λ node. node.order ≡ order) }
+    ensures node { IfOk result (IsNodeAt W.lanes W.ending W.serial left walk.now) }
+{
+    let lanes = lanes_left(alloc, walk, left)?;
+    let sole = sole_of(alloc, walk, lanes.as_slice())?;
+    Ok(Node {
+        order,
+        lanes: Items::from_vec(lanes),
+        sole: Items::from_vec(sole),
+    })
+}
+
+// Goes to the state after an order.
+fn go_to<W: Walk>(walk: &mut W, order: &[usize]) -> Result<(), NoMemory>
+    ensures at { OnOk result (walk.new ≡ after W.lanes (W.start walk.old) order.now) }
     ensures start { OnOk result (W.start walk.new ≡ W.start walk.old) }
 {
     walk.restart()?;
-    retrace(walk, search.order.as_slice())?;
+    for i in 0..order.len() {
+        walk.give(order[i])?;
+    }
     Ok(())
 }
 
-// Returns the table of a state in which no lane may give.
-fn sole<W: Walk>(alloc: Global, walk: &W) -> Result<Vec<Ending>, NoMemory>
-    ensures { IfOk result (λ table. table.items
-        ≡ report (run_to W.ending W.serial [] walk.now ∷ [])) }
+// Returns an order with one lane more.
+fn with_lane(alloc: Global, order: &[usize], lane: usize) -> Result<Items<usize>, NoMemory>
+    ensures { IfOk result (λ more. more ≡ order.now ++ lane ∷ []) }
 {
-    let mut table = Vec::new(alloc);
-    tell(&mut table, run_to(alloc, walk, &[])?)?;
-    Ok(table)
+    let mut more = Vec::from_slice(alloc, order)?;
+    more.push(lane)?;
+    Ok(Items::from_vec(more))
 }
 
-// Returns the table of the state, which the order leads to.
-#[cycle(tables)]
-fn table_at<W: Merge>(search: &mut Search<W::Key>, walk: &mut W) -> Result<Vec<Ending>, NoMemory>
-    requires at { walk.old ≡ after W.lanes (W.start walk.old) search.old.order.items }
-    requires kept { AreKept W.lanes W.ending W.serial W.is_key (W.start walk.old)
-        search.old.tables.kept.items }
-    ensures { IfOk result (λ table. GoesOn W.lanes W.ending W.serial W.is_key
-        (W.start walk.old) (W.start walk.new) search.old search.new
-        × IsTable W.lanes W.ending W.serial
-        (search.old.lines - length search.old.order.items) walk.old search.new.is_whole
-        table.items) }
-{
-    let lanes = lanes_left(search, walk)?;
-    let alloc = *lanes.allocator();
-    if lanes.is_empty() {
-        let table = sole(alloc, walk)?;
-        return Ok(table);
-    }
-    let mut table = Vec::new(alloc);
-    join_lane(search, walk, lanes[0], &mut table)?;
-    for i in 1..lanes.len() {
-        join_other(search, walk, lanes[i], &mut table)?;
-    }
-    Ok(table)
-}
-
-// Joins to a table that of the state after a line of a lane. It is kept for states of the same key.
-#[cycle(tables)]
-fn join_lane<W: Merge>(
-    search: &mut Search<W::Key>,
+// Returns the place in the next level of the state after an order and a line of a lane. It is added
+// with so many lines left if no state of its key is there.
+fn follow_lane<W: Merge>(
+    alloc: Global,
+    search: &mut Search,
     walk: &mut W,
+    order: &[usize],
     lane: usize,
-    table: &mut Vec<Ending>,
-) -> Result<(), NoMemory>
-    requires at { walk.old ≡ after W.lanes (W.start walk.old) search.old.order.items }
-    requires short { length search.old.order.items < search.old.lines }
-    requires kept { AreKept W.lanes W.ending W.serial W.is_key (W.start walk.old)
-        search.old.tables.kept.items }
-    ensures { OnOk result (GoesOn W.lanes W.ending W.serial W.is_key
-        (W.start walk.old) (W.start walk.new) search.old search.new
-        × JoinsSome W.lanes W.ending W.serial
-        (search.old.lines - suc (length search.old.order.items)) walk.old lane
-        search.new.is_whole table.old.items table.new.items) }
+    left: usize,
+    front: &mut Front<W::Key>,
+) -> Result<usize, NoMemory>
+    requires { IsFront W.lanes W.ending W.serial W.is_key left (W.start walk.old) front.old }
+    ensures { IfOk result (λ at.
+        Follows W.lanes W.ending W.serial W.is_key left (W.start walk.old) (W.start walk.new)
+        search.old search.new front.old front.new
+        × LeadsTo W.lanes W.ending W.serial (W.start walk.old) front.new.nodes.items
+        (W.lanes.given (after W.lanes (W.start walk.old) order.now) lane) at) }
 {
-    let depth = search.order.len();
-    let left = search.lines - depth - 1;
-    search.order.push(lane)?;
+    go_to(walk, order)?;
     walk.give(lane)?;
     let key = walk.key()?;
     let hash = W::key_hash(&key);
-    if let Some(kept) = find::<W>(&search.tables, left, hash, &key) {
-        join(table, lane, kept)?;
-        search.order.truncate(depth);
-        return Ok(());
+    if let Some(at) = find::<W>(front, hash, &key) {
+        return Ok(at);
     }
-    let more = table_at(search, walk)?;
-    join(table, lane, more.as_slice())?;
-    search.order.truncate(depth);
-    keep::<W>(
-        search,
-        Kept {
-            left,
-            hash,
-            key,
-            table: more,
-            next: None,
-        },
-    )?;
-    Ok(())
+    let more = with_lane(alloc, order, lane)?;
+    let node = node_at(alloc, walk, more, left)?;
+    search.states = search.states.saturating_add(1);
+    let next = None;
+    let at = front.add(node, Seen { hash, key, next })?;
+    Ok(at)
 }
 
-// Joins to a table that of the state after the order and a line of another lane, if it may be
-// followed.
-#[cycle(tables)]
-fn join_other<W: Merge>(
-    search: &mut Search<W::Key>,
+// Follows the lanes of a state. Returns the places of the states that their lines lead to.
+fn follow_node<W: Merge>(
+    alloc: Global,
+    search: &mut Search,
     walk: &mut W,
-    lane: usize,
-    table: &mut Vec<Ending>,
-) -> Result<(), NoMemory>
-    requires short { length search.old.order.items < search.old.lines }
-    requires kept { AreKept W.lanes W.ending W.serial W.is_key (W.start walk.old)
-        search.old.tables.kept.items }
-    ensures { OnOk result (GoesOn W.lanes W.ending W.serial W.is_key
-        (W.start walk.old) (W.start walk.new) search.old search.new
-        × Joins W.lanes W.ending W.serial
-        (search.old.lines - suc (length search.old.order.items))
-        (after W.lanes (W.start walk.old) search.old.order.items) lane
-        search.new.is_whole table.old.items table.new.items) }
+    node: &Node,
+    left: usize,
+    front: &mut Front<W::Key>,
+) -> Result<Items<usize>, NoMemory>
+    requires { IsFront W.lanes W.ending W.serial W.is_key left (W.start walk.old) front.old }
+    ensures { IfOk result (λ places.
+        Follows W.lanes W.ending W.serial W.is_key left (W.start walk.old) (W.start walk.new)
+        search.old search.new front.old front.new
+        × IsLinked W.lanes W.ending W.serial (W.start walk.old) search.new.is_whole
+        front.new.nodes.items node.now places) }
 {
-    if !search.may_branch() {
-        return Ok(());
+    let order = node.order.as_slice();
+    let lanes = node.lanes.as_slice();
+    let mut places = Items::new(alloc);
+    for i in 0..lanes.len() {
+        if !search.may_follow(i) {
+            return Ok(places);
+        }
+        let at = follow_lane(alloc, search, walk, order, lanes[i], left, front)?;
+        places.push(at)?;
     }
-    go_back(search, walk)?;
-    join_lane(search, walk, lane, table)?;
-    Ok(())
+    Ok(places)
+}
+
+// The states that those of a level lead to: for each of them the places, in the next level.
+#[derive(Drop)]
+struct Next {
+    places: Items<Items<usize>>,
+    nodes: Vec<Node>,
+}
+
+// Makes the next level. Its states have so many lines left.
+fn follow_level<W: Merge>(
+    alloc: Global,
+    search: &mut Search,
+    walk: &mut W,
+    level: &[Node],
+    left: usize,
+) -> Result<Next, NoMemory>
+    ensures { IfOk result (λ next.
+        FollowsLevel W.lanes W.ending W.serial left (W.start walk.old) (W.start walk.new)
+        search.old search.new level.now next) }
+{
+    let mut front = Front::new(alloc)?;
+    let mut places = Items::new(alloc);
+    for i in 0..level.len() {
+        let to = follow_node(alloc, search, walk, &level[i], left, &mut front)?;
+        places.push(to)?;
+    }
+    let nodes = front.nodes;
+    Ok(Next { places, nodes })
+}
+
+// Returns the table at a place. If there is none it has no endings.
+fn table_at(tables: &[Items<Ending>], place: usize) -> &[Ending]
+    ensures { result.now ≡ table_at tables.now place }
+{
+    match tables.get(place) {
+        Some(table) => table.as_slice(),
+        None => &[],
+    }
+}
+
+// Returns the table of a state by those of the states that its lanes' lines lead to.
+fn table_by(
+    alloc: Global,
+    node: &Node,
+    places: &[usize],
+    tables: &[Items<Ending>],
+) -> Result<Items<Ending>, NoMemory>
+    ensures { IfOk result (λ table. table ≡ table_by node.now places.now tables.now) }
+{
+    let lanes = node.lanes.as_slice();
+    let mut table = copied(alloc, node.sole.as_slice())?;
+    for i in 0..lanes.len().min(places.len()) {
+        join(&mut table, lanes[i], table_at(tables, places[i]))?;
+    }
+    Ok(Items::from_vec(table))
+}
+
+// Returns the tables of the states of a level by those of the next one.
+fn tables_by(
+    alloc: Global,
+    level: &[Node],
+    places: &[Items<usize>],
+    below: &[Items<Ending>],
+) -> Result<Items<Items<Ending>>, NoMemory>
+    ensures { IfOk result (λ tables. tables ≡ tables_by level.now places.now below.now) }
+{
+    let mut tables = Items::new(alloc);
+    for i in 0..level.len().min(places.len()) {
+        tables.push(table_by(alloc, &level[i], places[i].as_slice(), below)?)?;
+    }
+    Ok(tables)
+}
+
+// Returns the tables of the states of a level, which have so many lines left.
+fn tables_of<W: Merge>(
+    alloc: Global,
+    search: &mut Search,
+    walk: &mut W,
+    level: &[Node],
+    left: usize,
+) -> Result<Items<Items<Ending>>, NoMemory>
+    requires { AreNodes W.lanes W.ending W.serial left (W.start walk.old) level.now }
+    ensures { IfOk result (λ tables.
+        HasTables W.lanes W.ending W.serial left (W.start walk.old) (W.start walk.new)
+        search.old search.new level.now tables) }
+{
+    if level.is_empty() {
+        return Ok(Items::new(alloc));
+    }
+    let less = left.saturating_sub(1);
+    let next = follow_level(alloc, search, walk, level, less)?;
+    if left == 0 {
+        let tables = tables_by(alloc, level, next.places.as_slice(), &[])?;
+        return Ok(tables);
+    }
+    let below = tables_of(alloc, search, walk, next.nodes.as_slice(), less)?;
+    let tables = tables_by(alloc, level, next.places.as_slice(), below.as_slice())?;
+    Ok(tables)
 }
 
 // Returns how many orders lead to endings.
@@ -304,12 +402,13 @@ fn count(endings: &[Ending]) -> u128
     count
 }
 
-/// Follows every order from the start of a walk, and states of which the same is reported once.
-/// Returns the endings that the orders lead to.
+/// Follows every order from the start of a walk, and states of one key once. Returns the endings
+/// that the orders lead to.
 ///
-/// If the report is whole, it is that of `explore` without a limit. Once tables of `limit` states
-/// are kept, it leaves out all lanes but the first. Then the endings are those of some orders. If
-/// orders may have more than 2,000 lines, follows each order in turn, at most `limit`.
+/// If the report is whole, it is that of `explore` without a limit. Once `limit` states are found,
+/// only the first lane that may give is followed from each of them. Then the endings are those of
+/// some orders. If orders may have more than 2,000 lines, follows each order in turn, at most
+/// `limit`.
 ///
 /// Errors: `NoMemory`.
 ///
@@ -326,14 +425,16 @@ pub fn explore_merged<W: Merge>(alloc: Global, walk: &mut W, limit: u64) -> Resu
         let report = explore(alloc, walk, limit.max(1))?;
         return Ok(report);
     }
+    let first = node_at(alloc, walk, Items::new(alloc), lines)?;
+    let mut level = Vec::new(alloc);
+    level.push(first)?;
     let mut search = Search {
-        order: Vec::new(alloc),
-        lines,
-        tables: Tables::new(alloc)?,
+        states: 1,
         limit,
         is_whole: true,
     };
-    let endings = table_at(&mut search, walk)?;
+    let tables = tables_of(alloc, &mut search, walk, level.as_slice(), lines)?;
+    let endings = copied(alloc, table_at(tables.as_slice(), 0))?;
     Ok(Report {
         orders: count(endings.as_slice()),
         endings: Items::from_vec(endings),

@@ -4,7 +4,7 @@ ghost use Rattle.std.specs.Prelude.{◌≡◌, ℕ, suc, Bool, [], All, IfOk, On
 ghost use Rattle.std.specs.Bool.{OnTrue};
 ghost use Rattle.cics_lanes.specs.Orders.{Order, Lanes, IsFirst, IsOrdered, after, orders};
 ghost use Rattle.cics_lanes.specs.Endings.{Parts};
-ghost use Rattle.cics_lanes.specs.Tables.{HaveOneTable};
+ghost use Rattle.cics_lanes.specs.Tables.{GoOnAlike};
 
 use cics_names::{Items, NoMemory, Record};
 
@@ -68,7 +68,8 @@ pub trait Walk {
         ensures { result ≡ serial self.now };
 }
 
-/// A walk whose states have keys: of two states with the same key the same is reported.
+/// A walk whose states have keys: from states of one key the same orders lead on, to the same
+/// endings.
 pub trait Merge: Walk {
     /// What is compared of a state.
     type Key: Drop;
@@ -84,12 +85,12 @@ pub trait Merge: Walk {
     /// number to be found; no contract needs it.
     fn key_hash(key: &Self::Key) -> u64;
 
-    /// Returns whether two keys are the same. If so, of any states after orders from one start,
-    /// which have these keys, the same is reported. It may return `false` of any two keys.
+    /// Returns whether two keys are the same. If so, two states after orders from one start that
+    /// have these keys go on alike. It may return `false` of any two keys.
     fn is_same(key: &Self::Key, other: &Self::Key) -> bool
         ensures { OnTrue result ((s : Self) (o p : Order) →
             let one = after Self.lanes (Self.start s) o in
             let another = after Self.lanes (Self.start s) p in
             is_key one key.now → is_key another other.now →
-            HaveOneTable Self.lanes Self.ending Self.serial one another) };
+            GoOnAlike Self.lanes Self.ending Self.serial one another) };
 }

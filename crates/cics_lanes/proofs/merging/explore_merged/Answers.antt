@@ -1,26 +1,8 @@
-use Rattle.std.proofs.Common.{◌≡◌, ◌∙◌, ◌-◌, ap, sym, subst, arith, length}
-use Rattle.std.proofs.lemmas.List.Elements.{All-nil}
-use Rattle.cics_lanes.specs.Orders.{after}
-use Rattle.cics_lanes.specs.Tables.{IsKept, order_count}
+use Rattle.std.proofs.Common.{◌≡◌, ◌∙◌, ap, sym, subst, arith}
 use Rattle.cics_lanes.specs.Reports.{IsReport}
-use Rattle.cics_lanes.specs.Searches.{AreKept}
-use Rattle.cics_lanes.specs.declared.merging.Kept.{Kept}
-use Rattle.cics_lanes.proofs.Searching.{table_as, merged_of, merged_as, as_explored}
+use Rattle.cics_lanes.specs.Tables.{order_count}
+use Rattle.cics_lanes.proofs.Searching.{first_nodes, first_table, merged_of, merged_as, as_explored}
 use Rattle.cics_lanes.proofs.merging.explore_merged.Goals as goal
-
--- the walk is at its start, and no line is given yet
-pub table_at-requires-clause-at : goal.table_at-requires-clause-at
-table_at-requires-clause-at g c =
-    let w = g.W.Walk in
-    let here = c.in_ok-restart.ensures in
-    here ∙ (sym (w.start_is_start c.args.walk.now) ∙ ap w.start (sym here)) ∙ ap (after w.lanes (w.start c.restart.new.self)) (sym c.new.ensures.items)
-
--- no table is kept yet
-pub table_at-requires-clause-kept : goal.table_at-requires-clause-kept
-table_at-requires-clause-kept g c =
-    let w = g.W.Walk in
-    let P = λ (t : Kept g.row.W-Key.Denot). IsKept w.lanes w.ending w.serial g.W.Merge.is_key (w.start c.restart.new.self) t.left t.key t.table.items in
-    subst (AreKept w.lanes w.ending w.serial g.W.Merge.is_key (w.start c.restart.new.self)) (sym c.in_ok-new.ensures) (All-nil P)
 
 -- each order in turn is reported
 pub returns-then-lines-gt-MOST_LINES-clause-merged : goal.returns-then-lines-gt-MOST_LINES-clause-merged
@@ -37,17 +19,28 @@ returns-then-lines-gt-MOST_LINES-clause-explored g c = λ whole fits.
     let s = w.start c.args.walk.now in
     as_explored w.lanes w.ending w.serial (w.most s) s _ (returns-then-lines-gt-MOST_LINES-clause-merged g c) whole fits
 
+-- the first level has the start
+pub tables_of-requires : goal.tables_of-requires
+tables_of-requires g c =
+    let w = g.W.Walk in
+    let now = c.restart.new.self in
+    let here : now ≡ w.start now = c.in_ok-restart.ensures ∙ (sym (w.start_is_start c.args.walk.now) ∙ ap w.start (sym c.in_ok-restart.ensures)) in
+    first_nodes w.lanes w.ending w.serial c.line_count-lines.result (w.start now) now c.push.new.self.items c.in_ok-first.first c.in_ok-push.ensures.items
+    (c.in_ok-first.ensures.order ∙ c.new.ensures) here c.in_ok-first.ensures.node
+
 -- the table of the start is reported
 pub returns-clause-merged : goal.returns-clause-merged
 returns-clause-merged g c =
     let w = g.W.Walk in
     let s = w.start c.args.walk.now in
+    let now = c.restart.new.self in
     let table = c.in_ok-endings.endings.items in
-    let whole = c.table_at.new.search.is_whole in
-    let most : c.line_count-lines.result - length c.new.result.items ≡ w.most s
-    = omega (arith, ap length c.new.ensures.items) ∙ (c.line_count-lines.ensures ∙ ap w.most c.in_ok-restart.ensures) in
+    let whole = c.tables_of.new.search.is_whole in
+    let here : w.start now ≡ s = ap w.start c.in_ok-restart.ensures ∙ w.start_is_start c.args.walk.now in
+    let most : c.line_count-lines.result ≡ w.most s = c.line_count-lines.ensures ∙ ap w.most c.in_ok-restart.ensures in
     merged_of w.lanes w.ending w.serial (w.most s) s (record { endings = c.from_vec.result; orders = c.count.result; is_whole = whole }) table
-    (table_as w.lanes w.ending w.serial _ (w.most s) c.restart.new.self s whole whole table most c.in_ok-restart.ensures (λ is. is) c.in_ok-endings.ensures.1)
+    (first_table w.lanes w.ending w.serial c.line_count-lines.result (w.most s) s (w.start now) whole c.push.new.self.items c.in_ok-first.first c.in_ok-tables.tables table
+    c.in_ok-push.ensures.items (c.in_ok-first.ensures.order ∙ c.new.ensures) here most c.in_ok-tables.ensures.tables (c.in_ok-endings.ensures ∙ c.table_at.ensures))
     c.from_vec.ensures (c.count.ensures ∙ ap order_count c.as_slice.ensures.value)
 
 -- if it is whole, it is what following each order in turn reports
