@@ -1,12 +1,14 @@
 //! Every order of a plan.
 
-ghost use Rattle.std.specs.Prelude.{◌≡◌, IfOk};
+ghost use Rattle.std.specs.Prelude.{◌≡◌, Bool, IfOk};
 ghost use Rattle.cics_lanes.specs.Endings.{Parts};
-ghost use Rattle.cics_lanes.specs.Reports.{IsReport};
+ghost use Rattle.cics_lanes.specs.Tables.{IsMerged, IsAsExplored};
 ghost use Rattle.cics_orders.specs.Giving.{State, lanes, initial_state, line_count};
+ghost use Rattle.cics_orders.specs.Merging.{TellsAlike};
 
+use crate::keys::StateKey;
 use crate::walks::Walker;
-use cics_lanes::{Report, Walk, explore};
+use cics_lanes::{Merge, Report, Walk, explore_merged};
 use cics_names::{Items, NoMemory, Record};
 use cics_plans::Plan;
 use std::alloc::Global;
@@ -16,6 +18,16 @@ use std::marker::Model;
 pub trait Tells {
     /// The parts in which the ending of a state is told.
     ghost told: { State → Parts };
+
+    /// Whether the parts have all that tasks were told.
+    ghost answers: { Bool };
+
+    /// States that may be merged are told in the same parts.
+    ghost alike: { TellsAlike answers told };
+
+    /// Returns whether the parts have all that tasks were told.
+    fn has_answers(&self) -> bool
+        ensures { result ≡ answers };
 
     /// Returns the parts of the ending.
     ///
@@ -91,27 +103,52 @@ impl<T: Tells> Walk for Following<T> {
     }
 }
 
-/// Follows every order of a plan's lines, at most `limit`. Returns the endings that they lead to.
+impl<T: Tells> Merge for Following<T> {
+    ghost use Rattle.cics_orders.specs.Merging.{IsKeyOf};
+
+    type Key = StateKey;
+
+    ghost is_key = { IsKeyOf T.answers };
+
+    fn key(&self) -> Result<StateKey, NoMemory> {
+        StateKey::of(&self.walker, self.teller.has_answers())
+    }
+
+    fn key_hash(key: &StateKey) -> u64 {
+        key.hash()
+    }
+
+    fn is_same(key: &StateKey, other: &StateKey) -> bool {
+        key.is_same(other)
+    }
+}
+
+/// Follows every order of a plan's lines, and states with the same key once. Returns the endings
+/// that the orders lead to.
 ///
 /// If the report is whole, the endings are those of all orders. Each stands once, with the first
 /// order that leads to it, and how many orders and serial orders do. They stand in the order of
-/// their first orders. Else they are the endings of the first `limit` orders.
+/// their first orders. Once `limit` states are found, lanes are left out. Then the endings are
+/// those of some orders, with the first and the number of these.
 ///
 /// Errors: `NoMemory`.
 ///
-/// Cost: each order is run from the start.
+/// Cost: the order that leads to each state is run from the start, once for each lane that may give
+/// then.
 pub fn explore_script<T: Tells + Drop>(
     alloc: Global,
     plan: Plan,
     teller: T,
     limit: u64,
 ) -> Result<Report, NoMemory>
-    ensures { IfOk result (λ report. IsReport lanes T.told (λ s. s.is_serial) (line_count plan)
-        limit (initial_state plan) report) }
+    ensures merged { IfOk result (λ report. IsMerged lanes T.told (λ s. s.is_serial)
+        (line_count plan) (initial_state plan) report) }
+    ensures explored { IfOk result (λ report. IsAsExplored lanes T.told (λ s. s.is_serial)
+        (line_count plan) (initial_state plan) report) }
 {
     let mut walk = Following {
         walker: Walker::new(alloc, plan)?,
         teller,
     };
-    explore(alloc, &mut walk, limit)
+    explore_merged(alloc, &mut walk, limit)
 }

@@ -20,7 +20,7 @@ pub struct Survey {
 
 // Follows the orders of a plan.
 fn follow(alloc: Global, plan: Plan, with_told: bool, limit: u64) -> Result<Report, NoMemory>
-    ensures { IfOk result (IsReportOf plan with_told limit) }
+    ensures { IfOk result (IsReportOf plan with_told) }
 {
     if with_told {
         explore_script(alloc, plan, Answers { alloc }, limit)
@@ -29,19 +29,19 @@ fn follow(alloc: Global, plan: Plan, with_told: bool, limit: u64) -> Result<Repo
     }
 }
 
-/// Takes a script apart, and follows the orders of its lines, at most `limit`. `lines` are its
-/// lines, each without its line end. `with_told` tells endings apart by what tasks were told too.
-/// If a line has a fault, returns the number of the first such line and its fault instead.
+/// Takes a script apart, and follows the orders of its lines, until `limit` states are found.
+/// `lines` are its lines, each without its line end. `with_told` tells endings apart by what tasks
+/// were told too. If a line has a fault, returns the number of the first such line and its fault
+/// instead.
 ///
-/// Errors: `NoMemory`. Cost: each order is run from the start.
+/// Errors: `NoMemory`. Cost: that of `explore_script`.
 pub fn survey_script(
     alloc: Global,
     lines: &[Record],
     with_told: bool,
     limit: u64,
 ) -> Result<Result<Survey, (u64, ScriptFault)>, NoMemory>
-    ensures { IfOk result (IsSurvey (planned (taken_apart nothing_taken 1 lines.now))
-        with_told limit) }
+    ensures { IfOk result (IsSurvey (planned (taken_apart nothing_taken 1 lines.now)) with_told) }
 {
     let planned = match plan_of(alloc, lines)? {
         Ok(planned) => planned,
