@@ -1,7 +1,7 @@
 -- An order is followed and told.
-use Rattle.std.proofs.Common.{◌≡◌, ◌<◌, ℕ, ◌+◌, Bool, List, [], ◌∷◌, length, take, drop, refl, ap, sym, ◌∙◌, Option}
+use Rattle.std.proofs.Common.{◌≡◌, ◌<◌, ℕ, ◌+◌, Bool, List, [], ◌∷◌, length, take, drop, refl, ap, sym, ◌∙◌, arith, Option, None}
 use Rattle.std.proofs.lemmas.List.{map-append}
-use Rattle.cics_lanes.specs.Orders.{Order, Lanes, after, orders, orders_from, orders_after, IsFollowed}
+use Rattle.cics_lanes.specs.Orders.{Order, Lanes, after, orders, orders_from, orders_after, Reaches, IsFollowed}
 use Rattle.cics_lanes.specs.Endings.{Parts, Reported, run_to, report, told}
 use Rattle.cics_lanes.specs.Reports.{runs}
 use Rattle.cics_lanes.specs.declared.exploring.Branch.{Branch}
@@ -32,3 +32,12 @@ told_on lanes ending serial n s k begun o now b es next so_far rest followed is 
       on.1,
       on.2,
     )
+
+-- no lane has given yet
+pub reached_start : {S : Type 0} (lanes : Lanes S) (n : ℕ) (s now : S) (o : Order) → now ≡ s → o ≡ [] → Reaches lanes n s [] now o None
+reached_start lanes n s now o here none = record {
+  state = here ∙ sym (ap (after lanes s) none);
+  same = ap (orders_from lanes n s) (sym none);
+  short = omega (arith, ap length none);
+  branches = ap (orders_after lanes n s) none;
+}

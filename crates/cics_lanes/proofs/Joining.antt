@@ -1,16 +1,18 @@
 -- Tables of some orders: a lane's orders are joined to those of the lanes before it.
-use Rattle.std.proofs.Common.{◌≡◌, ◌<◌, inl, inr, ℕ, zero, suc, ◌+◌, Bool, true, List, [], ◌∷◌, ◌++◌, map, length, take, drop, Option, Some, None, refl, ap, sym, ◌∙◌, arith, append-nil, append_assoc, length-append, subst}
+use Rattle.std.proofs.Common.{◌≡◌, ◌<◌, inl, inr, ℕ, zero, suc, ◌+◌, Bool, true, false, List, [], ◌∷◌, ◌++◌, map, length, take, drop, Option, Some, None, refl, ap, sym, ◌∙◌, arith, append-nil, append_assoc, length-append, subst}
+use Rattle.std.proofs.lemmas.Bool.{false≢true}
 use Rattle.std.proofs.lemmas.Grind.{flat_map-append}
 use Rattle.std.proofs.lemmas.List.{length-map, take-append-drop}
 use Rattle.std.proofs.Math.Seq.{take-length}
 use Rattle.std.proofs.lemmas.List.Elements.{All-head, All-tail}
 use Rattle.std.specs.Prelude.{slice_get, unwrap_or}
 use Rattle.std.specs.List.{AllZip}
-use Rattle.cics_lanes.specs.Orders.{Order, Lanes, after, orders as all_orders, led_by, led_by_any}
+use Rattle.cics_lanes.specs.Orders.{Order, Lanes, IsFollowed, after, orders as all_orders, orders_after, led_by, led_by_any}
 use Rattle.cics_lanes.specs.Endings.{Parts, Reported, report, run_to}
 use Rattle.cics_lanes.specs.Reports.{runs}
 use Rattle.cics_lanes.specs.Tables.{joined, begun_by, AreAmong, GoOnAlike, IsTable, lanes_left}
-use Rattle.cics_lanes.specs.Levels.{sole_of, IsNodeAt, AreNodes, LeadsTo, IsLinked, table_at, steps_joined, table_by, tables_by}
+use Rattle.cics_lanes.specs.Levels.{sole_of, IsNodeAt, AreNodes, AreTables, LeadsTo, IsLinked, table_at, steps_joined, table_by, tables_by}
+use Rattle.cics_lanes.specs.declared.exploring.Branch.{Branch}
 use Rattle.cics_lanes.specs.declared.merging.Node.{Node}
 use Rattle.cics_lanes.proofs.Elements.{zip_get}
 use Rattle.cics_lanes.proofs.Tables.{report_joined, report_led, runs_led, runs_both}
@@ -125,6 +127,17 @@ module _ {S : Type 0} (lanes : Lanes S) (ending : S → Parts) (serial : S → B
       all zero none = refl
       all (suc n) none = ap (led_by_any (λ l. all_orders lanes n (lanes.given s l))) none
 
+  -- the first order of a state
+  pub table_first : (n : ℕ) (s now : S) (o : Order) (last : Option Branch) (t : List Reported) → IsFollowed lanes n s [] now o last → t ≡ report (run_to ending serial o now ∷ []) →
+      IsTable lanes ending serial n s false t
+  table_first n s now o last t followed is = record {
+    orders = o ∷ [];
+    some = omega arith;
+    among = subst (AreAmong (o ∷ [])) (sym followed.first) (inr ([], refl, among_none (orders_after lanes n s o)));
+    reports = is ∙ ap (λ u. report (run_to ending serial o u ∷ [])) followed.state;
+    whole = λ whole. absurd (false≢true whole);
+  }
+
   -- the table of a state is that of each state from which it goes on alike
   table_alike : (n : ℕ) (s t : S) (b : Bool) (table : List Reported) → GoOnAlike lanes ending serial s t → IsTable lanes ending serial n t b table →
       IsTable lanes ending serial n s b table
@@ -138,12 +151,8 @@ module _ {S : Type 0} (lanes : Lanes S) (ending : S → Parts) (serial : S → B
 
   -- ---- The next level
 
-  -- tables of the next level
-  abbrev pub AreTables : ℕ → S → Bool → List Node → List (List Reported) → Type 0
-  AreTables n s b nodes ts = AllZip (λ (x : Node) t. IsTable lanes ending serial n (after lanes s x.order) b t) nodes ts
-
   -- the table at a place to which a lane leads
-  led_table : (n : ℕ) (s t : S) (b : Bool) (next : List Node) (ts : List (List Reported)) (at : ℕ) → AreTables n s b next ts →
+  led_table : (n : ℕ) (s t : S) (b : Bool) (next : List Node) (ts : List (List Reported)) (at : ℕ) → AreTables lanes ending serial n s b next ts →
       LeadsTo lanes ending serial s next t at → IsTable lanes ending serial n t b (table_at ts at)
   led_table n s t b next ts at all leads =
       let x = leads.0 in
@@ -154,7 +163,7 @@ module _ {S : Type 0} (lanes : Lanes S) (ending : S → Parts) (serial : S → B
       found t is = ap (λ o. unwrap_or o []) is
 
   -- the lanes so far and those that are left, as far as they are followed
-  steps_part : (n : ℕ) (s t : S) (b : Bool) (next : List Node) (ts : List (List Reported)) → AreTables n s b next ts → (done ls ps : List ℕ) (table : List Reported) →
+  steps_part : (n : ℕ) (s t : S) (b : Bool) (next : List Node) (ts : List (List Reported)) → AreTables lanes ending serial n s b next ts → (done ls ps : List ℕ) (table : List Reported) →
       IsPart lanes ending serial n t done b table → AllZip (λ l at. LeadsTo lanes ending serial s next (lanes.given t l) at) (take (length ps) ls) ps →
       IsPart lanes ending serial n t (done ++ take (length ps) ls) b (steps_joined table ls ps ts)
   steps_part n s t b next ts all done [] [] table part leads = subst (λ ks. IsPart lanes ending serial n t ks b table) (sym (append-nil done)) part
@@ -166,14 +175,14 @@ module _ {S : Type 0} (lanes : Lanes S) (ending : S → Parts) (serial : S → B
       (part_more n t done l b table (table_at ts p) part (led_table n s (lanes.given t l) b next ts p all leads.0)) leads.1)
 
   -- the table of a state by those of the next level
-  node_table : (n : ℕ) (s : S) (b : Bool) (next : List Node) (ts : List (List Reported)) → ((m : ℕ) → n ≡ suc m → AreTables m s b next ts) → (x : Node) (ps : List ℕ) →
+  node_table : (n : ℕ) (s : S) (b : Bool) (next : List Node) (ts : List (List Reported)) → ((m : ℕ) → n ≡ suc m → AreTables lanes ending serial m s b next ts) → (x : Node) (ps : List ℕ) →
       IsNodeAt lanes ending serial n (after lanes s x.order) x → IsLinked lanes ending serial s b next x ps → IsTable lanes ending serial n (after lanes s x.order) b (table_by x ps ts)
   node_table n s b next ts below x ps node linked = by x.lanes refl
     where
       here : S
       here = after lanes s x.order
 
-      more : (l : ℕ) (ls : List ℕ) → x.lanes ≡ l ∷ ls → (n : ℕ) → lanes_left lanes n here ≡ l ∷ ls → ((m : ℕ) → n ≡ suc m → AreTables m s b next ts) → IsTable lanes ending serial n here b (table_by x ps ts)
+      more : (l : ℕ) (ls : List ℕ) → x.lanes ≡ l ∷ ls → (n : ℕ) → lanes_left lanes n here ≡ l ∷ ls → ((m : ℕ) → n ≡ suc m → AreTables lanes ending serial m s b next ts) → IsTable lanes ending serial n here b (table_by x ps ts)
       more l ls is zero left below = cc
       more l ls is (suc m) left below =
           let k = length ps in
@@ -196,8 +205,8 @@ module _ {S : Type 0} (lanes : Lanes S) (ending : S → Parts) (serial : S → B
       by (l ∷ ls) is = more l ls is n (sym node.may ∙ is) below
 
   -- the tables of a level by those of the next one
-  pub level_tables : (n : ℕ) (s : S) (b : Bool) (next : List Node) (ts : List (List Reported)) → ((m : ℕ) → n ≡ suc m → AreTables m s b next ts) → (level : List Node) (pss : List (List ℕ)) →
-      AreNodes lanes ending serial n s level → AllZip (λ x ps. IsLinked lanes ending serial s b next x ps) level pss → AreTables n s b level (tables_by level pss ts)
+  pub level_tables : (n : ℕ) (s : S) (b : Bool) (next : List Node) (ts : List (List Reported)) → ((m : ℕ) → n ≡ suc m → AreTables lanes ending serial m s b next ts) → (level : List Node) (pss : List (List ℕ)) →
+      AreNodes lanes ending serial n s level → AllZip (λ x ps. IsLinked lanes ending serial s b next x ps) level pss → AreTables lanes ending serial n s b level (tables_by level pss ts)
   level_tables n s b next ts below [] [] nodes linked = tt
   level_tables n s b next ts below [] (ps ∷ pss) nodes linked = absurd linked
   level_tables n s b next ts below (x ∷ xs) [] nodes linked = absurd linked

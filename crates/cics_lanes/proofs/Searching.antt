@@ -10,7 +10,7 @@ use Rattle.cics_lanes.specs.Orders.{Order, Lanes, after, orders as all_orders}
 use Rattle.cics_lanes.specs.Endings.{Parts, Reported, greatest, kept_number, report, run_to}
 use Rattle.cics_lanes.specs.Reports.{IsReport, runs}
 use Rattle.cics_lanes.specs.Tables.{GoOnAlike, order_count, IsTable, IsMerged}
-use Rattle.cics_lanes.specs.Levels.{IsNodeAt, AreNodes, IsFront, LeadsTo, IsLinked, Follows, FollowsLevel, HasTables, table_at, tables_by}
+use Rattle.cics_lanes.specs.Levels.{IsNodeAt, AreNodes, AreTables, IsFront, LeadsTo, IsLinked, Follows, FollowsLevel, HasTables, table_at, tables_by}
 use Rattle.cics_lanes.specs.declared.exploring.Report.{Report}
 use Rattle.cics_lanes.specs.declared.merging.Node.{Node}
 use Rattle.cics_lanes.specs.declared.merging.Next.{Next}
@@ -19,7 +19,7 @@ use Rattle.cics_lanes.specs.declared.merging.Front.{Front}
 use Rattle.cics_lanes.specs.declared.merging.Search.{Search}
 use Rattle.cics_lanes.proofs.Branching.{after-append, some_order}
 use Rattle.cics_lanes.proofs.Elements.{get_front, get_end, zip_get, zip_weaker}
-use Rattle.cics_lanes.proofs.Joining.{among_front, AreTables, level_tables}
+use Rattle.cics_lanes.proofs.Joining.{among_front, level_tables}
 use Rattle.cics_lanes.proofs.Tables.{order_count_all}
 
 -- the state after a line more

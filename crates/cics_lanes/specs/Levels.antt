@@ -84,8 +84,12 @@ tables_by [] pss ts = []
 tables_by (x ∷ xs) [] ts = []
 tables_by (x ∷ xs) (ps ∷ pss) ts = table_by x ps ts ∷ tables_by xs pss ts
 
+-- these are tables of the states of a level
+abbrev pub AreTables : {S : Type 0} → Lanes S → (S → Parts) → (S → Bool) → ℕ → S → Bool → List Node → List (List Reported) → Type 0
+AreTables lanes ending serial n s is_whole level tables = AllZip (λ (x : Node) t. IsTable lanes ending serial n (after lanes s x.order) is_whole t) level tables
+
 -- a search has the tables of the states of a level
 pub record HasTables {S : Type 0} (lanes : Lanes S) (ending : S → Parts) (serial : S → Bool) (n : ℕ) (origin now : S) (old new : Search) (level : List Node) (tables : List (List Reported)) : Type 0 where
   pub start : now ≡ origin
-  pub tables : AllZip (λ (x : Node) t. IsTable lanes ending serial n (after lanes origin x.order) new.is_whole t) level tables
+  pub tables : AreTables lanes ending serial n origin new.is_whole level tables
   pub whole : new.is_whole ≡ true → old.is_whole ≡ true

@@ -59,7 +59,7 @@ fn retrace<W: Walk>(walk: &mut W, order: &[usize]) -> Result<Option<Branch>, NoM
 
 // Follows an order to its end, at most to `lines` lines: in each state the first lane that may give
 // does. Returns where the next order branches off.
-fn go_on<W: Walk>(
+pub(crate) fn go_on<W: Walk>(
     walk: &mut W,
     lines: usize,
     order: &mut Vec<usize>,

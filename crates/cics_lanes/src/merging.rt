@@ -9,13 +9,14 @@
 ghost use Rattle.std.specs.Prelude.{◌≡◌, ◌<◌, ◌++◌, ℕ, [], ◌∷◌, Option, true, false};
 ghost use Rattle.std.specs.Prelude.{IfOk, OnOk, IfSome, length};
 ghost use Rattle.cics_lanes.specs.Orders.{Order, after};
-ghost use Rattle.cics_lanes.specs.Tables.{lanes_left, order_count, IsMerged, IsAsExplored};
+ghost use Rattle.cics_lanes.specs.Tables.{lanes_left, order_count, IsTable, IsMerged};
+ghost use Rattle.cics_lanes.specs.Tables.{IsAsExplored};
 ghost use Rattle.cics_lanes.specs.Levels.{IsNodeAt, AreNodes, AreSeen, IsFront, LeadsTo, IsLinked};
 ghost use Rattle.cics_lanes.specs.Levels.{Follows, FollowsLevel, HasTables, table_at, table_by};
-ghost use Rattle.cics_lanes.specs.Levels.{sole_of, tables_by};
+ghost use Rattle.cics_lanes.specs.Levels.{AreTables, sole_of, tables_by};
 
 use crate::endings::{Ending, copied, join, tell};
-use crate::exploring::{Report, explore, run_to};
+use crate::exploring::{Report, explore, go_on, run_to};
 use crate::walks::{Merge, Walk};
 use cics_names::{Items, NoMemory};
 use std::alloc::Global;
@@ -130,7 +131,7 @@ fn find<W: Merge>(front: &Front<W::Key>, hash: u64, key: &W::Key) -> Option<usiz
 struct Search {
     // How many states are found.
     states: u64,
-    // From so many states on only the first lane of each state is followed.
+    // How many are sought.
     limit: u64,
     // Whether no lane was left out so far.
     is_whole: bool,
@@ -364,6 +365,45 @@ fn tables_by(
     Ok(tables)
 }
 
+// Returns the table of the first order that leads on from the state after an order, which has so
+// many lines left.
+fn first_table<W: Walk>(
+    alloc: Global,
+    walk: &mut W,
+    order: &[usize],
+    left: usize,
+) -> Result<Items<Ending>, NoMemory>
+    ensures start { OnOk result (W.start walk.new ≡ W.start walk.old) }
+    ensures table { IfOk result (IsTable W.lanes W.ending W.serial left
+        (after W.lanes (W.start walk.old) order.now) false) }
+{
+    go_to(walk, order)?;
+    let mut rest = Vec::new(alloc);
+    go_on(walk, left, &mut rest, None)?;
+    let mut table = Vec::new(alloc);
+    tell(&mut table, run_to(alloc, walk, rest.as_slice())?)?;
+    Ok(Items::from_vec(table))
+}
+
+// Returns the table of the first order that leads on from each state of a level.
+fn first_tables<W: Walk>(
+    alloc: Global,
+    walk: &mut W,
+    level: &[Node],
+    left: usize,
+) -> Result<Items<Items<Ending>>, NoMemory>
+    ensures start { OnOk result (W.start walk.new ≡ W.start walk.old) }
+    ensures tables { IfOk result (AreTables W.lanes W.ending W.serial left (W.start walk.old)
+        false level.now) }
+{
+    let mut tables = Items::new(alloc);
+    for i in 0..level.len() {
+        let table = first_table(alloc, walk, level[i].order.as_slice(), left)?;
+        tables.push(table)?;
+    }
+    Ok(tables)
+}
+
 // Returns the tables of the states of a level, which have so many lines left.
 fn tables_of<W: Merge>(
     alloc: Global,
@@ -379,6 +419,10 @@ fn tables_of<W: Merge>(
 {
     if level.is_empty() {
         return Ok(Items::new(alloc));
+    }
+    if !search.is_whole {
+        let tables = first_tables(alloc, walk, level, left)?;
+        return Ok(tables);
     }
     let less = left.saturating_sub(1);
     let next = follow_level(alloc, search, walk, level, less)?;
@@ -406,9 +450,9 @@ fn count(endings: &[Ending]) -> u128
 /// that the orders lead to.
 ///
 /// If the report is whole, it is that of `explore` without a limit. Once `limit` states are found,
-/// only the first lane that may give is followed from each of them. Then the endings are those of
-/// some orders. If orders may have more than 2,000 lines, follows each order in turn, at most
-/// `limit`.
+/// only the first order that leads on is followed from each state of a level. Then the endings are
+/// those of some orders. If orders may have more than 2,000 lines, follows each order in turn, at
+/// most `limit`.
 ///
 /// Errors: `NoMemory`.
 ///
