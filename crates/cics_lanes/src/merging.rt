@@ -199,7 +199,8 @@ fn node_at<W: Walk>(
     left: usize,
 ) -> Result<Node, NoMemory>
     ensures order { IfOk result (λ node. node.order ≡ order) }
-    ensures node { IfOk result (IsNodeAt W.lanes W.ending W.serial left walk.now) }
+    ensures node { IfOk result (λ node.
+        IsNodeAt W.lanes W.ending W.serial left walk.now node) }
 {
     let lanes = lanes_left(alloc, walk, left)?;
     let sole = sole_of(alloc, walk, lanes.as_slice())?;
@@ -374,8 +375,8 @@ fn first_table<W: Walk>(
     left: usize,
 ) -> Result<Items<Ending>, NoMemory>
     ensures start { OnOk result (W.start walk.new ≡ W.start walk.old) }
-    ensures table { IfOk result (IsTable W.lanes W.ending W.serial left
-        (after W.lanes (W.start walk.old) order.now) false) }
+    ensures table { IfOk result (λ table. IsTable W.lanes W.ending W.serial left
+        (after W.lanes (W.start walk.old) order.now) false table) }
 {
     go_to(walk, order)?;
     let mut rest = Vec::new(alloc);
@@ -393,8 +394,8 @@ fn first_tables<W: Walk>(
     left: usize,
 ) -> Result<Items<Items<Ending>>, NoMemory>
     ensures start { OnOk result (W.start walk.new ≡ W.start walk.old) }
-    ensures tables { IfOk result (AreTables W.lanes W.ending W.serial left (W.start walk.old)
-        false level.now) }
+    ensures tables { IfOk result (λ tables. AreTables W.lanes W.ending W.serial left
+        (W.start walk.old) false level.now tables) }
 {
     let mut tables = Items::new(alloc);
     for i in 0..level.len() {

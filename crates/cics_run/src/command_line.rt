@@ -80,7 +80,7 @@ END";
 /// The options of a report on the orders in which a script's tasks may give their lines.
 ///
 /// - `told`: whether endings with different answers are different.
-/// - `limit`: how many orders are followed at most.
+/// - `limit`: how many states are found before lines are left out.
 /// - `ending`: the number of the ending to print as a script, if one is given.
 #[derive(Clone, Copy, PartialEq, Eq)]
 pub struct Orders {
@@ -89,8 +89,8 @@ pub struct Orders {
     pub ending: Option<u64>,
 }
 
-/// How many orders are followed at most, if the command line doesn't say.
-const ORDERS: u64 = 20_000;
+/// How many states are found before lines are left out, if the command line doesn't say.
+const STATES: u64 = 20_000;
 
 /// What a command line asks for.
 ///
@@ -201,7 +201,7 @@ fn with_orders<'a>(
 ) -> Result<Command<'a>, AllocError> {
     let orders = "Print a report on every order of the tasks' lines instead";
     let told = "Tell endings apart by what tasks are answered too";
-    let limit = "Follow at most N orders (20000)";
+    let limit = "Leave lines out once N states are found (20000)";
     let ending = "Print the first order of ending N as a script";
     let command = with(runs, apart_from_runs(flag(alloc, "orders", orders)));
     let command = with(command, told_flag(flag(alloc, "told", told)));
@@ -253,7 +253,7 @@ fn chosen(matches: &ArgMatches) -> Asked {
     if matches.get_flag("orders") {
         return Asked::Orders(Orders {
             told: matches.get_flag("told"),
-            limit: matches.get_one("limit").unwrap_or(ORDERS),
+            limit: matches.get_one("limit").unwrap_or(STATES),
             ending: matches.get_one("ending"),
         });
     }
