@@ -39,10 +39,10 @@ get_end [] x = refl
 get_end (z ∷ xs) x = get_end xs x
 
 -- one element more
-pub zip_more : {X Y : Type 0} (P : X → Y → Type 0) (xs : List X) (ys : List Y) (i : ℕ) (x : X) (y : Y) → i < length xs → x ≡ get_or xs i x →
-    AllZip P (take i xs) ys → P x y → AllZip P (take (i + 1) xs) (ys ++ y ∷ [])
-zip_more P xs ys i x y short is all one =
-    subst (λ zs. AllZip P zs (ys ++ y ∷ [])) (ap (λ z. take i xs ++ z ∷ []) is ∙ sym (take_more xs i x short)) (all_zipped_more P (take i xs) ys x y all one)
+pub zip_more : {X Y : Type 0} (P : X → Y → Type 0) (xs : List X) (ys : List Y) (i : ℕ) (d : X) (y : Y) → i < length xs → AllZip P (take i xs) ys →
+    P (get_or xs i d) y → AllZip P (take (i + 1) xs) (ys ++ y ∷ [])
+zip_more P xs ys i d y short all one =
+    subst (λ zs. AllZip P zs (ys ++ y ∷ [])) (sym (take_more xs i d short)) (all_zipped_more P (take i xs) ys (get_or xs i d) y all one)
 
 -- what follows of each
 pub zip_weaker : {X Y : Type 0} (P Q : X → Y → Type 0) → ((x : X) (y : Y) → P x y → Q x y) → (xs : List X) (ys : List Y) → AllZip P xs ys → AllZip Q xs ys

@@ -97,7 +97,7 @@ module _ {S : Type 0} (lanes : Lanes S) (ending : S → Parts) (serial : S → B
   part_all : (n m k : ℕ) (s : S) (l : ℕ) (ls : List ℕ) (b : Bool) (t : List Reported) → n ≡ suc m → lanes_left lanes n s ≡ l ∷ ls → 0 < length (take k (l ∷ ls)) →
       (b ≡ true → k ≡ length (l ∷ ls)) → IsPart lanes ending serial m s (take k (l ∷ ls)) b t → IsTable lanes ending serial n s b t
   part_all n m k s l ls b t one is some every part =
-      let more = λ l. all_orders lanes m (lanes.given s l) in
+      let more : ℕ → List Order = λ l. all_orders lanes m (lanes.given s l) in
       let first = take k (l ∷ ls) in
       let givers : lanes.givers s 0 ≡ l ∷ ls = ap (λ k. lanes_left lanes k s) (sym one) ∙ is in
       let all : all_orders lanes n s ≡ led_by more (l ∷ ls) = ap (λ k. all_orders lanes k s) one ∙ ap (led_by_any more) givers in

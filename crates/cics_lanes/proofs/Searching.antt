@@ -105,12 +105,12 @@ module _ {S : Type 0} (lanes : Lanes S) (ending : S → Parts) (serial : S → B
       HasTables lanes ending serial m now last mid new next.nodes.items below → tables ≡ tables_by level next.places below →
       HasTables lanes ending serial n origin last old new level tables
   has_tables n m origin now last old mid new level next below tables one nodes follows has made =
-      let at = subst (λ s. AreTables lanes ending serial m s new.is_whole next.nodes.items below) follows.start has.tables in
+      let at = subst (λ s. AreTables lanes ending serial m s new.is_whole next.nodes.items below) follows.start has.has in
       let linked = zip_weaker (λ x ps. IsLinked lanes ending serial origin mid.is_whole next.nodes.items x ps) (λ x ps. IsLinked lanes ending serial origin new.is_whole next.nodes.items x ps)
       (λ x ps. linked_still origin mid.is_whole new.is_whole next.nodes.items next.nodes.items ([], sym (append-nil next.nodes.items)) has.whole x ps) level next.places follows.linked in
       record {
         start = has.start ∙ follows.start;
-        tables = subst (AreTables lanes ending serial n origin new.is_whole level) (sym made)
+        has = subst (AreTables lanes ending serial n origin new.is_whole level) (sym made)
             (level_tables lanes ending serial n origin new.is_whole next.nodes.items below
             (λ k is. subst (λ j. AreTables lanes ending serial j origin new.is_whole next.nodes.items below) (omega (arith, one, is)) at) level next.places nodes linked);
         whole = λ is. follows.whole (has.whole is);
@@ -122,7 +122,7 @@ module _ {S : Type 0} (lanes : Lanes S) (ending : S → Parts) (serial : S → B
       HasTables lanes ending serial n origin now old new level tables
   has_last_tables n m origin now old new level next tables none nodes follows made = record {
     start = follows.start;
-    tables = subst (AreTables lanes ending serial n origin new.is_whole level) (sym made)
+    has = subst (AreTables lanes ending serial n origin new.is_whole level) (sym made)
         (level_tables lanes ending serial n origin new.is_whole next.nodes.items [] (λ k is. absurd (omega (arith, none, is))) level next.places nodes follows.linked);
     whole = follows.whole;
   }

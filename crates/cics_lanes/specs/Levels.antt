@@ -91,5 +91,5 @@ AreTables lanes ending serial n s is_whole level tables = AllZip (λ (x : Node) 
 -- a search has the tables of the states of a level
 pub record HasTables {S : Type 0} (lanes : Lanes S) (ending : S → Parts) (serial : S → Bool) (n : ℕ) (origin now : S) (old new : Search) (level : List Node) (tables : List (List Reported)) : Type 0 where
   pub start : now ≡ origin
-  pub tables : AreTables lanes ending serial n origin new.is_whole level tables
+  pub has : AreTables lanes ending serial n origin new.is_whole level tables
   pub whole : new.is_whole ≡ true → old.is_whole ≡ true

@@ -40,7 +40,7 @@ returns-clause-merged g c =
     let most : c.line_count-lines.result ≡ w.most s = c.line_count-lines.ensures ∙ ap w.most c.in_ok-restart.ensures in
     merged_of w.lanes w.ending w.serial (w.most s) s (record { endings = c.from_vec.result; orders = c.count.result; is_whole = whole }) table
     (first_table w.lanes w.ending w.serial c.line_count-lines.result (w.most s) s (w.start now) whole c.push.new.self.items c.in_ok-first.first c.in_ok-tables.tables table
-    c.in_ok-push.ensures.items (c.in_ok-first.ensures.order ∙ c.new.ensures) here most c.in_ok-tables.ensures.tables (c.in_ok-endings.ensures ∙ c.table_at.ensures))
+    c.in_ok-push.ensures.items (c.in_ok-first.ensures.order ∙ c.new.ensures) here most c.in_ok-tables.ensures.has (c.in_ok-endings.ensures ∙ c.table_at.ensures))
     c.from_vec.ensures (c.count.ensures ∙ ap order_count c.as_slice.ensures.value)
 
 -- if it is whole, it is what following each order in turn reports

@@ -14,4 +14,4 @@ returns-then-is_same g c = λ s o seen keyed.
     let P = λ (x : Node) (k : Seen g.row.W-Key.Denot). g.W.Merge.is_key (after w.lanes (w.start s) x.order) k.key in
     let short : c.in-Some.at < length all = omega (arith, c.if-at-len.false, c.len.ensures) in
     let there = zip_at P c.args.front.now.nodes.items all c.in-Some.at here seen short in
-    (there.0, (there.1, c.if-is_same.ensures s o there.0.order keyed (subst (P there.0) (sym c.index-seen.ensures) there.2)))
+    (there.0, there.1, c.if-is_same.ensures s o there.0.order keyed (subst (P there.0) (sym c.index-seen.ensures) there.2))

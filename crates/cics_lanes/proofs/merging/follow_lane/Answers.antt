@@ -1,4 +1,4 @@
-use Rattle.std.proofs.Common.{◌≡◌, ◌++◌, ◌∷◌, [], ◌∙◌, ap, sym, subst, append-nil}
+use Rattle.std.proofs.Common.{◌≡◌, None, ◌++◌, ◌∷◌, [], ◌∙◌, ap, sym, subst, append-nil}
 use Rattle.cics_lanes.specs.Orders.{after}
 use Rattle.cics_lanes.specs.Levels.{IsNodeAt, LeadsTo}
 use Rattle.cics_lanes.proofs.Branching.{after-append}
@@ -37,7 +37,7 @@ returns g c =
     let keyed = subst (λ u. g.W.Merge.is_key u c.in_ok-key.key) (sym here) c.in_ok-key.ensures in (
       record {
         start = there.0;
-        front = front_more w.lanes w.ending w.serial g.W.Merge.is_key c.args.left s old new node _ added.seen.0 c.requires is_node keyed added.nodes added.seen.1;
+        front = front_more w.lanes w.ending w.serial g.W.Merge.is_key c.args.left s old new node (record { hash = c.key_hash-hash.result; key = c.in_ok-key.key; next = None }) added.seen.0 c.requires is_node keyed added.nodes added.seen.1;
         more = (node ∷ [], added.nodes);
         whole = λ is. is;
       },

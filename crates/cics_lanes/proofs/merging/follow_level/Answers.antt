@@ -1,4 +1,4 @@
-use Rattle.std.proofs.Common.{◌≡◌, ◌<◌, ◌+◌, ◌∙◌, [], ap, sym, subst, refl, arith, length, take, append-nil}
+use Rattle.std.proofs.Common.{◌≡◌, ℕ, List, ◌<◌, ◌+◌, ◌∙◌, [], ap, sym, subst, refl, arith, length, take, append-nil}
 use Rattle.std.proofs.lemmas.List.Elements.{All-nil}
 use Rattle.std.proofs.Math.Seq.{take-length}
 use Rattle.std.specs.List.{All, AllZip}
@@ -15,6 +15,7 @@ loop-i-init g c =
     let w = g.W.Walk in
     let s = w.start c.args.walk.now in
     let N = λ (x : Node). IsNodeAt w.lanes w.ending w.serial c.args.left (after w.lanes s x.order) x in
+    let P : Node → List ℕ → Type 0 = λ x ps. IsLinked w.lanes w.ending w.serial s c.args.search.now.is_whole c.in_ok-front.front.nodes.items x ps in
     let seen = subst (AreSeen w.lanes g.W.Merge.is_key s []) (sym c.in_ok-front.ensures.seen) tt in
     let front : IsFront w.lanes w.ending w.serial g.W.Merge.is_key c.args.left s c.in_ok-front.front
     = record {
@@ -23,7 +24,7 @@ loop-i-init g c =
     } in
     record {
       goes = record { start = refl; front = front; more = ([], sym (append-nil c.in_ok-front.front.nodes.items)); whole = λ is. is };
-      linked = tt;
+      linked = subst (AllZip P []) (sym c.new-places.ensures) tt;
     }
 
 pub follow_node-requires : goal.follow_node-requires
@@ -42,10 +43,11 @@ loop-i-preserved g c =
     let new = c.follow_node.new.front in
     let done = c.in_ok-to.ensures in
     let i = c.loop-i.i in
-    let x = c.index.result.now in
+    let e = c.index-level-i.result in
+    let x = e in
     let b = c.loop-i.search.is_whole in
     let d = c.follow_node.new.search.is_whole in
-    let P = λ x ps. IsLinked w.lanes w.ending w.serial s d new.nodes.items x ps in
+    let P : Node → List ℕ → Type 0 = λ x ps. IsLinked w.lanes w.ending w.serial s d new.nodes.items x ps in
     let front = subst (λ u. IsFront w.lanes w.ending w.serial g.W.Merge.is_key c.args.left u new) inv.goes.start done.0.front in
     let linked = subst (λ u. IsLinked w.lanes w.ending w.serial u d new.nodes.items x c.in_ok-to.to) inv.goes.start done.1 in
     let still = zip_weaker (λ x ps. IsLinked w.lanes w.ending w.serial s b mid.nodes.items x ps) P
@@ -53,7 +55,7 @@ loop-i-preserved g c =
     record {
       goes = record { start = done.0.start ∙ inv.goes.start; front = front; more = ([], sym (append-nil new.nodes.items)); whole = λ is. inv.goes.whole (done.0.whole is) };
       linked = subst (AllZip P (take (i + 1) c.args.level.now)) (sym c.in_ok-push.ensures.ok)
-          (zip_more P c.args.level.now c.loop-i.places i x c.in_ok-to.to c.loop-i-test.true c.index.ensures still linked);
+          (zip_more P c.args.level.now c.loop-i.places i e c.in_ok-to.to c.loop-i-test.true still (subst (λ y. P y c.in_ok-to.to) c.index-level-i.is linked));
     }
 
 -- all states are followed
