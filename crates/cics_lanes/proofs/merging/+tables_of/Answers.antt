@@ -42,8 +42,12 @@ tables_of-requires g t c =
     let w = g.W.Walk in
     let follows = c.in_ok-next.ensures in
     let nodes = subst (λ s. AreNodes w.lanes w.ending w.serial c.saturating_sub-less.result s c.in_ok-next.next.nodes.items) (sym follows.start) follows.nodes in
-    λ κs within. (omega (arith, c.if-left-eq0.false), within.0, within.1,
-    subst (AreNodes w.lanes w.ending w.serial c.saturating_sub-less.result (w.start c.follow_level.new.walk)) (sym c.as_slice-2.ensures.value) nodes)
+    λ κs within. (
+      omega (arith, c.if-left-eq0.false),
+      within.0,
+      within.1,
+      subst (AreNodes w.lanes w.ending w.serial c.saturating_sub-less.result (w.start c.follow_level.new.walk)) (sym c.as_slice-2.ensures.value) nodes,
+    )
 
 -- the level is done
 pub returns : goal.returns

@@ -1,6 +1,7 @@
-use Rattle.std.proofs.Common.{◌≡◌, ◌∙◌, ap, sym, subst, arith}
+use Rattle.std.proofs.Common.{◌≡◌, ◌∙◌, ◌++◌, ◌∷◌, [], ap, sym, subst, arith}
 use Rattle.cics_lanes.specs.Reports.{IsReport}
 use Rattle.cics_lanes.specs.Tables.{order_count}
+use Rattle.cics_lanes.specs.Levels.{table_at}
 use Rattle.cics_lanes.proofs.Searching.{first_nodes, first_table, merged_of, merged_as, as_explored}
 use Rattle.cics_lanes.proofs.merging.explore_merged.Goals as goal
 
@@ -24,8 +25,10 @@ pub tables_of-requires : goal.tables_of-requires
 tables_of-requires g c =
     let w = g.W.Walk in
     let now = c.restart.new.self in
+    let first = c.in_ok-first.first in
     let here : now ≡ w.start now = c.in_ok-restart.ensures ∙ (sym (w.start_is_start c.args.walk.now) ∙ ap w.start (sym c.in_ok-restart.ensures)) in
-    first_nodes w.lanes w.ending w.serial c.line_count-lines.result (w.start now) now c.push.new.self.items c.in_ok-first.first c.in_ok-push.ensures.items
+    let one = c.as_slice.ensures.value ∙ (c.in_ok-push.ensures.items ∙ ap (λ xs. xs ++ first ∷ []) c.new-level.ensures.items) in
+    first_nodes w.lanes w.ending w.serial c.line_count-lines.result (w.start now) now c.as_slice.result.now first one
     (c.in_ok-first.ensures.order ∙ c.new.ensures) here c.in_ok-first.ensures.node
 
 -- the table of the start is reported
@@ -34,14 +37,17 @@ returns-clause-merged g c =
     let w = g.W.Walk in
     let s = w.start c.args.walk.now in
     let now = c.restart.new.self in
+    let first = c.in_ok-first.first in
     let table = c.in_ok-endings.endings.items in
     let whole = c.tables_of.new.search.is_whole in
     let here : w.start now ≡ s = ap w.start c.in_ok-restart.ensures ∙ w.start_is_start c.args.walk.now in
     let most : c.line_count-lines.result ≡ w.most s = c.line_count-lines.ensures ∙ ap w.most c.in_ok-restart.ensures in
+    let one = c.as_slice.ensures.value ∙ (c.in_ok-push.ensures.items ∙ ap (λ xs. xs ++ first ∷ []) c.new-level.ensures.items) in
+    let made = c.in_ok-endings.ensures ∙ (c.table_at.ensures ∙ ap (λ ts. table_at ts 0) c.as_slice-2.ensures) in
     merged_of w.lanes w.ending w.serial (w.most s) s (record { endings = c.from_vec.result; orders = c.count.result; is_whole = whole }) table
-    (first_table w.lanes w.ending w.serial c.line_count-lines.result (w.most s) s (w.start now) whole c.push.new.self.items c.in_ok-first.first c.in_ok-tables.tables table
-    c.in_ok-push.ensures.items (c.in_ok-first.ensures.order ∙ c.new.ensures) here most c.in_ok-tables.ensures.has (c.in_ok-endings.ensures ∙ c.table_at.ensures))
-    c.from_vec.ensures (c.count.ensures ∙ ap order_count c.as_slice.ensures.value)
+    (first_table w.lanes w.ending w.serial c.line_count-lines.result (w.most s) s (w.start now) whole c.as_slice.result.now first c.in_ok-tables.tables table
+    one (c.in_ok-first.ensures.order ∙ c.new.ensures) here most c.in_ok-tables.ensures.has made)
+    c.from_vec.ensures (c.count.ensures ∙ ap order_count c.as_slice-3.ensures.value)
 
 -- if it is whole, it is what following each order in turn reports
 pub returns-clause-explored : goal.returns-clause-explored
