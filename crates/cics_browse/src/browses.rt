@@ -95,6 +95,20 @@ impl Browse {
         }
     }
 
+    /// Returns the key of the position.
+    pub fn key(&self) -> &Record
+        ensures { result.now ≡ self.now.key }
+    {
+        &self.key
+    }
+
+    /// Returns what stands at the key of the position.
+    pub fn place(&self) -> Place
+        ensures { result ≡ self.now.place }
+    {
+        self.place
+    }
+
     /// Returns whether the browse was started, or last reset, with GENERIC.
     pub fn is_generic(&self) -> bool
         ensures { result ≡ self.now.generic }

@@ -3,6 +3,7 @@
 ghost use Rattle.std.specs.Prelude.{◌≡◌, [], OnOk, OnErr, IfOk};
 ghost use Rattle.std.specs.Borrow.{sem};
 ghost use Rattle.std.specs.Option.{option_copied, option_copied_mut};
+ghost use Rattle.std.specs.Map.Iter.{ShowsInOrder, deref_pair};
 ghost use Rattle.cics_names.specs.Keyed.{value_at, with_value, without};
 ghost use Rattle.cics_dispatch.specs.Browses.{read_on, after_read_on};
 ghost use Rattle.cics_dispatch.specs.BrowseLoans.{LendsBrowse};
@@ -12,6 +13,7 @@ use cics_ksds::File;
 use cics_names::{Name8, NoMemory, Record};
 use std::alloc::Global;
 use std::collections::BTreeMap;
+use std::collections::btree_map::Iter;
 use std::marker::Model;
 
 /// The start of a browse that STARTBR or RESETBR asks for.
@@ -59,7 +61,7 @@ pub(crate) fn read_on(
 ///
 /// Cost: O(log browses) to find one.
 #[derive(Drop)]
-pub(crate) struct Browses {
+pub struct Browses {
     rows: BTreeMap<Name8, Browse>,
 }
 
@@ -83,6 +85,14 @@ impl Browses {
         Browses {
             rows: BTreeMap::new(alloc),
         }
+    }
+
+    /// Returns the browses with the names of their files, in the order of the names.
+    pub fn iter(&self) -> Iter<'_, Name8, Browse>
+        ensures rest { result ≡ self.now }
+        ensures runs { ShowsInOrder (deref_pair {K = Name8} {X = Browse}) }
+    {
+        self.rows.iter()
     }
 
     /// Returns the browse of a file, if one is open.

@@ -25,6 +25,9 @@ mod tasks;
 mod updates;
 mod waits;
 
+pub use browses::Browses;
 pub use cics_names::{Command, Verb};
 pub use outcomes::{Expired, Number, Outcome, Refused, Reply, Woken};
 pub use regions::Region;
+pub use task::Task;
+pub use waits::{Suspended, Waits};

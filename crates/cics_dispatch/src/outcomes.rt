@@ -1,6 +1,7 @@
 //! Results of the calls of a region.
 
-ghost use Rattle.std.specs.Prelude.{◌≡◌};
+ghost use Rattle.std.specs.Prelude.{◌≡◌, IfOk};
+ghost use Rattle.std.specs.Bool.{OnTrue};
 ghost use Rattle.cics_dispatch.specs.Refusals.{refusal_number};
 
 use cics_history::UnitId;
@@ -17,7 +18,7 @@ pub enum Number {
 }
 
 /// What a command was answered.
-#[derive(PartialEq, Eq, Drop)]
+#[derive(Clone, PartialEq, Eq, Drop)]
 pub struct Reply {
     /// The condition. The other fields have something only at NORMAL, and at LENGERR if the content
     /// is longer than LENGTH.
@@ -32,7 +33,7 @@ pub struct Reply {
 }
 
 /// The outcome of a command.
-#[derive(PartialEq, Eq, Drop)]
+#[derive(Clone, PartialEq, Eq, Drop)]
 pub enum Outcome {
     /// The task goes on with this reply.
     Replied(Reply),
@@ -44,6 +45,22 @@ pub enum Outcome {
     Abended(AbendCode, Option<Reply>),
     /// The task has ended by RETURN.
     Ended,
+}
+
+impl Outcome {
+    /// Returns a copy of the outcome. The only error is `NoMemory`.
+    pub fn copy(&self) -> Result<Outcome, NoMemory>
+        ensures { IfOk result (λ copy. copy ≡ self.now) }
+    {
+        Ok(self.clone()?)
+    }
+
+    /// Returns true only if another outcome is the same.
+    pub fn is_same(&self, other: &Outcome) -> bool
+        ensures { OnTrue result (self.now ≡ other.now) }
+    {
+        self == other
+    }
 }
 
 /// The result of trying a command.

@@ -1,7 +1,7 @@
 //! A region: tasks that share files and queues, their waits, and their units of work.
 
 ghost use Rattle.std.specs.Prelude.{◌≡◌, ◌&&◌, if◌then◌else◌, None, true, false, ℕ, length};
-ghost use Rattle.std.specs.Prelude.{IfOk, IfErr, IfSome, OnOk};
+ghost use Rattle.std.specs.Prelude.{IfOk, IfErr, IfSome, OnOk, slice_get};
 ghost use Rattle.std.specs.Bool.{OnTrue};
 ghost use Rattle.cics_history.specs.Events.{is_live};
 ghost use Rattle.cics_history.specs.Headline.{HoldsCommitted};
@@ -22,6 +22,8 @@ ghost use Rattle.cics_dispatch.specs.declared.outcomes.Refused.TheVariants.{Regi
 
 use crate::dispatcher::Dispatcher;
 use crate::outcomes::{Expired, Outcome, Refused, Woken};
+use crate::task::Task;
+use crate::waits::Waits;
 use cics_history::UnitId;
 use cics_names::{Command, Name4, Name8, NoMemory};
 use cics_units::{Listing, Opening, Units};
@@ -352,6 +354,34 @@ impl Region {
         ensures serializable { IsSerializableRegion self.now }
     {
         self.dispatcher.number(label)
+    }
+
+    /// Returns the task of a number, if there is one.
+    pub fn task(&self, number: usize) -> Option<&Task>
+        ensures task { option_copied result ≡ slice_get self.now.machine.tasks number }
+    {
+        self.dispatcher.task(number)
+    }
+
+    /// Returns the waiting commands, in the order in which the waits began.
+    pub fn waits(&self) -> &Waits
+        ensures waits { result.now ≡ self.now.machine.waiting }
+    {
+        self.dispatcher.waits()
+    }
+
+    /// Returns the clock, in seconds.
+    pub fn clock(&self) -> u64
+        ensures clock { result ≡ self.now.machine.clock }
+    {
+        self.dispatcher.clock()
+    }
+
+    /// Returns whether the region is shut down.
+    pub fn is_down(&self) -> bool
+        ensures down { result ≡ self.now.machine.is_down }
+    {
+        self.dispatcher.is_down()
     }
 
     /// Returns the units of work of the region, with the files and queues that they share, their

@@ -16,7 +16,7 @@ use std::marker::Model;
 /// A task: its label, how long it may wait, its open unit of work, its browses, and whether it has
 /// ended.
 #[derive(Drop)]
-pub(crate) struct Task {
+pub struct Task {
     label: Name8,
     dtimout: u64,
     unit: Option<UnitId>,
@@ -54,14 +54,14 @@ impl Task {
     }
 
     /// Returns its label.
-    pub(crate) fn label(&self) -> Name8
+    pub fn label(&self) -> Name8
         ensures { result ≡ self.now.label }
     {
         self.label
     }
 
     /// Returns the seconds that it may wait, 0 for no limit.
-    pub(crate) fn dtimout(&self) -> u64
+    pub fn dtimout(&self) -> u64
         ensures { result ≡ self.now.dtimout }
     {
         self.dtimout
@@ -80,21 +80,21 @@ impl Task {
     }
 
     /// Returns its open unit of work, if it has one.
-    pub(crate) fn unit(&self) -> Option<UnitId>
+    pub fn unit(&self) -> Option<UnitId>
         ensures { result ≡ self.now.unit }
     {
         self.unit
     }
 
     /// Returns whether it has ended.
-    pub(crate) fn has_ended(&self) -> bool
+    pub fn has_ended(&self) -> bool
         ensures { result ≡ self.now.has_ended }
     {
         self.has_ended
     }
 
     /// Returns its browses.
-    pub(crate) fn browses(&self) -> &Browses
+    pub fn browses(&self) -> &Browses
         ensures { result.now ≡ self.now.browses }
     {
         &self.browses

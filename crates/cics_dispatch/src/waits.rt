@@ -16,7 +16,7 @@ use std::collections::btree_map::Values;
 use std::marker::Model;
 
 /// A waiting command.
-pub(crate) struct Suspended {
+pub struct Suspended {
     label: Name8,
     command: Command,
     op: Option<Op>,
@@ -50,28 +50,28 @@ impl Model for Suspended {
 
 impl Suspended {
     /// Returns the label of its task.
-    pub(crate) fn label(&self) -> Name8
+    pub fn label(&self) -> Name8
         ensures { result ≡ self.now.label }
     {
         self.label
     }
 
     /// Returns the whole command.
-    pub(crate) fn command(&self) -> &Command
+    pub fn command(&self) -> &Command
         ensures { result.now ≡ self.now.command }
     {
         &self.command
     }
 
     /// Returns the updating command that it asks for. `None` for an ENQ, which asks for none.
-    pub(crate) fn op(&self) -> Option<&Op>
+    pub fn op(&self) -> Option<&Op>
         ensures { option_copied result ≡ self.now.op }
     {
         self.op.as_ref()
     }
 
     /// Returns the clock when the wait began, in seconds.
-    pub(crate) fn since(&self) -> u64
+    pub fn since(&self) -> u64
         ensures { result ≡ self.now.since }
     {
         self.since
@@ -81,7 +81,7 @@ impl Suspended {
 /// The waiting commands, in the order in which the waits began. A task has at most one.
 ///
 /// Cost: O(log waits) to find the wait of a label, to add one, and to remove one.
-pub(crate) struct Waits {
+pub struct Waits {
     // Each wait under a number that is above those of the waits that began before.
     rows: BTreeMap<u64, Suspended>,
     // The number of each label's wait.
@@ -184,7 +184,7 @@ impl Waits {
     }
 
     /// Returns the waits, in the order in which they began.
-    pub(crate) fn iter(&self) -> Values<'_, u64, Suspended>
+    pub fn iter(&self) -> Values<'_, u64, Suspended>
         ensures rest { result ≡ self.now }
         ensures runs { ShowsInOrder (deref {X = Suspended}) }
         ensures once { AreApart self.now }

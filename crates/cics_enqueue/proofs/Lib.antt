@@ -6,3 +6,4 @@ pub mod Owning
 pub mod Seeking
 pub mod TableLaws
 pub mod Tables
+pub mod Values

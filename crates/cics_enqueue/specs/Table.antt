@@ -173,3 +173,20 @@ given_back t r u = given_back_of (held_at r t) t r u
 -- the table after a unit released all that it owned
 abbrev pub released : Table → ℕ → Table
 released t u = filter (λ e. not (e.1.unit == u)) t
+
+-- ---- The values of programs' own
+
+-- the value that a resource is, if it is one
+abbrev pub value_in : Resource → Option Bytes
+value_in (User v) = Some v.items
+value_in _ = None
+
+-- a value that is held, with its unit and how many times
+abbrev pub valued : Option Bytes → Held → List (Bytes × ℕ × ℕ)
+valued None h = []
+valued (Some v) h = (v, h.unit, h.count) ∷ []
+
+-- the values that are held, in their order
+abbrev pub values_in : Table → List (Bytes × ℕ × ℕ)
+values_in [] = []
+values_in (e ∷ es) = valued (value_in e.0) e.1 ++ values_in es

@@ -7,7 +7,8 @@ ghost use Rattle.std.specs.Prelude.{◌≡◌, ◌≤◌, ◌+◌, ◌∷◌, �
 ghost use Rattle.std.specs.Option.{option_copied};
 ghost use Rattle.std.specs.Map.{lookup};
 ghost use Rattle.cics_enqueue.specs.Kept.{finds};
-ghost use Rattle.cics_enqueue.specs.Table.{resource_key};
+ghost use Rattle.cics_enqueue.specs.Order.{resource_of};
+ghost use Rattle.cics_enqueue.specs.Table.{resource_key, value_in};
 
 use crate::borrowed::{Kind, ResourceRef};
 use crate::enqueues::Holding;
@@ -110,6 +111,16 @@ pub(crate) fn compact(resource: &ResourceRef<'_>) -> ArrayVec<u8, MOST>
     let mut key = ArrayVec::new();
     put_resource(&mut key, resource);
     key
+}
+
+// Returns the value of which this is the table key, if it is that of a value.
+pub(crate) fn value_of(bytes: &[u8]) -> Option<&[u8]>
+    ensures { option_copied result ≡ value_in (resource_of bytes.now) }
+{
+    match bytes {
+        [kind, value @ ..] if *kind > TD_WRITE => Some(value),
+        _ => None,
+    }
 }
 
 // Returns the front of the table key of a record of a file or a prefix of keys: the kind, the

@@ -15,16 +15,16 @@ ghost use Rattle.cics_history.specs.Resources.{bytes_of, is_user};
 ghost use Rattle.cics_enqueue.specs.Table.{holder_of, holder_over, held_with_prefix};
 ghost use Rattle.cics_enqueue.specs.Table.{count_of, IsFreeFor, IsFreeBut, HoldsLeast, is_full};
 ghost use Rattle.cics_enqueue.specs.Table.{taken, given_back, released, other_than};
-ghost use Rattle.cics_enqueue.specs.Table.{held_at, is_in_order, resource_key};
+ghost use Rattle.cics_enqueue.specs.Table.{held_at, is_in_order, resource_key, values_in};
 ghost use Rattle.cics_enqueue.specs.Order.{resource_of};
 
 use crate::borrowed::{Kind, ResourceRef};
-use crate::compact::{compact, held, set_resource, set_value};
+use crate::compact::{compact, held, set_resource, set_value, value_of};
 use crate::conflicts::{Search, has_prefixes, other_unit};
 use crate::owned::{self, Owned};
 use cics_history::{Resource, UnitId};
 use cics_keys::Key;
-use cics_names::{Name8, NoMemory};
+use cics_names::{Items, Name8, NoMemory, Record};
 use indexmap::IndexMap;
 use std::alloc::{AllocError, Global};
 use std::cell::Cell;
@@ -240,6 +240,22 @@ impl Enqueues {
         };
         self.bound.set(key);
         count
+    }
+
+    /// Returns the values that units own by ENQ in byte order, each with its unit and its count.
+    ///
+    /// Errors: `NoMemory`. Cost: O(owned resources).
+    pub fn values(&self) -> Result<Items<(Record, UnitId, u16)>, NoMemory>
+        ensures { IfOk result (λ values. values ≡ values_in self.now) }
+    {
+        let mut values = Items::new(self.alloc);
+        for (key, holding) in &self.table {
+            if let Some(value) = value_of(key.as_slice()) {
+                let value = Record::from_slice(self.alloc, value)?;
+                values.push((value, holding.unit, holding.count))?;
+            }
+        }
+        Ok(values)
     }
 
     /// Returns the blocker at a resource: the owner, other than `but_not`, of the smallest

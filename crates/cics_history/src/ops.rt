@@ -3,12 +3,14 @@
 //! Definitions see a name, a key and a record as their bytes, and a unit as its number.
 
 ghost use Rattle.std.specs.Prelude.{◌≡◌, IfOk, IfSome, is_some};
+ghost use Rattle.std.specs.Bool.{OnTrue};
 ghost use Rattle.cics_history.specs.Records.{is_file_op, file_of, key_of};
 
 use crate::resources::UnitId;
 use cics_names::{Condition, Name4, Name8, NoMemory, Record};
 
 /// An updating command. `from` has the bytes of a record or an item. `key` is the record's key.
+#[derive(PartialEq)]
 pub enum Op {
     /// Adds the record of a key that has none.
     Write {
@@ -124,6 +126,13 @@ impl Op {
             Op::ReadUpdate { file, key } => Some((file, key)),
             _ => None,
         }
+    }
+
+    /// Returns true only if another command asks for the same.
+    pub fn is_same(&self, other: &Op) -> bool
+        ensures { OnTrue result (self.now ≡ other.now) }
+    {
+        self == other
     }
 
     /// Returns a copy of the command, with copies of its records. The only error is `NoMemory`.

@@ -1,3 +1,4 @@
 mod Filled
 mod Rows
 mod EbcdicTables
+pub mod Derived

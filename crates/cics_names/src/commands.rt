@@ -1,6 +1,7 @@
 //! The commands that a task issues.
 
 ghost use Rattle.std.specs.Prelude.{◌≡◌, IfOk};
+ghost use Rattle.std.specs.Bool.{OnTrue};
 ghost use Rattle.std.specs.Option.{option_copied};
 ghost use Rattle.cics_names.specs.Commands.{file_named, length_of};
 
@@ -35,7 +36,7 @@ impl Drop for Command {
 /// - `from`: what is written; `length`, if it is given, says how many of its first bytes.
 /// - `length` of a command that reads: how many bytes the task takes, if it is given. A longer
 ///   content is answered LENGERR with its first bytes, and counts as read.
-#[derive(Clone, Drop)]
+#[derive(Clone, PartialEq, Drop)]
 pub enum Verb {
     /// READ (file control): reads the record of a key. With `gteq` that is the smallest key that
     /// isn't below the one given, with `generic` a key that begins with it. With both it is the
@@ -181,9 +182,23 @@ impl Command {
             resp: self.resp,
         })
     }
+
+    /// Returns true only if another command asks for the same.
+    pub fn is_same(&self, other: &Command) -> bool
+        ensures { OnTrue result (self.now ≡ other.now) }
+    {
+        self.resp == other.resp && self.verb.is_same(&other.verb)
+    }
 }
 
 impl Verb {
+    // Returns true only if another verb asks for the same with the same options.
+    fn is_same(&self, other: &Verb) -> bool
+        ensures { OnTrue result (self.now ≡ other.now) }
+    {
+        self == other
+    }
+
     /// Returns the file that the command names, or None if it names none.
     pub fn file(&self) -> Option<&Name8>
         ensures { option_copied result ≡ file_named self.now }

@@ -1,3 +1,5 @@
 pub mod Ended
 pub mod Giving
+pub mod Merging
+pub mod Openings
 pub mod OrderLaws

@@ -1,5 +1,5 @@
 -- The lines that are left: each line that is given leaves one fewer, and nothing else takes or adds
--- any.
+-- any. The plan, the opening of the region, and the labels and lines of lanes stay.
 use Rattle.std.proofs.Common.{◌≡◌, ◌<◌, ◌≤◌, ℕ, zero, suc, ◌+◌, ◌-◌, Bool, true, false, ◌&&◌, List, [], ◌∷◌, ◌++◌, map, length, drop, Option, None, Some, Result, Ok, Err, refl, ap, sym, ◌∙◌, arith, subst}
 use Rattle.std.proofs.lemmas.Option.{slice_get_within}
 use Rattle.std.specs.Prelude.{All, is_some, slice_get, slice_set, if◌then◌else◌}
@@ -20,56 +20,68 @@ use Rattle.cics_orders.specs.Giving.{issuing, timing, shutting, State, is_of, to
 use Rattle.cics_plans.specs.declared.plans.Plan.{Plan}
 use Rattle.cics_plans.specs.declared.plans.TaskPlan.{TaskPlan}
 use Rattle.cics_orders.specs.declared.lanes.Lane.{Lane}
+use Rattle.cics_orders.specs.Openings.{Opens, issuing_opens, timing_opens, shutting_opens, drain_opens}
+
+-- a lane's label, its lines, and how many are given
+abbrev pub Labelled : Type 0
+Labelled = Option Bytes × (List NumberedLine × ℕ)
+
+abbrev pub still : Lane → Labelled
+still x = (x.label, (x.lines, x.given))
 
 -- how many lines the lanes have left
-abbrev pub left : List Lane → ℕ
-left [] = 0
-left (x ∷ xs) = (length x.lines - x.given) + left xs
+abbrev pub left_in : List Labelled → ℕ
+left_in [] = 0
+left_in (x ∷ xs) = (length x.1.0 - x.1.1) + left_in xs
 
--- a state of the same script, with as many lines left
+abbrev pub left : List Lane → ℕ
+left xs = left_in (map still xs)
+
+-- a state of the same script, in which as many lines are given
 record Keeps (s t : State) : Type 0 where
   pub plan : t.plan ≡ s.plan
-  pub lines : left t.lanes ≡ left s.lanes
+  pub opening : Opens s.machine t.machine
+  pub lanes : map still t.lanes ≡ map still s.lanes
 
 kept : (s : State) → Keeps s s
-kept s = record { plan = refl; lines = refl }
+kept s = record { plan = refl; opening = refl; lanes = refl }
 
 kept_then : (s t u : State) → Keeps s t → Keeps t u → Keeps s u
-kept_then s t u a b = record { plan = b.plan ∙ a.plan; lines = b.lines ∙ a.lines }
+kept_then s t u a b = record { plan = b.plan ∙ a.plan; opening = b.opening ∙ a.opening; lanes = b.lanes ∙ a.lanes }
 
 -- ---- What a task is told
 
-left_told : (xs : List Lane) (label : Bytes) (o : Outcome) → left (with_told xs label o) ≡ left xs
-left_told [] label o = refl
-left_told (x ∷ xs) label o = by (left_told xs label o) (is_of x label)
+still_told : (xs : List Lane) (label : Bytes) (o : Outcome) → map still (with_told xs label o) ≡ map still xs
+still_told [] label o = refl
+still_told (x ∷ xs) label o = by (still_told xs label o) (is_of x label)
   where
-    by : left (with_told xs label o) ≡ left xs → (b : Bool) → left (if b then told_more x o ∷ xs else x ∷ with_told xs label o) ≡ left (x ∷ xs)
+    by : map still (with_told xs label o) ≡ map still xs → (b : Bool) → map still (if b then told_more x o ∷ xs else x ∷ with_told xs label o) ≡ map still (x ∷ xs)
     by rest true = refl
-    by rest false = ap (λ n. (length x.lines - x.given) + n) rest
+    by rest false = ap (λ l. still x ∷ l) rest
 
-left_hearing : (xs : List Lane) (label : Bytes) (o : Outcome) → left (hearing xs label o) ≡ left xs
-left_hearing xs label (Replied reply) = left_told xs label (Replied reply)
-left_hearing xs label (Waiting holder) = refl
-left_hearing xs label (Abended code reply) = left_told xs label (Abended code reply)
-left_hearing xs label Ended = left_told xs label Ended
+still_hearing : (xs : List Lane) (label : Bytes) (o : Outcome) → map still (hearing xs label o) ≡ map still xs
+still_hearing xs label (Replied reply) = still_told xs label (Replied reply)
+still_hearing xs label (Waiting holder) = refl
+still_hearing xs label (Abended code reply) = still_told xs label (Abended code reply)
+still_hearing xs label Ended = still_told xs label Ended
 
-left_shut : (xs : List Lane) → left (map shut xs) ≡ left xs
-left_shut [] = refl
-left_shut (x ∷ xs) = ap (λ n. (length x.lines - x.given) + n) (left_shut xs)
+still_shut : (xs : List Lane) → map still (map shut xs) ≡ map still xs
+still_shut [] = refl
+still_shut (x ∷ xs) = ap (λ l. still x ∷ l) (still_shut xs)
 
 -- ---- What a line does
 
-kept_by : {X : Type 0} (s : State) (told : X → List Lane) (r : Result X Refused) (m : Machine) → ((x : X) → left (told x) ≡ left s.lanes) → Keeps s (left_by s told r m)
-kept_by s told (Ok x) m same = record { plan = refl; lines = same x }
-kept_by s told (Err e) m same = kept s
+kept_by : {X : Type 0} (s : State) (told : X → List Lane) (r : Result X Refused) (m : Machine) → Opens s.machine m → ((x : X) → map still (told x) ≡ map still s.lanes) → Keeps s (left_by s told r m)
+kept_by s told (Ok x) m opens same = record { plan = refl; opening = opens; lanes = same x }
+kept_by s told (Err e) m opens same = kept s
 
 kept_line : (s : State) (r : Result Line LineFault) → Keeps s (after_line s r)
 kept_line s (Ok (says.Issue label command)) =
-    let step = issuing s.machine label command in kept_by s (hearing s.lanes label) step.outcome step.machine (λ o. left_hearing s.lanes label o)
+    let step = issuing s.machine label command in kept_by s (hearing s.lanes label) step.outcome step.machine (issuing_opens s.machine label command) (λ o. still_hearing s.lanes label o)
 kept_line s (Ok (says.Clock seconds)) =
-    let step = timing s.machine seconds in kept_by s (λ _. s.lanes) step.outcome step.machine (λ _. refl)
+    let step = timing s.machine seconds in kept_by s (λ _. s.lanes) step.outcome step.machine (timing_opens s.machine seconds) (λ _. refl)
 kept_line s (Ok says.Shutdown) =
-    let step = shutting s.machine in kept_by s (λ _. map shut s.lanes) step.outcome step.machine (λ _. left_shut s.lanes)
+    let step = shutting s.machine in kept_by s (λ _. map shut s.lanes) step.outcome step.machine (shutting_opens s.machine) (λ _. still_shut s.lanes)
 kept_line s (Ok says.Blank) = kept s
 kept_line s (Ok (says.DefineFile name d)) = kept s
 kept_line s (Ok (says.DefineTsPrefix prefix)) = kept s
@@ -86,7 +98,7 @@ kept_step s t = by (drain_step s.machine).outcome
     by : (o : Option (Bytes × Outcome)) → told_by s o (drain_step s.machine).machine ≡ Some t → Keeps s t
     by (Some told) is =
         let same : record s { machine = (drain_step s.machine).machine; lanes = hearing s.lanes told.0 told.1 } ≡ t = cc in
-        subst (Keeps s) same (record { plan = refl; lines = left_hearing s.lanes told.0 told.1 })
+        subst (Keeps s) same (record { plan = refl; opening = drain_opens s.machine; lanes = still_hearing s.lanes told.0 told.1 })
     by None is = cc
 
 kept_within : (n : ℕ) (s : State) → Keeps s (drained_within n s)
@@ -111,20 +123,49 @@ left_given (y ∷ ys) zero x ends at short =
     subst (λ z. suc ((length x.lines - (x.given + 1)) + left ys) ≡ (length z.lines - z.given) + left ys) (sym same) (omega (arith, short))
 left_given (y ∷ ys) (suc l) x ends at short = omega (arith, left_given ys l x ends at short)
 
--- the plan stays, whatever lane gives
-plan_stays : (s : State) (l : ℕ) → (given s l).plan ≡ s.plan
-unfolding given
-plan_stays s l = by (slice_get s.lanes l)
-  where
-    more : (x : Lane) (o : Option NumberedLine) → (given_line s l x o).plan ≡ s.plan
-    more x None = refl
-    more x (Some next) =
-        let c = counted s l x (ends_turn (line next.1)) in
-        (kept_drained (after_line c (line next.1))).plan ∙ (kept_line c (line next.1)).plan
+-- the labels and lines of lanes
+abbrev pub line_of : Labelled → Option Bytes × List NumberedLine
+line_of k = (k.0, k.1.0)
 
-    by : (o : Option Lane) → (given_by s l o).plan ≡ s.plan
-    by None = refl
-    by (Some x) = more x (slice_get x.lines x.given)
+abbrev pub lines_of : List Lane → List (Option Bytes × List NumberedLine)
+lines_of xs = map line_of (map still xs)
+
+lines_given : (xs : List Lane) (l : ℕ) (x : Lane) (ends : Bool) → slice_get xs l ≡ Some x → lines_of (slice_set xs l (with_given x ends)) ≡ lines_of xs
+lines_given [] l x ends at = refl
+lines_given (y ∷ ys) zero x ends at = let same : x ≡ y = cc in ap (λ (z : Lane). (z.label, z.lines) ∷ lines_of ys) same
+lines_given (y ∷ ys) (suc l) x ends at = ap (λ ls. (y.label, y.lines) ∷ ls) (lines_given ys l x ends at)
+
+-- what stays, whatever lanes give
+pub record Stays (s t : State) : Type 0 where
+  pub plan : t.plan ≡ s.plan
+  pub opening : Opens s.machine t.machine
+  pub lines : lines_of t.lanes ≡ lines_of s.lanes
+
+given_stays : (s : State) (l : ℕ) → Stays s (given s l)
+unfolding given
+given_stays s l = by (slice_get s.lanes l) refl
+  where
+    same : Stays s s
+    same = record { plan = refl; opening = refl; lines = refl }
+
+    more : (x : Lane) → slice_get s.lanes l ≡ Some x → (o : Option NumberedLine) → Stays s (given_line s l x o)
+    more x at None = same
+    more x at (Some next) =
+        let c = counted s l x (ends_turn (line next.1)) in
+        let n = after_line c (line next.1) in
+        let left = kept_then c n (drained n) (kept_line c (line next.1)) (kept_drained n) in
+        record { plan = left.plan; opening = left.opening; lines = ap (map line_of) left.lanes ∙ lines_given s.lanes l x (ends_turn (line next.1)) at }
+
+    by : (o : Option Lane) → slice_get s.lanes l ≡ o → Stays s (given_by s l o)
+    by None at = same
+    by (Some x) at = more x at (slice_get x.lines x.given)
+
+pub after_stays : (s : State) (o : Order) → Stays s (after lanes s o)
+after_stays s [] = record { plan = refl; opening = refl; lines = refl }
+after_stays s (l ∷ o) =
+    let first = given_stays s l in
+    let rest = after_stays (given s l) o in
+    record { plan = rest.plan ∙ first.plan; opening = rest.opening ∙ first.opening; lines = rest.lines ∙ first.lines }
 
 -- a lane that may give leaves a line fewer
 given_fewer : (s : State) (l : ℕ) (x : Lane) → slice_get s.lanes l ≡ Some x → may_give s.machine x ≡ true → suc (left (given s l).lanes) ≡ left s.lanes
@@ -135,7 +176,7 @@ given_fewer s l x at may = ap (λ o. suc (left (given_by s l o).lanes)) at ∙ b
     by None is ready = cc
     by (Some next) is ready =
         let c = counted s l x (ends_turn (line next.1)) in
-        ap suc ((kept_drained (after_line c (line next.1))).lines ∙ (kept_line c (line next.1)).lines)
+        ap (λ xs. suc (left_in xs)) ((kept_drained (after_line c (line next.1))).lanes ∙ (kept_line c (line next.1)).lanes)
         ∙ left_given s.lanes l x (ends_turn (line next.1)) at (slice_get_within x.lines x.given next is)
 
 -- ---- No line left
@@ -241,7 +282,7 @@ lanes_ordered s from l ls is = givers_ordered (may_give s.machine) s.lanes from 
 
 -- the start of a script is that of each state of it
 pub start_stays : (s : State) (l : ℕ) → initial_state (given s l).plan ≡ initial_state s.plan
-start_stays s l = ap initial_state (plan_stays s l)
+start_stays s l = ap initial_state (given_stays s l).plan
 
 -- the start of the plan that a start has is the same start
 pub start_again : (p : Plan) → initial_state (initial_state p).plan ≡ initial_state p

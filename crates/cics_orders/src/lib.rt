@@ -3,12 +3,14 @@
 
 mod events;
 mod following;
+mod keys;
 mod lanes;
 mod laws;
 mod starting;
 mod walks;
 
 pub use following::{Tells, explore_script};
+pub use keys::StateKey;
 pub use lanes::Lane;
 pub use laws::{lanes_tell_ended_tasks, lines_are_not_refused, orders_rest};
 pub use walks::Walker;

@@ -228,6 +228,13 @@ impl Walker {
         }
     }
 
+    /// Returns the task's lane that gave last.
+    pub(crate) fn last(&self) -> Option<usize>
+        ensures { result ≡ self.now.last }
+    {
+        self.last
+    }
+
     /// Returns whether the order so far is serial: no task within a turn gave a line after another
     /// task's.
     pub fn is_serial(&self) -> bool

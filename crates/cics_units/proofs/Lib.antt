@@ -53,3 +53,4 @@ pub mod AppliedInPlace
 mod AppliedKept
 mod EndExamples
 mod NothingHeld
+pub mod OwnParts

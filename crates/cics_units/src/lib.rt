@@ -29,5 +29,6 @@ mod uses;
 pub use cics_history::{Answer, Done, Enqueued, Entry, Op, UnitState};
 pub use listings::{Listing, TaskState};
 pub use opening::{DefineFault, Opening};
-pub use replay::plain_replay;
+pub use replay::store::PlainStore;
+pub use replay::{plain_replay, replayed};
 pub use units::{Submitted, Units};

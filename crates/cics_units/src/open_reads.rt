@@ -3,10 +3,10 @@
 
 mod unit_reads;
 
-ghost use Rattle.std.specs.Prelude.{◌≡◌, ◌==◌, not, filter, [], None, OnOk, OnErr};
+ghost use Rattle.std.specs.Prelude.{◌≡◌, ◌==◌, not, filter, [], None, OnOk, OnErr, unwrap_or};
 ghost use Rattle.std.specs.Option.{option_copied};
 ghost use Rattle.cics_history.specs.Execution.{is_read_of, read_at, with_read};
-ghost use Rattle.cics_units.specs.OpenReads.{is_read_key, is_read_under};
+ghost use Rattle.cics_units.specs.OpenReads.{is_read_key, is_read_under, reads_of};
 
 use cics_history::UnitId;
 use cics_names::{Name8, NoMemory, Record};
@@ -54,6 +54,15 @@ impl OpenReads {
     {
         let at = unit.number() as usize;
         self.rows.get(at)?.key(file)
+    }
+
+    /// Returns the update reads of a unit, if it has a row.
+    pub(crate) fn of_unit(&self, unit: UnitId) -> Option<&[(Name8, Record)]>
+        ensures { filter (λ r. r.unit == unit) self.now
+            ≡ reads_of unit (unwrap_or (option_copied result) []) }
+    {
+        let at = unit.number() as usize;
+        Some(self.rows.get(at)?.as_slice())
     }
 
     /// Opens a unit's update read of the record of a key in a file.

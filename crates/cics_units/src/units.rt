@@ -2,9 +2,9 @@
 
 ghost use Rattle.std.specs.Prelude.{◌≡◌, ◌<◌, ◌≤◌, ◌+◌, ◌++◌, ◌∷◌, [], true, length, vec_len};
 ghost use Rattle.std.specs.Prelude.{vec_capacity, IsTrue, option_map, IfOk, IfErr, IfSome, OnOk};
-ghost use Rattle.std.specs.Prelude.{OnErr};
+ghost use Rattle.std.specs.Prelude.{OnErr, ◌==◌, T, filter, map, unwrap_or};
 ghost use Rattle.std.specs.Option.{option_copied};
-ghost use Rattle.cics_names.specs.Keyed.{value_at};
+ghost use Rattle.cics_names.specs.Keyed.{value_at, is_rising};
 ghost use Rattle.cics_history.specs.Openings.{IsOpeningInOrder, is_key};
 ghost use Rattle.cics_history.specs.Headline.{outcome_of, IsHeadline, LeavesNoTrace};
 ghost use Rattle.cics_history.specs.Holding.{awaited, value_holder};
@@ -21,7 +21,8 @@ ghost use Rattle.cics_units.specs.Listings.{listing_of, replayed_listing};
 ghost use Rattle.cics_units.specs.Submitting.{as_done, IsBackIfItWaits};
 ghost use Rattle.cics_units.specs.StorePlaces.{number_asked};
 ghost use Rattle.cics_units.specs.ImageRows.{kept_by, AreOthersKept};
-ghost use Rattle.cics_tempstor.specs.Queues.{read_item, after_read_item};
+ghost use Rattle.cics_tempstor.specs.Queues.{read_item, after_read_item, places_of};
+ghost use Rattle.cics_units.specs.OpenReads.{reads_of};
 ghost use Rattle.cics_tempstor.specs.Undo.{KeepsQueues};
 ghost use Rattle.cics_history.specs.declared.ops.UnitState.TheVariants.{Committed, BackedOut};
 
@@ -32,7 +33,7 @@ use cics_enqueue::{ResourceRef, TakeFault};
 use cics_history::{Answer, Done, Enqueued, Entry, Op, UnitId, UnitState};
 use cics_images::{Images, Stores};
 use cics_ksds::File;
-use cics_names::{Name4, Name8, NoMemory};
+use cics_names::{Items, Name4, Name8, NoMemory, Record};
 use cics_tempstor::{TempStore, TsRead};
 use cics_transdata::Recovery;
 use std::alloc::Global;
@@ -173,6 +174,23 @@ fn read_ts(queues: &mut TempStore, queue: &Name8, item: Option<u64>) -> Result<T
         Some(number) => queues.read_item(queue, number),
         None => queues.read_next(queue),
     }
+}
+
+// Returns the cursors that aren't 0, in the order of their queues' names.
+#[tactic(auto, using(crate::proofs::OwnParts::all_placed))]
+fn next_places(alloc: Global, queues: &TempStore) -> Result<Items<(Name8, u16)>, NoMemory>
+    requires rising { T (is_rising queues.now) }
+    ensures { IfOk result (λ places. places ≡ places_of queues.now) }
+{
+    let mut places = Items::new(alloc);
+    let listed = queues.listing()?;
+    for (name, _) in listed.as_slice() {
+        let place = queues.next_place(name);
+        if place > 0 {
+            places.push((*name, place))?;
+        }
+    }
+    Ok(places)
 }
 
 // Takes the images of a unit out of its row, which is then empty.
@@ -439,6 +457,35 @@ impl Units {
         self.core.store.temp_storage.next_place(queue)
     }
 
+    /// Returns the cursors (NEXT) that aren't 0, in the order of their queues' names.
+    ///
+    /// Errors: `NoMemory`.
+    pub fn next_places(&self) -> Result<Items<(Name8, u16)>, NoMemory>
+        ensures { IfOk result (λ places. places ≡ self.now.state.next) }
+    {
+        next_places(self.alloc, &self.core.store.temp_storage)
+    }
+
+    /// Returns the update reads of a unit: the files, in the order of their names, each with the key
+    /// of the record that is read. `None` if it never had one.
+    pub fn reads_of(&self, unit: UnitId) -> Option<&[(Name8, Record)]>
+        ensures { filter (λ r. r.unit == unit) self.now.state.reads
+            ≡ reads_of unit (unwrap_or (option_copied result) []) }
+    {
+        self.core.reads.of_unit(unit)
+    }
+
+    /// Returns the values that units have enqueued on, in their order, each with its unit and how
+    /// many times.
+    ///
+    /// Errors: `NoMemory`.
+    pub fn values(&self) -> Result<Items<(Record, UnitId, u16)>, NoMemory>
+        ensures { IfOk result (λ values. values
+            ≡ map (λ c. (c.value, c.unit, c.count)) self.now.state.counts) }
+    {
+        self.core.locks.values()
+    }
+
     /// Returns the recovery of a transient data queue, or None if no such queue is defined.
     pub fn td_recovery(&self, queue: &Name4) -> Option<Recovery>
         ensures { result
@@ -508,8 +555,11 @@ impl Units {
     }
 
     /// Returns the executed commands with their units and answers, in order of execution.
+    ///
+    /// - `in_order`: the opening's names rise, and so do the keys of each file. Laws suppose it.
     pub fn trace(&self) -> &[Entry]
         ensures trace { result.now ≡ self.now.state.trace }
+        ensures in_order { IsOpeningInOrder self.now.state.opening }
         ensures headline { IsHeadline self.now }
         ensures serializable { IsSerializable self.now }
     {

@@ -1,11 +1,13 @@
 //! What a region lists: its files, queues and tasks, and what a replay of its history gives.
 
-ghost use Rattle.std.specs.Prelude.{◌≡◌, IfOk};
+ghost use Rattle.std.specs.Prelude.{◌≡◌, IfOk, slice_get};
+ghost use Rattle.std.specs.Option.{option_copied};
 ghost use Rattle.cics_dispatch.specs.Answers.{region_listing, replayed_listing, task_state};
 ghost use Rattle.cics_dispatch.specs.Answers.{tasks_listed};
 
 use crate::dispatcher::Dispatcher;
 use crate::task::Task;
+use crate::waits::Waits;
 use cics_names::{Items, Name8, NoMemory};
 use cics_units::{Listing, TaskState, Units, plain_replay};
 
@@ -15,6 +17,31 @@ impl Dispatcher {
         ensures { result.now ≡ record { state = self.now.machine.units; store = self.now.store } }
     {
         &self.units
+    }
+
+    /// Returns the task of a number, if there is one.
+    pub(crate) fn task(&self, number: usize) -> Option<&Task>
+        ensures { option_copied result ≡ slice_get self.now.machine.tasks number }
+    {
+        if number < self.tasks.len() {
+            Some(self.tasks.get(number))
+        } else {
+            None
+        }
+    }
+
+    /// Returns the waiting commands.
+    pub(crate) fn waits(&self) -> &Waits
+        ensures { result.now ≡ self.now.machine.waiting }
+    {
+        &self.waits
+    }
+
+    /// Returns the clock, in seconds.
+    pub(crate) fn clock(&self) -> u64
+        ensures { result ≡ self.now.machine.clock }
+    {
+        self.clock
     }
 
     // Returns the state of a task that hasn't ended.

@@ -41,6 +41,13 @@ impl UnitReads {
         }
     }
 
+    /// Returns the files with the keys.
+    pub(crate) fn as_slice(&self) -> &[(Name8, Record)]
+        ensures { result.now ≡ self.now }
+    {
+        self.entries.as_slice()
+    }
+
     // Returns how many entries have files that come before this one.
     fn place(&self, file: &Name8) -> usize
         ensures { result ≡ place_of file.now self.now }

@@ -1,6 +1,7 @@
 //! The files and queues of a plain replay.
 
 ghost use Rattle.std.specs.Prelude.{◌≡◌, [], ◌∷◌, IfOk, OnOk};
+ghost use Rattle.std.specs.Bool.{OnTrue};
 ghost use Rattle.cics_names.specs.Keyed.{value_at, with_value};
 ghost use Rattle.cics_tempstor.specs.Queues.{has_item};
 ghost use Rattle.cics_units.specs.Listings.{listing_of};
@@ -26,7 +27,7 @@ const MOST_ITEMS: usize = 32_767;
 /// The files that are defined, the temporary storage queues that are there, and the transient data
 /// queues that are defined.
 #[derive(Drop)]
-pub(crate) struct PlainStore {
+pub struct PlainStore {
     files: BTreeMap<Name8, PlainRecords>,
     temp_storage: BTreeMap<Name8, Items<Record>>,
     trans_data: BTreeMap<Name4, PlainQueue>,
@@ -55,6 +56,36 @@ fn has_item(items: &Items<Record>, number: u64) -> bool
     ensures { result ≡ has_item items.now number }
 {
     0 < number && number <= items.len() as u64
+}
+
+/// Mixes bytes into a number, by the way of Fowler, Noll and Vo.
+pub(crate) fn mixed(hash: u64, bytes: &[u8]) -> u64 {
+    let mut hash = hash;
+    for byte in bytes {
+        hash = (hash ^ u64::from(*byte)).wrapping_mul(0x0100_0000_01b3);
+    }
+    hash
+}
+
+// Returns true only if files have the same records.
+fn same_files(files: &BTreeMap<Name8, PlainRecords>, others: &BTreeMap<Name8, PlainRecords>) -> bool
+    ensures { OnTrue result (files.now.entries ≡ others.now.entries) }
+{
+    files == others
+}
+
+// Returns true only if temporary storage queues have the same items.
+fn same_ts(queues: &BTreeMap<Name8, Items<Record>>, others: &BTreeMap<Name8, Items<Record>>) -> bool
+    ensures { OnTrue result (queues.now.entries ≡ others.now.entries) }
+{
+    queues == others
+}
+
+// Returns true only if transient data queues have the same records.
+fn same_td(queues: &BTreeMap<Name4, PlainQueue>, others: &BTreeMap<Name4, PlainQueue>) -> bool
+    ensures { OnTrue result (queues.now.entries ≡ others.now.entries) }
+{
+    queues == others
 }
 
 impl PlainStore {
@@ -281,6 +312,33 @@ impl PlainStore {
                 Ok(())
             }
         }
+    }
+
+    /// Returns true only if another store holds the same.
+    pub fn is_same(&self, other: &PlainStore) -> bool
+        ensures { OnTrue result (self.now ≡ other.now) }
+    {
+        same_files(&self.files, &other.files)
+            && same_ts(&self.temp_storage, &other.temp_storage)
+            && same_td(&self.trans_data, &other.trans_data)
+    }
+
+    /// Returns a number by which stores are sought: it is the same for stores that are the same.
+    pub fn hash(&self, seed: u64) -> u64 {
+        let mut hash = seed;
+        for (name, records) in &self.files {
+            hash = records.hash(mixed(hash, &name.bytes()));
+        }
+        for (name, items) in &self.temp_storage {
+            hash = mixed(hash, &name.bytes());
+            for item in items.as_slice() {
+                hash = mixed(hash, item.bytes());
+            }
+        }
+        for (name, queue) in &self.trans_data {
+            hash = queue.hash(mixed(hash, &name.bytes()));
+        }
+        hash
     }
 
     /// Returns the listing of the files and queues. `opening` says which of them are recoverable.

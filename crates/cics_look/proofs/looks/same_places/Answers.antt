@@ -1,0 +1,7 @@
+use Rattle.std.proofs.Common.{sym, ◌∙◌}
+use Rattle.cics_names.proofs.Derived.{on_true, list, both, name8}
+use Rattle.cics_look.proofs.Same.{small_number}
+use Rattle.cics_look.proofs.looks.same_places.Goals as goal
+
+pub returns : goal.returns
+returns c = on_true c.eq.result (λ e. (list (both name8 small_number)).same c.args.places.now c.args.others.now (sym c.eq.ensures ∙ e))
