@@ -1,5 +1,6 @@
 -- Of two states of one plan with one key the same is reported.
-use Rattle.std.proofs.Common.{◌≡◌, ℕ, Bool, List, [], ◌∷◌, map, Option, Result, Ok, Err, refl, ap, sym, ◌∙◌, subst}
+use Rattle.std.proofs.Common.{◌≡◌, ℕ, Bool, true, List, [], ◌∷◌, map, Option, None, Result, Ok, Err, refl, ap, sym, ◌∙◌, subst}
+use Rattle.std.specs.Prelude.{if◌then◌else◌}
 use Rattle.std.specs.List.{fold}
 use Rattle.cics_names.specs.Keyed.{Bytes}
 use Rattle.cics_history.specs.Openings.{IsOpeningInOrder}
@@ -17,7 +18,7 @@ use Rattle.cics_plans.specs.Taking.{NumberedLine}
 use Rattle.cics_plans.specs.declared.plans.Plan.{Plan}
 use Rattle.cics_plans.specs.declared.plans.TaskPlan.{TaskPlan}
 use Rattle.cics_orders.specs.Giving.{State, attaching, lanes, opened, unless_refused, with_task, initial_state}
-use Rattle.cics_orders.specs.Merging.{as_told, AreMergeable, TellsAlike, lane_key, key_of, IsKeyOf}
+use Rattle.cics_orders.specs.Merging.{as_told, AreMergeable, TellsAlike, lane_key, turn_of, key_of, IsKeyOf}
 use Rattle.cics_orders.specs.Openings.{attaches_open}
 use Rattle.cics_orders.specs.OrderLaws.{Stays, lines_of, after_stays}
 use Rattle.cics_orders.specs.declared.keys.LaneKey.{LaneKey}
@@ -47,7 +48,7 @@ unfolding initial_state
 start_same b p order = record {
   machine = attaches_same (beginning_region (opened p.definitions)) p.tasks (same_begins (opened p.definitions) order);
   lanes = refl;
-  last = refl;
+  last = λ _. refl;
   serial = refl;
 }
 
@@ -71,6 +72,9 @@ lanes_same b (x ∷ xs) (y ∷ ys) lines keys =
     let more_lines : lines_of xs ≡ lines_of ys = cc in
     let more_keys : map (lane_key b) xs ≡ map (lane_key b) ys = cc in
     λ i. lane_of (line i) (key i) ∷ lanes_same b xs ys more_lines more_keys i
+
+turn_on : (s : State) → s.is_serial ≡ true → turn_of s ≡ s.last
+turn_on s is = ap (λ c. if c then s.last else None) is
 
 module _ (b : Bool) (p : Plan) (o q : Order) (first second : StateKey) (is : IsKeyOf b (after lanes (initial_state p) o) first) (is_too : IsKeyOf b (after lanes (initial_state p) q) second) (same : first ≡ second) where
   abbrev s : State
@@ -100,7 +104,7 @@ module _ (b : Bool) (p : Plan) (o q : Order) (first second : StateKey) (is : IsK
             looks_same s.machine t.machine one.machine.first other.machine.first
             (alike s.machine t.machine one.machine.first.sound.known other.machine.first.sound.known (stays.opening ∙ sym stays_too.opening) (ap (λ k. k.look) keys));
         lanes = lanes_same b s.lanes t.lanes (stays.lines ∙ sym stays_too.lines) (ap (λ k. k.lanes) keys);
-        last = ap (λ k. k.last) keys;
+        last = λ is. sym (turn_on s is) ∙ (ap (λ k. k.last) keys ∙ turn_on t (sym (ap (λ k. k.is_serial) keys) ∙ is));
         serial = ap (λ k. k.is_serial) keys;
       }
 

@@ -1,5 +1,5 @@
 -- States that may be merged may be merged after each line.
-use Rattle.std.proofs.Common.{true, ◌≡◌, ℕ, zero, suc, Bool, not, ◌&&◌, ◌||◌, List, [], ◌∷◌, map, length, Option, None, Some, Result, Ok, Err, refl, ap, sym, ◌∙◌, subst}
+use Rattle.std.proofs.Common.{true, false, ◌≡◌, ℕ, zero, suc, Bool, not, ◌&&◌, ◌||◌, List, [], ◌∷◌, map, length, Option, None, Some, Result, Ok, Err, refl, ap, sym, ◌∙◌, subst}
 use Rattle.std.specs.Prelude.{if◌then◌else◌, option_map, is_some, is_none, slice_get, drop}
 use Rattle.std.proofs.lemmas.List.{drop-map}
 use Rattle.std.proofs.lemmas.Option.{slice_get-map}
@@ -131,15 +131,25 @@ module _ (b : Bool) where
 
   -- ---- A line of a lane
 
+  front_true : (c d : Bool) → (c && d) ≡ true → c ≡ true
+  front_true true d is = refl
+  front_true false d is = is
+
   counted_same : (s t : State) (l : ℕ) (x y : Lane) (ends : Bool) → AreMergeable b s t → as_told b x ≡ as_told b y → AreMergeable b (counted s l x ends) (counted t l y ends)
   counted_same s t l x y ends same one = record {
     machine = same.machine;
     lanes = lane.given_same b s.lanes t.lanes l x y ends same.lanes one;
-    last = ap (λ (z : Lane). if is_some z.label then Some l else s.last) one ∙ ap (λ o. if is_some y.label then Some l else o) same.last;
-    serial =
-        ap (λ c. c && (not x.is_in_turn || is_lane s.last l)) same.serial
-        ∙ (ap (λ (z : Lane). t.is_serial && (not z.is_in_turn || is_lane s.last l)) one ∙ ap (λ o. t.is_serial && (not y.is_in_turn || is_lane o l)) same.last);
+    last = λ is. ap (λ (z : Lane). if is_some z.label then Some l else s.last) one ∙ ap (λ o. if is_some y.label then Some l else o) (same.last (front_true s.is_serial (not x.is_in_turn || is_lane s.last l) is));
+    serial = by s.is_serial refl;
   }
+    where
+      by : (c : Bool) → s.is_serial ≡ c → (s.is_serial && (not x.is_in_turn || is_lane s.last l)) ≡ (t.is_serial && (not y.is_in_turn || is_lane t.last l))
+      by true is =
+          ap (λ c. c && (not x.is_in_turn || is_lane s.last l)) same.serial
+          ∙ (ap (λ (z : Lane). t.is_serial && (not z.is_in_turn || is_lane s.last l)) one ∙ ap (λ o. t.is_serial && (not y.is_in_turn || is_lane o l)) (same.last is))
+      by false is =
+          ap (λ c. c && (not x.is_in_turn || is_lane s.last l)) is
+          ∙ sym (ap (λ c. c && (not y.is_in_turn || is_lane t.last l)) (sym same.serial ∙ is))
 
   pub given_same : (s t : State) (l : ℕ) → AreMergeable b s t → AreMergeable b (given s l) (given t l)
   unfolding given

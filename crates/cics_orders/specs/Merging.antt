@@ -1,5 +1,5 @@
 -- Which states of a plan may be merged: from both the same orders lead on, and to the same endings.
-use Rattle.std.specs.Prelude.{◌≡◌, ◌-◌, Bool, true, false, List, [], ◌∷◌, map, length, Option, Some, None, slice_get}
+use Rattle.std.specs.Prelude.{◌≡◌, ℕ, ◌-◌, Bool, true, false, if◌then◌else◌, List, [], ◌∷◌, map, length, Option, Some, None, slice_get}
 use Rattle.cics_history.specs.Openings.{IsOpeningInOrder}
 use Rattle.cics_dispatch.specs.declared.outcomes.Outcome.{Outcome}
 use Rattle.cics_dispatch.specs.declared.outcomes.Outcome.TheVariants.{Abended, Ended}
@@ -30,7 +30,7 @@ as_told b lane = record lane { told = told_if b lane.told }
 pub record AreMergeable (b : Bool) (s t : State) : Type 0 where
   pub machine : HaveSameFuture s.machine t.machine
   pub lanes : map (as_told b) s.lanes ≡ map (as_told b) t.lanes
-  pub last : s.last ≡ t.last
+  pub last : s.is_serial ≡ true → s.last ≡ t.last
   pub serial : s.is_serial ≡ t.is_serial
 
 -- states that may be merged are told in the same parts
@@ -41,9 +41,13 @@ TellsAlike b ending = (s t : State) → AreMergeable b s t → ending s ≡ endi
 abbrev pub lane_key : Bool → Lane → LaneKey
 lane_key b lane = record { given = lane.given; told = told_if b lane.told; has_ended = lane.has_ended; is_in_turn = lane.is_in_turn }
 
+-- the lane that gave last; in an order that isn't serial it doesn't count any more
+abbrev pub turn_of : State → Option ℕ
+turn_of s = if s.is_serial then s.last else None
+
 -- what is compared of a state
 abbrev pub key_of : Bool → State → StateKey
-key_of b s = record { look = look_of s.machine; lanes = map (lane_key b) s.lanes; last = s.last; is_serial = s.is_serial }
+key_of b s = record { look = look_of s.machine; lanes = map (lane_key b) s.lanes; last = turn_of s; is_serial = s.is_serial }
 
 -- a state has this key; its opening is in order
 abbrev pub IsKeyOf : Bool → State → StateKey → Type 0

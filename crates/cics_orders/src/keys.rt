@@ -2,7 +2,7 @@
 
 ghost use Rattle.std.specs.Prelude.{◌≡◌, ◌-◌, IfOk, length, map, slice_get};
 ghost use Rattle.std.specs.Bool.{OnTrue};
-ghost use Rattle.cics_orders.specs.Merging.{IsKeyOf, end_in, lane_key, told_if};
+ghost use Rattle.cics_orders.specs.Merging.{IsKeyOf, end_in, lane_key, told_if, turn_of};
 
 use crate::lanes::Lane;
 use crate::walks::Walker;
@@ -97,6 +97,17 @@ impl Same for LaneKey {
     }
 }
 
+// Returns the lane that gave last. In an order that isn't serial it doesn't count any more.
+fn turn_of(walker: &Walker) -> Option<usize>
+    ensures { result ≡ turn_of walker.now }
+{
+    if walker.is_serial() {
+        walker.last()
+    } else {
+        None
+    }
+}
+
 impl StateKey {
     /// Returns the key of a walker's state. With `told` it has all that tasks were told, else how
     /// they ended.
@@ -109,7 +120,7 @@ impl StateKey {
         Ok(StateKey {
             look: look_at(walker.region())?,
             lanes: lane_keys(alloc, told, walker.lanes())?,
-            last: walker.last(),
+            last: turn_of(walker),
             is_serial: walker.is_serial(),
         })
     }
