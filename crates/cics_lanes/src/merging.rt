@@ -129,15 +129,28 @@ fn find<W: Merge>(front: &Front<W::Key>, hash: u64, key: &W::Key) -> Option<usiz
 // How far a search may go.
 #[derive(Drop)]
 struct Search {
-    // How many states are found.
+    // How many states are found to which an order led that isn't serial.
     states: u64,
-    // How many are sought.
+    // How many others are found: one for each lane that may have given last.
+    serial: u64,
+    // How many of the former are sought at most.
     limit: u64,
     // Whether no lane was left out so far.
     is_whole: bool,
 }
 
 impl Search {
+    // Counts a state that is found.
+    fn found(&mut self, is_serial: bool)
+        ensures { self.new.is_whole ≡ self.old.is_whole }
+    {
+        if is_serial {
+            self.serial = self.serial.saturating_add(1);
+        } else {
+            self.states = self.states.saturating_add(1);
+        }
+    }
+
     // Returns whether the lane of this number, among those of a state, may be followed. Else it is
     // left out.
     fn may_follow(&mut self, number: usize) -> bool
@@ -148,7 +161,7 @@ impl Search {
         if number == 0 {
             return true;
         }
-        if self.states >= self.limit {
+        if self.states > self.limit || self.serial / 8 > self.limit {
             self.is_whole = false;
         }
         self.is_whole
@@ -259,7 +272,7 @@ fn follow_lane<W: Merge>(
     }
     let more = with_lane(alloc, order, lane)?;
     let node = node_at(alloc, walk, more, left)?;
-    search.states = search.states.saturating_add(1);
+    search.found(walk.is_serial());
     let next = None;
     let at = front.add(node, Seen { hash, key, next })?;
     Ok(at)
@@ -450,10 +463,10 @@ fn count(endings: &[Ending]) -> u128
 /// Follows every order from the start of a walk, and states of one key once. Returns the endings
 /// that the orders lead to.
 ///
-/// If the report is whole, it is that of `explore` without a limit. Once `limit` states are found,
-/// only the first order that leads on is followed from each state of a level. Then the endings are
-/// those of some orders. If orders may have more than 2,000 lines, follows each order in turn, at
-/// most `limit`.
+/// If the report is whole, it is that of `explore` without a limit. Once more than `limit` states
+/// are found, only the first order that leads on is followed from each state of a level. Then the
+/// endings are those of some orders. States after serial orders count an eighth. If orders may have
+/// more than 2,000 lines, follows each order in turn, at most `limit`.
 ///
 /// Errors: `NoMemory`.
 ///
@@ -474,7 +487,8 @@ pub fn explore_merged<W: Merge>(alloc: Global, walk: &mut W, limit: u64) -> Resu
     let mut level = Vec::new(alloc);
     level.push(first)?;
     let mut search = Search {
-        states: 1,
+        states: 0,
+        serial: 0,
         limit,
         is_whole: true,
     };

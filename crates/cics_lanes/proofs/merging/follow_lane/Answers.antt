@@ -39,7 +39,7 @@ returns g c =
         start = there.0;
         front = front_more w.lanes w.ending w.serial g.W.Merge.is_key c.args.left s old new node (record { hash = c.key_hash-hash.result; key = c.in_ok-key.key; next = None }) added.seen.0 c.requires is_node keyed added.nodes added.seen.1;
         more = (node ∷ [], added.nodes);
-        whole = λ is. is;
+        whole = λ is. sym c.found.ensures ∙ is;
       },
       leads_there w.lanes w.ending w.serial s (w.lanes.given (after w.lanes s o) l) old.nodes.items new.nodes.items node c.in_ok-at.at added.nodes added.at
           (sym (after-append w.lanes s o l) ∙ ap (after w.lanes s) (sym named)),
