@@ -1,6 +1,7 @@
 -- Literals, one byte further.
 use Rattle.std.proofs.Common.{◌≡◌, ℕ, true, false, List, [], ◌∷◌, ◌++◌, take, drop, refl, ap, sym, ◌∙◌, Some, None, append_assoc, append-nil, inl, inr}
 use Rattle.std.proofs.lemmas.Bool.{cases_Bool}
+use Rattle.std.proofs.lemmas.List.{map-append}
 use Rattle.std.proofs.Math.Numerals.{one-add}
 use Rattle.std.specs.List.{prefix_len}
 use Rattle.std.specs.Prelude.{option_map, is_some}
@@ -9,18 +10,8 @@ use Rattle.cics_script.specs.declared.literals.Encoding.{Encoding}
 use Rattle.cics_script.specs.declared.literals.Encoding.TheVariants.{AsWritten, Ebcdic}
 use Rattle.cics_script.specs.declared.literals.Notation.{Notation}
 use Rattle.cics_script.specs.declared.literals.Notation.TheVariants.{Quoted, Hexadecimal}
-use Rattle.cics_script.specs.Tokens.{Text, with_byte, characters_from, is_quote}
-use Rattle.cics_script.specs.Literals.{said, encoded, encoded_text, recorded, is_plain}
-
--- bytes in front of a text
-abbrev pub with_front : List ℕ → Text → Text
-with_front front None = None
-with_front front (Some t) = Some (front ++ t.0, t.1)
-
--- a text in an encoding
-abbrev pub coded : Encoding → Text → Text
-coded encoding None = None
-coded encoding (Some t) = Some (encoded_text encoding t.0, t.1)
+use Rattle.cics_script.specs.Tokens.{Text, with_byte, characters_from, digit_pairs, is_quote, text_in}
+use Rattle.cics_script.specs.Literals.{said, ebcdic, encoded, encoded_text, recorded, is_plain, with_front, coded}
 
 -- a byte behind the front
 with_front-byte : (front : List ℕ) (byte : ℕ) (t : Text) → with_front (front ++ byte ∷ []) t ≡ with_front front (with_byte byte t)
@@ -40,6 +31,24 @@ copied-more encoding front byte whole here after so_far step =
     with_front-byte front (encoded encoding byte) (coded encoding after)
     ∙ ap (with_front front) (sym (coded-with_byte encoding byte after) ∙ ap (coded encoding) (sym step))
     ∙ so_far
+
+-- several bytes behind the front
+with_front-front : (a b : List ℕ) (t : Text) → with_front (a ++ b) t ≡ with_front a (with_front b t)
+with_front-front a b None = refl
+with_front-front a b (Some t) = ap (λ x. Some (x, t.1)) (append_assoc a b t.0)
+
+coded-with_front : (encoding : Encoding) (front : List ℕ) (t : Text) → coded encoding (with_front front t) ≡ with_front (encoded_text encoding front) (coded encoding t)
+coded-with_front encoding front None = refl
+coded-with_front AsWritten front (Some t) = refl
+coded-with_front Ebcdic front (Some t) = ap (λ x. Some (x, t.1)) (map-append ebcdic front t.0)
+
+-- several bytes more of a literal are copied
+pub copied-run : (encoding : Encoding) (before made after : List ℕ) (here behind : Text) → here ≡ with_front made behind → after ≡ before ++ encoded_text encoding made
+    → with_front after (coded encoding behind) ≡ with_front before (coded encoding here)
+copied-run encoding before made after here behind step grown =
+    ap (λ front. with_front front (coded encoding behind)) grown
+    ∙ with_front-front before (encoded_text encoding made) (coded encoding behind)
+    ∙ ap (with_front before) (sym (coded-with_front encoding made behind) ∙ ap (coded encoding) (sym step))
 
 -- what was copied at the literal's end
 said-coded : (encoding : Encoding) (t : Text) → said (coded encoding t) ≡ encoded_text encoding (said t)
@@ -126,3 +135,19 @@ rest-none whole here so_far bad = sym (ap (option_map (λ t. t.1)) bad) ∙ so_f
 pub rest-behind : (front : List ℕ) (byte : ℕ) (whole here after : Text) → whole ≡ with_front front here → here ≡ with_byte byte after
     → option_map (λ t. t.1) after ≡ option_map (λ t. t.1) whole
 rest-behind front byte whole here after step next = rest-more byte whole here after (rest-plain front whole whole here refl step) next
+
+-- some bytes that are read at once
+pub run-quoted : (notation : Notation) (bytes plain behind : List ℕ) (n : ℕ) → notation ≡ Quoted → n ≡ prefix_len is_plain bytes → plain ≡ take n bytes → behind ≡ drop n bytes
+    → text_in notation bytes ≡ with_front plain (text_in notation behind)
+run-quoted Quoted bytes plain behind n is count front rest = characters-front bytes plain behind n count front rest
+run-quoted Hexadecimal bytes plain behind n is count front rest = cc
+
+pub run-digits : (notation : Notation) (bytes made behind : List ℕ) → notation ≡ Hexadecimal → digit_pairs bytes ≡ with_front made (digit_pairs (drop 8 bytes)) → behind ≡ drop 8 bytes
+    → text_in notation bytes ≡ with_front made (text_in notation behind)
+run-digits Quoted bytes made behind is read rest = cc
+run-digits Hexadecimal bytes made behind is read rest = read ∙ ap (λ b. with_front made (digit_pairs b)) (sym rest)
+
+-- and what follows them
+pub rest-run : (notation : Notation) (front bytes behind : List ℕ) → text_in notation bytes ≡ with_front front (text_in notation behind)
+    → option_map (λ t. t.1) (text_in notation behind) ≡ option_map (λ t. t.1) (text_in notation bytes)
+rest-run notation front bytes behind step = sym (rest-with_front front (text_in notation behind)) ∙ ap (option_map (λ t. t.1)) (sym step)

@@ -1,8 +1,9 @@
 -- The table of hexadecimal digits has at each byte what the digit is worth.
-use Rattle.std.proofs.Common.{◌≡◌, ◌<◌, ◌≤◌, ℕ, ◌==◌, Bool, true, false, get_or, refl, ap, sym, ◌∙◌, arith, Option, Some, None}
+use Rattle.std.proofs.Common.{◌≡◌, ◌<◌, ◌≤◌, ℕ, ◌==◌, Bool, true, false, List, [], ◌∷◌, length, drop, get_or, refl, ap, sym, ◌∙◌, arith, Option, Some, None}
 use Rattle.std.proofs.lemmas.Bool.Decides.{nat_tests}
 use Rattle.std.specs.Prelude.{nat_lt, if◌then◌else◌}
-use Rattle.cics_script.specs.Tokens.{hex_value}
+use Rattle.cics_script.specs.Tokens.{Text, hex_value, digit_pairs, with_byte}
+use Rattle.cics_script.specs.Literals.{with_front}
 use Rattle.cics_script.proofs.Tables.{tells, table_read}
 use Rattle.cics_script.specs.declared.literals.TheConstants.{DIGITS}
 
@@ -41,3 +42,20 @@ hex_value-some n at same within small =
 pub hex_value-none : (n at : ℕ) → at ≡ n → n < 256 → 16 ≤ get_or DIGITS at 0 → None ≡ hex_value n
 hex_value-none n at same within large =
     sym (no-digit (get_or DIGITS at 0) large) ∙ ap (λ i. digit (get_or DIGITS i 0)) same ∙ digit-DIGITS n within
+
+-- eight digits, read two by two, are read as four bytes
+pub pairs-read : (bytes : List ℕ) (a b c d : ℕ) → 8 ≤ length bytes
+    → ((rest : List ℕ) → digit_pairs (get_or bytes 0 0 ∷ get_or bytes 1 0 ∷ rest) ≡ with_byte a (digit_pairs rest))
+    → ((rest : List ℕ) → digit_pairs (get_or bytes 2 0 ∷ get_or bytes 3 0 ∷ rest) ≡ with_byte b (digit_pairs rest))
+    → ((rest : List ℕ) → digit_pairs (get_or bytes 4 0 ∷ get_or bytes 5 0 ∷ rest) ≡ with_byte c (digit_pairs rest))
+    → ((rest : List ℕ) → digit_pairs (get_or bytes 6 0 ∷ get_or bytes 7 0 ∷ rest) ≡ with_byte d (digit_pairs rest))
+    → digit_pairs bytes ≡ with_front (a ∷ b ∷ c ∷ d ∷ []) (digit_pairs (drop 8 bytes))
+pairs-read (x0 ∷ x1 ∷ x2 ∷ x3 ∷ x4 ∷ x5 ∷ x6 ∷ x7 ∷ rest) a b c d within one two three four =
+    one (x2 ∷ x3 ∷ x4 ∷ x5 ∷ x6 ∷ x7 ∷ rest)
+    ∙ ap (with_byte a) (two (x4 ∷ x5 ∷ x6 ∷ x7 ∷ rest) ∙ ap (with_byte b) (three (x6 ∷ x7 ∷ rest) ∙ ap (with_byte c) (four rest)))
+    ∙ fronts (digit_pairs rest)
+  where
+    fronts : (t : Text) → with_byte a (with_byte b (with_byte c (with_byte d t))) ≡ with_front (a ∷ b ∷ c ∷ d ∷ []) t
+    fronts None = refl
+    fronts (Some t) = refl
+pairs-read bytes a b c d within one two three four = absurd (omega (arith, within))

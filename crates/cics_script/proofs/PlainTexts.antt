@@ -32,15 +32,21 @@ text_of-plain bytes all =
     let both = all-plain bytes all in
     rw (both.1, both.0) refl
 
+-- bytes put behind others, then others over them
+pub put-over : (f : ℕ → ℕ) (front bytes items text : List ℕ) (start n : ℕ) → start ≡ length front → items ≡ front ++ bytes
+    → text ≡ take start items ++ map f bytes → n ≡ length items → take n (text ++ drop (length text) items) ≡ front ++ map f bytes
+put-over f front bytes items text start n from here put count =
+    let before : take start items ≡ front = ap (λ i. take i items) from ∙ ap (take (length front)) here ∙ take_at front bytes _ refl in
+    let whole : text ≡ front ++ map f bytes = put ∙ ap (λ x. x ++ map f bytes) before in
+    let size : length text ≡ length items =
+    ap length whole ∙ length-append front (map f bytes) ∙ ap (λ k. length front + k) (length-map bytes f)
+    ∙ sym (ap length here ∙ length-append front bytes) in
+    ap (λ k. take k (text ++ drop (length text) items)) (count ∙ sym size) ∙ take_at text (drop (length text) items) _ refl ∙ whole
+
 -- such a text put behind others, over its codes
 pub put-plain : (out bytes items text : List ℕ) (start n : ℕ) → start ≡ length (out ++ 39 ∷ []) → items ≡ (out ++ 39 ∷ []) ++ bytes
     → text ≡ take start items ++ map plain bytes → n ≡ length items
     → take n (text ++ drop (length text) items) ++ 39 ∷ [] ≡ out ++ (codes "'" ++ (map plain bytes ++ codes "'"))
 put-plain out bytes items text start n from here put count =
-    let front : take start items ≡ out ++ 39 ∷ [] = ap (λ i. take i items) from ∙ ap (take (length (out ++ 39 ∷ []))) here ∙ take_at (out ++ 39 ∷ []) bytes _ refl in
-    let whole : text ≡ (out ++ 39 ∷ []) ++ map plain bytes = put ∙ ap (λ f. f ++ map plain bytes) front in
-    let size : length text ≡ length items =
-    ap length whole ∙ length-append (out ++ 39 ∷ []) (map plain bytes) ∙ ap (λ k. length (out ++ 39 ∷ []) + k) (length-map bytes plain)
-    ∙ sym (ap length here ∙ length-append (out ++ 39 ∷ []) bytes) in
-    let cut : take n (text ++ drop (length text) items) ≡ text = ap (λ k. take k (text ++ drop (length text) items)) (count ∙ sym size) ∙ take_at text (drop (length text) items) _ refl in
-    ap (λ f. f ++ 39 ∷ []) (cut ∙ whole) ∙ append_assoc (out ++ 39 ∷ []) (map plain bytes) (39 ∷ []) ∙ append_assoc out (39 ∷ []) (map plain bytes ++ 39 ∷ [])
+    ap (λ f. f ++ 39 ∷ []) (put-over plain (out ++ 39 ∷ []) bytes items text start n from here put count)
+    ∙ append_assoc (out ++ 39 ∷ []) (map plain bytes) (39 ∷ []) ∙ append_assoc out (39 ∷ []) (map plain bytes ++ 39 ∷ [])

@@ -1,5 +1,5 @@
 -- What a literal says, and the record of it.
-use Rattle.std.specs.Prelude.{◌≡◌, ◌<◌, ◌&&◌, ℕ, Bool, not, List, [], map, length, Some, None, unwrap_or, is_some}
+use Rattle.std.specs.Prelude.{◌≡◌, ◌<◌, ◌&&◌, ℕ, Bool, not, List, [], ◌++◌, map, length, Some, None, unwrap_or, is_some}
 use Rattle.cics_names.specs.Ebcdic.{code_of}
 use Rattle.cics_names.specs.Names.{blank}
 use Rattle.cics_script.specs.Tokens.{Text, with_byte, is_quote, text_in}
@@ -28,6 +28,16 @@ encoded Ebcdic c = ebcdic c
 abbrev pub encoded_text : Encoding → List ℕ → List ℕ
 encoded_text AsWritten text = text
 encoded_text Ebcdic text = map ebcdic text
+
+-- bytes in front of a text
+abbrev pub with_front : List ℕ → Text → Text
+with_front front None = None
+with_front front (Some t) = Some (front ++ t.0, t.1)
+
+-- a text in an encoding, and what follows it
+abbrev pub coded : Encoding → Text → Text
+coded encoding None = None
+coded encoding (Some t) = Some (encoded_text encoding t.0, t.1)
 
 -- the record that a literal says: the codes of its characters, or its bytes
 abbrev pub recorded : Notation → List ℕ → List ℕ

@@ -4,11 +4,12 @@
 //! character is *plain* if it stands for itself in a quoted literal: it has an EBCDIC code, and is
 //! no quote.
 
-ghost use Rattle.std.specs.Prelude.{◌≡◌, ◌≤◌, true, IfOk, IfSome, length, option_map, take};
+ghost use Rattle.std.specs.Prelude.{◌≡◌, ◌≤◌, ◌+◌, true, ℕ, List, [], ◌∷◌, ◌++◌, IfOk, IfSome};
+ghost use Rattle.std.specs.Prelude.{OnOk, OnSome, drop, length, option_map, take};
 ghost use Rattle.std.specs.List.{list_all, prefix_len};
-ghost use Rattle.cics_script.specs.Tokens.{is_quote, hex_value, text_in};
+ghost use Rattle.cics_script.specs.Tokens.{is_quote, hex_value, digit_pairs, with_byte, text_in};
 ghost use Rattle.cics_script.specs.Literals.{Begins, is_plain, said, encoded, encoded_text};
-ghost use Rattle.cics_script.specs.Literals.{recorded, IsWrittenAs};
+ghost use Rattle.cics_script.specs.Literals.{recorded, IsWrittenAs, with_front, coded};
 
 use cics_names::{NoMemory, Record, to_ebcdic};
 use std::alloc::{AllocError, Global};
@@ -220,13 +221,13 @@ fn encoded_byte(encoding: Encoding, byte: u8) -> u8
     }
 }
 
-// Replaces a text by the EBCDIC codes of as many characters.
-fn put_codes(text: &mut [u8], plain: &[u8])
-    requires { length text.old ≡ length plain.now }
-    ensures { text.new ≡ encoded_text Encoding.Ebcdic plain.now }
+// Replaces the end of a text, from `start` on, by the EBCDIC codes of as many characters.
+fn put_codes(text: &mut [u8], start: usize, plain: &[u8])
+    requires { start + length plain.now ≡ length text.old }
+    ensures { text.new ≡ take start text.old ++ encoded_text Encoding.Ebcdic plain.now }
 {
     for (i, byte) in plain.iter().enumerate() {
-        text[i] = encoded_byte(Encoding::Ebcdic, *byte);
+        text[start + i] = encoded_byte(Encoding::Ebcdic, *byte);
     }
 }
 
@@ -240,8 +241,23 @@ fn short_record(alloc: Global, plain: &[u8]) -> Result<Record, NoMemory>
 {
     let mut room = [0; SHORT];
     let codes = &mut room[..plain.len()];
-    put_codes(codes, plain);
+    put_codes(codes, 0, plain);
     Record::from_slice(alloc, codes)
+}
+
+// Appends plain characters.
+fn push_plain(text: &mut Vec<u8>, encoding: Encoding, plain: &[u8]) -> Result<(), AllocError>
+    ensures { OnOk result (text.new.items ≡ text.old.items ++ encoded_text encoding plain.now) }
+{
+    let start = text.len();
+    text.extend_from_slice(plain)?;
+    match encoding {
+        Encoding::AsWritten => Ok(()),
+        Encoding::Ebcdic => {
+            put_codes(text, start, plain);
+            Ok(())
+        }
+    }
 }
 
 // Returns a copy of plain characters.
@@ -249,11 +265,82 @@ fn copy_plain(alloc: Global, encoding: Encoding, plain: &[u8]) -> Result<Vec<u8>
     ensures { IfOk result (λ text. text.items ≡ encoded_text encoding plain.now) }
 {
     let mut text = Vec::new(alloc);
-    text.extend_from_slice(plain)?;
-    if encoding == Encoding::Ebcdic {
-        put_codes(&mut text, plain);
-    }
+    push_plain(&mut text, encoding, plain)?;
     Ok(text)
+}
+
+// Returns the byte that two hexadecimal digits make, or `None` if they are no digits.
+fn pair_of(first: u8, second: u8) -> Option<u8>
+    ensures { IfSome result (λ byte. (rest : List ℕ) →
+        digit_pairs (first ∷ second ∷ rest) ≡ with_byte byte (digit_pairs rest)) }
+{
+    let high = hex_digit(first)?;
+    let low = hex_digit(second)?;
+    Some(high * 16 + low)
+}
+
+// How many hexadecimal digits are read at once: a run of them.
+const DIGITS_AT_ONCE: usize = 8;
+
+// Returns the four bytes that the first eight digits make, or `None` if the bytes don't begin with
+// so many.
+fn first_pairs(bytes: &[u8]) -> Option<(u8, u8, u8, u8)>
+    ensures read { IfSome result (λ made. digit_pairs bytes.now
+        ≡ with_front (made.0 ∷ made.1 ∷ made.2 ∷ made.3 ∷ []) (digit_pairs (drop 8 bytes.now))) }
+    ensures within { OnSome result (8 ≤ length bytes.now) }
+{
+    let [a, b, c, d, e, f, g, h, ..] = bytes else {
+        return None;
+    };
+    let first = pair_of(*a, *b)?;
+    let second = pair_of(*c, *d)?;
+    let third = pair_of(*e, *f)?;
+    let fourth = pair_of(*g, *h)?;
+    Some((first, second, third, fourth))
+}
+
+// Returns what follows the pieces of a literal that are read at once: its plain characters, or a
+// run of its digits.
+fn behind_run(notation: Notation, bytes: &[u8]) -> &[u8]
+    ensures rest { option_map (λ t. t.1) (text_in notation result.now)
+        ≡ option_map (λ t. t.1) (text_in notation bytes.now) }
+    ensures within { length result.now ≤ length bytes.now }
+{
+    match notation {
+        Notation::Quoted => bytes.split_at(plain_len(bytes)).1,
+        Notation::Hexadecimal => match first_pairs(bytes) {
+            Some(_) => bytes.split_at(DIGITS_AT_ONCE).1,
+            None => bytes,
+        },
+    }
+}
+
+// Appends what the same pieces say, and returns what follows them.
+fn push_run<'a>(
+    text: &mut Vec<u8>,
+    encoding: Encoding,
+    notation: Notation,
+    bytes: &'a [u8],
+) -> Result<&'a [u8], AllocError>
+    ensures read { IfOk result (λ rest. with_front text.new.items
+        (coded encoding (text_in notation rest.now))
+        ≡ with_front text.old.items (coded encoding (text_in notation bytes.entry.now))) }
+    ensures within { IfOk result (λ rest. length rest.now ≤ length bytes.entry.now) }
+{
+    match notation {
+        Notation::Quoted => {
+            let (plain, rest) = bytes.split_at(plain_len(bytes));
+            push_plain(text, encoding, plain)?;
+            Ok(rest)
+        }
+        Notation::Hexadecimal => match first_pairs(bytes) {
+            Some((first, second, third, fourth)) => {
+                push_plain(text, encoding, &[first, second, third, fourth])?;
+                Ok(bytes.split_at(DIGITS_AT_ONCE).1)
+            }
+            None => Ok(bytes),
+        },
+    }
 }
 
 // Returns what follows a literal, or `None` if the bytes are no literal. They begin after its first
@@ -265,7 +352,7 @@ fn behind_pieces(notation: Notation, bytes: &[u8]) -> Option<&[u8]>
 {
     let mut rest = bytes;
     'pieces: loop {
-        match next_piece(notation, rest) {
+        match next_piece(notation, behind_run(notation, rest)) {
             Piece::Byte(_, after) => rest = after,
             Piece::End(after) => return Some(after),
             Piece::Bad => return None,
@@ -288,7 +375,8 @@ fn copy_pieces(
     let mut text = Vec::new(alloc);
     let mut rest = bytes;
     'pieces: loop {
-        match next_piece(notation, rest) {
+        let behind = push_run(&mut text, encoding, notation, rest)?;
+        match next_piece(notation, behind) {
             Piece::Byte(byte, after) => {
                 text.push(encoded_byte(encoding, byte))?;
                 rest = after;

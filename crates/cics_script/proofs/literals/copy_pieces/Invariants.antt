@@ -1,6 +1,6 @@
 use Rattle.std.proofs.Common.{◌≡◌, length}
 use Rattle.cics_script.specs.Tokens.{text_in}
-use Rattle.cics_script.proofs.Copies.{with_front, coded}
+use Rattle.cics_script.specs.Literals.{with_front, coded}
 use Rattle.cics_script.proofs.literals.copy_pieces.Given as goal
 
 abbrev pub invariant-pieces : goal.invariant-pieces
