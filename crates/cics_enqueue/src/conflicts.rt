@@ -14,7 +14,8 @@ ghost use Rattle.cics_ksds.specs.Prefixes.{has_prefix};
 ghost use Rattle.cics_history.specs.Holding.{is_other};
 ghost use Rattle.cics_enqueue.specs.Table.{first_of};
 
-use crate::compact::{KEY, PREFIX, file_bytes, held_under};
+use crate::borrowed::ResourceRef;
+use crate::compact::{KEY, PREFIX, file_bytes, held, held_under};
 use crate::enqueues::Holding;
 use cics_history::UnitId;
 use cics_keys::Key;
@@ -185,7 +186,8 @@ impl<'t> Search<'t> {
             (others_unit self.now.asker
             (lookup (finds (0 ∷ length file ∷ (file ++ key.now))) self.now.table.now.entries))) }
     {
-        let holder = self.other_holder(bound, file_bytes(KEY, file, key).as_slice());
+        let held_key = held(self.table, bound, &ResourceRef::record(file, key));
+        let holder = other_unit(held_key, &self.asker);
         if !has_prefixes(self.table) {
             return holder;
         }
@@ -196,6 +198,7 @@ impl<'t> Search<'t> {
         if holder.is_some() {
             return holder;
         }
-        self.other_holder(bound, file_bytes(PREFIX, file, key).as_slice())
+        let held_prefix = held(self.table, bound, &ResourceRef::prefix(file, key));
+        other_unit(held_prefix, &self.asker)
     }
 }
