@@ -1,10 +1,10 @@
 //! A key-sequenced file.
 
-ghost use Rattle.std.specs.Prelude.{◌≡◌, ◌+◌, ◌*◌, ◌≤◌, [], true, length};
+ghost use Rattle.std.specs.Prelude.{◌≡◌, ◌+◌, ◌*◌, ◌≤◌, [], true, false, length};
 ghost use Rattle.std.specs.Prelude.{IfOk, IfSome, OnOk, OnErr, IsTrue};
 ghost use Rattle.cics_names.specs.declared.conditions.Condition.TheVariants.{Normal};
 ghost use Rattle.std.specs.Option.{option_copied, option_map};
-ghost use Rattle.cics_names.specs.Keyed.{value_at};
+ghost use Rattle.cics_names.specs.Keyed.{value_at, has_key};
 ghost use Rattle.cics_ksds.specs.Files.{entry_of, fits_file, first_from, last_to, key_for, swept};
 
 use crate::FileDef;
@@ -157,7 +157,7 @@ impl File {
     /// the definition.
     ///
     /// With `keep` a NORMAL answer has the image that undoes the write. The only error is
-    /// `NoMemory`, for the slot or for the image.
+    /// `NoMemory`, for the slot or for the image of a key that has no record.
     pub fn write(&mut self, content: Record, keep: bool) -> Result<Changed<FileImage>, NoMemory>
         requires { IsTrue (fits_file self.old.definition content) }
         ensures condition { IfOk result (λ changed. changed.condition
@@ -169,6 +169,8 @@ impl File {
             (IsFileImage self.old self.new (key_for self.old content))) }
         ensures others { KeepsKeys (is_other (key_for self.old content)) self.old self.new }
         ensures err { OnErr result (self.new ≡ self.old) }
+        ensures refused { OnErr result
+            (has_key (key_for self.old content) self.old.records ≡ false) }
     {
         let definition = self.definition;
         let key = definition.key_in(content.bytes());

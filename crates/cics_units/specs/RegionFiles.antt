@@ -1,6 +1,6 @@
 -- The files of a region, by name, and those of an opening.
-use Rattle.std.specs.Prelude.{◌≡◌, true, IsTrue, T, All, Option, Some, None, [], map, fold}
-use Rattle.cics_names.specs.Keyed.{Bytes, Map, with_value, is_rising}
+use Rattle.std.specs.Prelude.{◌≡◌, Bool, true, false, IsTrue, T, All, Option, Some, None, [], map, fold}
+use Rattle.cics_names.specs.Keyed.{Bytes, Map, has_key, with_value, is_rising}
 use Rattle.cics_ksds.specs.Files.{FileValue, IsContent, key_of, fits_file, written}
 use Rattle.cics_history.specs.State.{FileOpening}
 use Rattle.cics_history.specs.Openings.{is_key}
@@ -9,6 +9,11 @@ use Rattle.cics_history.specs.Openings.{is_key}
 abbrev pub IsFitFor : Option FileValue → Bytes → Type 0
 IsFitFor None r = ⊥
 IsFitFor (Some f) r = IsTrue (fits_file f.definition r)
+
+-- whether a file has the key of a record
+abbrev pub has_key_of : Option FileValue → Bytes → Bool
+has_key_of None r = false
+has_key_of (Some f) r = has_key (key_of f.definition r) f.records
 
 -- a file is there
 abbrev pub IsThere : Option FileValue → Type 0

@@ -5,8 +5,8 @@ ghost use Rattle.cics_units.specs.QueueChanges.{is_temp};
 ghost use Rattle.cics_names.specs.Keyed.{value_at};
 ghost use Rattle.cics_images.specs.NamedValues.{changed_at};
 ghost use Rattle.cics_history.specs.Openings.{is_record_size, is_key};
-ghost use Rattle.cics_units.specs.Faults.{fault_number};
-ghost use Rattle.cics_units.specs.RegionFiles.{IsFitFor, written_in};
+ghost use Rattle.cics_units.specs.Faults.{AnswersFault, fault_if, fault_number};
+ghost use Rattle.cics_units.specs.RegionFiles.{IsFitFor, has_key_of, written_in};
 ghost use Rattle.cics_units.specs.RegionQueues.{loaded_with};
 
 use crate::files::Files;
@@ -14,7 +14,7 @@ use crate::prefixes::{has_prefix_in, is_defined};
 use crate::queues::Queues;
 use cics_history::Op;
 use cics_ksds::{File, FileDef};
-use cics_names::{Items, Name4, Name8, NoMemory, Record};
+use cics_names::{Condition, Items, Name4, Name8, NoMemory, Record};
 use cics_transdata::{Recovery, TransQueue};
 use std::alloc::Global;
 use std::marker::Model;
@@ -80,15 +80,22 @@ fn is_key(definition: FileDef) -> bool
         && definition.key_offset <= definition.record_size - definition.key_length
 }
 
-/// Writes a loaded record to the file of a name. No unit of work ever undoes that.
-fn write_loaded(files: &mut Files, name: &Name8, content: Record) -> Result<(), NoMemory>
+/// Writes a loaded record to the file of a name, unless its key is there. No unit of work ever
+/// undoes that.
+fn write_loaded(files: &mut Files, name: &Name8, content: Record) -> Result<(), DefineFault>
     requires { IsFitFor (value_at name.now files.old) content }
+    ensures fault { AnswersFault result
+        (fault_if (has_key_of (value_at name.now files.old) content)) }
     ensures files { OnOk result (files.new
         ≡ written_in files.old name.now content (value_at name.now files.old)) }
     ensures err { OnErr result (files.new ≡ files.old) }
 {
-    files.at_mut(name).write(content, false)?;
-    Ok(())
+    let changed = files.at_mut(name).write(content, false)?;
+    if changed.condition == Condition::Normal {
+        Ok(())
+    } else {
+        Err(DefineFault::Duplicate)
+    }
 }
 
 /// Adds a loaded record to the queue of a name, as the last one. It counts as committed, and no
@@ -150,8 +157,7 @@ impl Opening {
     ghost use Rattle.cics_history.specs.Openings.{HasLawfulKeys, IsOpeningInOrder};
     ghost use Rattle.cics_history.specs.Store.{is_recoverable};
     ghost use Rattle.cics_history.specs.State.{file_recoverable, has_prefix_in, queue_logical};
-    ghost use Rattle.cics_units.specs.Faults.{AnswersFault, file_fault, load_fault};
-    ghost use Rattle.cics_units.specs.Faults.{fault_if, load_td_fault};
+    ghost use Rattle.cics_units.specs.Faults.{file_fault, load_fault, load_td_fault};
     ghost use Rattle.cics_units.specs.RegionFiles.{opened_files, AreLoaded};
     ghost use Rattle.cics_units.specs.RegionQueues.{opened_queues};
     ghost use Rattle.cics_units.specs.Listings.{recovery_in, defined_files, defined_queues};
@@ -209,15 +215,10 @@ impl Opening {
         let Some(file) = self.files.get(&name) else {
             return Err(DefineFault::NotThere);
         };
-        let definition = file.definition();
-        if !definition.fits(content.bytes()) {
+        if !file.definition().fits(content.bytes()) {
             return Err(DefineFault::BadLength);
         }
-        if file.read(definition.key_in(content.bytes())).is_some() {
-            return Err(DefineFault::Duplicate);
-        }
-        write_loaded(&mut self.files, &name, content)?;
-        Ok(())
+        write_loaded(&mut self.files, &name, content)
     }
 
     /// Defines a prefix: temporary storage queues whose names begin with it are recoverable. The

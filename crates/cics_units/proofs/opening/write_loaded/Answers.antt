@@ -1,7 +1,10 @@
-use Rattle.std.proofs.Common.{◌∙◌, ap, sym}
+use Rattle.std.proofs.Common.{◌≡◌, Bool, true, false, refl, ◌∙◌, ap, sym, subst, Some, Ok, Err}
+use Rattle.std.specs.Prelude.{if◌then◌else◌}
 use Rattle.std.proofs.lemmas.Result.{err_from_is_err_and}
 use Rattle.cics_names.specs.Keyed.{with_value}
-use Rattle.cics_units.specs.RegionFiles.{written_in}
+use Rattle.cics_names.specs.declared.conditions.Condition.TheVariants.{Normal, Duprec}
+use Rattle.cics_units.specs.Faults.{AnswersFault, fault_if}
+use Rattle.cics_units.specs.RegionFiles.{has_key_of, written_in}
 use Rattle.cics_units.proofs.Changing.{all_stay}
 use Rattle.cics_units.proofs.opening.write_loaded.Goals as goal
 
@@ -10,6 +13,6 @@ returns-in_err-write-clause-err c =
     let p = err_from_is_err_and c.from_residual.result c.from_residual.ensures.1 in
     rw p.1 (all_stay c.args.name.now c.at_mut.result.now c.write.new.self c.args.files.now c.at_mut.ensures.in_order c.at_mut.ensures.value c.in_err-write.ensures.err)
 
-pub returns-clause-files : goal.returns-clause-files
-returns-clause-files c = ap (λ f. with_value c.args.name.now f c.args.files.now) c.in_ok-write.ensures.value
+pub returns-in-Normal-clause-files : goal.returns-in-Normal-clause-files
+returns-in-Normal-clause-files c = ap (λ f. with_value c.args.name.now f c.args.files.now) c.in_ok-write.ensures.value
     ∙ ap (written_in c.args.files.now c.args.name.now c.args.content) (sym c.at_mut.ensures.value)
