@@ -18,3 +18,4 @@ pub mod Carried
 pub mod Ends
 pub mod InPlace
 pub mod Records
+pub mod Packed

@@ -7,7 +7,8 @@ use Rattle.cics_names.specs.Keyed.{Bytes, Map, value_at}
 use Rattle.cics_ksds.specs.declared.definition.FileDef.{FileDef}
 use Rattle.cics_transdata.specs.declared.queues.Recovery.{Recovery}
 use Rattle.cics_transdata.specs.declared.queues.Recovery.TheVariants.{Logical, Physical, Unrecovered}
-use Rattle.cics_history.specs.declared.ops.Entry.{Entry}
+use Rattle.cics_history.specs.declared.ops.Answer.{Answer}
+use Rattle.cics_history.specs.declared.ops.Op.{Op}
 use Rattle.cics_history.specs.declared.ops.UnitState.{UnitState}
 
 -- ---- What a region opens with
@@ -77,6 +78,13 @@ initial_store o = record { files = map (λ e. (e.0, e.1.records)) o.files; ts = 
 
 -- ---- The units
 
+-- an executed command: its unit, what it asked for, and what it was answered. Other files call it
+-- `Entry`, by the type that packs it
+pub record EntryValue : Type 0 where
+  pub unit : ℕ
+  pub op : Op
+  pub answer : Answer
+
 -- a record that a unit has read for update
 pub record UpdateRead : Type 0 where
   pub unit : ℕ
@@ -99,7 +107,7 @@ pub record EnqCount : Type 0 where
 -- - the NEXT cursors that aren't 0, by queue
 pub record UnitsState : Type 0 where
   pub opening : OpeningState
-  pub trace : List Entry
+  pub trace : List EntryValue
   pub outcomes : List UnitState
   pub commits : List ℕ
   pub reads : List UpdateRead

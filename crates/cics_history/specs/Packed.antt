@@ -1,0 +1,37 @@
+-- How an entry of the history is packed: its kind with the name, one text, and one number.
+use Rattle.std.specs.Prelude.{◌≡◌, ℕ, ◌+◌, ◌≤◌, Option, None, IfSome, length, take, drop}
+use Rattle.cics_names.specs.Keyed.{Bytes}
+use Rattle.cics_history.specs.declared.ops.Kind.{Kind}
+use Rattle.cics_history.specs.declared.ops.Kind.TheVariants as kind
+use Rattle.cics_history.specs.declared.ops.Op.{Op}
+use Rattle.cics_history.specs.declared.ops.Op.TheVariants.{Write, Rewrite, Delete, DeleteGeneric, ReadUpdate, TsWrite, TsRewrite, TsDelete, TdWrite, TdRead, TdDelete}
+
+-- the command of a kind, with this key in its record, this text, and this number
+abbrev pub op_of : Kind → (key text : Bytes) → ℕ → Op
+op_of (kind.Write f) key text n = Write f key text
+op_of (kind.Rewrite f) key text n = Rewrite f key text
+op_of (kind.Delete f) key text n = Delete f text
+op_of (kind.DeleteGeneric f) key text n = DeleteGeneric f text
+op_of (kind.ReadUpdate f) key text n = ReadUpdate f key
+op_of (kind.TsWrite q) key text n = TsWrite q text
+op_of (kind.TsRewrite q) key text n = TsRewrite q n text
+op_of (kind.TsDelete q) key text n = TsDelete q
+op_of (kind.TdWrite q) key text n = TdWrite q text
+op_of (kind.TdRead q) key text n = TdRead q
+op_of (kind.TdDelete q) key text n = TdDelete q
+
+-- a key lies in a record: it is as many bytes of it, from some place on
+pub record LiesIn (key record_bytes : Bytes) : Type 0 where
+  pub at : ℕ
+  pub within : at + length key ≤ length record_bytes
+  pub same : take (length key) (drop at record_bytes) ≡ key
+
+-- a command and its answer that one text and one number can tell: a key lies in the record beside
+-- it, and of the answer there is no other record and no other number
+abbrev pub IsPackable : Op → Option Bytes → Option ℕ → Type 0
+IsPackable (Write f k r) content n = LiesIn k r × (content ≡ None) × (n ≡ None)
+IsPackable (Rewrite f k r) content n = LiesIn k r × (content ≡ None) × (n ≡ None)
+IsPackable (ReadUpdate f k) content n = IfSome content (LiesIn k) × (n ≡ None)
+IsPackable (TsRewrite q m d) content n = (content ≡ None) × IfSome n (λ x. m ≡ x)
+IsPackable (TdRead q) content n = Unit {0}
+IsPackable op content n = content ≡ None
