@@ -32,13 +32,6 @@ fn was_backed_out(outcomes: &[UnitState], unit: UnitId) -> bool
     }
 }
 
-/// Returns whether an entry survives.
-fn entry_is_kept(opening: &Opening, outcomes: &[UnitState], entry: &Entry) -> bool
-    ensures { result ≡ is_kept opening.now outcomes.now entry.now }
-{
-    !(opening.is_recoverable(&entry.op) && was_backed_out(outcomes, entry.unit))
-}
-
 /// Applies an entry, if it survives.
 fn replay_entry(
     store: &mut PlainStore,
@@ -50,10 +43,11 @@ fn replay_entry(
         then (apply store.old entry.now.op).store
         else store.old)) }
 {
-    if !entry_is_kept(opening, outcomes, entry) {
+    let op = entry.op()?;
+    if opening.is_recoverable(&op) && was_backed_out(outcomes, entry.unit()) {
         return Ok(());
     }
-    store.apply(&entry.op)
+    store.apply(&op)
 }
 
 /// Returns what the files and queues hold at the end of a history.

@@ -18,6 +18,7 @@ pub mod UsesInTable
 pub mod TableInPlace
 pub mod TableValues
 mod KeptUnits
+pub mod Packable
 mod ShownUnits
 mod Enqueuing
 pub mod StoreMatched

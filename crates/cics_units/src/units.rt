@@ -306,15 +306,12 @@ impl Units {
         self.trace.reserve(1)?;
         reserve_unit(&mut self.outcomes, &mut self.commits)?;
         let answer = self.core.execute(acting, &bound, content.as_ref())?;
-        let entry = Entry {
-            unit: acting,
-            op,
-            answer: Answer {
-                condition: answer.condition,
-                content,
-                number: answer.number,
-            },
+        let noted = Answer {
+            condition: answer.condition,
+            content,
+            number: answer.number,
         };
+        let entry = Entry::pack(self.alloc, acting, op, noted);
         enter(&mut self.trace, &mut self.outcomes, begins, entry);
         Ok(Submitted::Answered(acting, answer))
     }

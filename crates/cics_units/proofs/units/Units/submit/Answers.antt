@@ -5,7 +5,8 @@ use Rattle.cics_history.specs.Serial.{IsSerializable}
 use Rattle.cics_history.specs.State.{UnitsState}
 use Rattle.cics_history.proofs.Ready.{ready_short}
 use Rattle.cics_history.specs.Records.{file_of}
-use Rattle.cics_history.specs.Store.{is_recoverable}
+use Rattle.cics_history.specs.Store.{is_recoverable, apply}
+use Rattle.cics_history.specs.Packed.{IsPackable}
 use Rattle.cics_history.specs.declared.ops.Op.{Op}
 use Rattle.cics_history.specs.declared.ops.Entry.{Entry}
 use Rattle.cics_history.specs.declared.ops.Done.TheVariants.{Answered}
@@ -16,6 +17,7 @@ use Rattle.cics_units.specs.Uses.{uses_if, AreFreeFor}
 use Rattle.cics_units.specs.Parts.{CoreValue}
 use Rattle.cics_units.specs.Executed.{IsExecuted}
 use Rattle.cics_units.proofs.AppliedKept.{given_own, seen_own}
+use Rattle.cics_units.proofs.Packable.{packable}
 use Rattle.cics_units.proofs.KeptUnits.{kept_headline, kept_serializable, ready_fits}
 use Rattle.cics_units.proofs.ShownUnits.{acts_of, in_lists, none_open_of, refused_kept, with_len, in_way, waits, waits_unchanged, waits_open, free_way, seen_way, parts_state, parts_kept, record_given, answered, IsAsked, asked as asked_of}
 use Rattle.cics_units.proofs.units.Units.submit.Goals as goal
@@ -164,6 +166,24 @@ execute-requires-clause-none_open c = λ read.
 pub execute-requires-clause-short : goal.execute-requires-clause-short
 execute-requires-clause-short c = c.self.invariant.0.table.keys
 
+-- the command can be packed with its answer
+pub pack-entry-requires : goal.pack-entry-requires
+pack-entry-requires c =
+    let u = c.self.inside in
+    let at = (goal.at.pack-entry-requires c).After-blocker in
+    let ready : is_ready_op (before at) c.args.unit c.args.op ≡ true = subst (λ v. is_ready_op v.state c.args.unit c.args.op ≡ true) (sym c.self.view_is) c.requires.ready in
+    let fit = ready_fits (before at) (core at).stores (core at).table c.self.invariant.0 c.args.unit (op at) (known at).ready in
+    let done = c.in_ok-answer.ensures.executed in
+    let told : c.in_ok-answer.answer ≡ (apply (shown_store u.core.store) (op at)).answer =
+    done.done.applied.answered ∙ ap (λ m. (apply (shown_store m) (op at)).answer) done.room.store in
+    record {
+      packable = subst (λ o. IsPackable o c.in_ok-content.content c.in_ok-answer.answer.number) c.bind-bound.ensures.op
+          (subst (λ n. IsPackable (op at) c.in_ok-content.content n) (sym (ap (λ a. a.number) told))
+          (subst (λ x. IsPackable (op at) x (apply (shown_store u.core.store) (op at)).answer.number) (sym c.in_ok-content.ensures)
+          (packable u.core.store c.bind-bound.result.own (op at) c.bind-bound.result.recoverable fit c.bind-bound.ensures.bound.bound)));
+      short = ready_short (before at) c.args.unit c.args.op c.self.invariant.0.lawful_keys ready;
+    }
+
 -- ---- it is executed
 module _ (c : After-enter)
     (asked : IsAsked c.self.inside.opening c.self.inside.trace.items c.self.inside.outcomes.items c.self.inside.commits.items (core_value c.self.inside.core) c.args.unit c.bind-bound.result c.unit_or_next-acting.result c.blocker.result) where
@@ -197,7 +217,7 @@ module _ (c : After-enter)
   entry = record { unit = unit_or_next c.args.unit c.self.inside.outcomes.items; op = done_op; answer = c.in_ok-answer.answer }
 
   trace : c.enter.new.trace.items ≡ c.self.inside.trace.items ++ entry ∷ []
-  trace = c.enter.ensures.trace ∙ (λ i. c.reserve.ensures.items i ++ record {
+  trace = c.enter.ensures.trace ∙ (λ i. c.reserve.ensures.items i ++ c.pack-entry.ensures i ∷ []) ∙ (λ i. c.self.inside.trace.items ++ record {
     unit = asked.acting i;
     op = sym c.bind-bound.ensures.op i;
     answer = record { condition = c.in_ok-answer.answer.condition; content = given i; number = c.in_ok-answer.answer.number };
