@@ -2,7 +2,7 @@
 
 ghost use Rattle.std.specs.Prelude.{◌≡◌, ◌++◌, ◌<◌, ◌&&◌, ℕ, OnOk, IfOk, length};
 ghost use Rattle.cics_history.specs.Store.{is_normal, is_recoverable};
-ghost use Rattle.cics_listing.specs.Serial.{unit_label, unit_command_line, verb_for, entry_lines};
+ghost use Rattle.cics_listing.specs.Serial.{unit_label, unit_command_line, verb_for};
 ghost use Rattle.cics_listing.specs.Serial.{done_lines, unlock_line};
 ghost use Rattle.cics_listing.specs.UnitLines.{lines_at, lines_added};
 
@@ -36,21 +36,22 @@ fn gather(
     ensures { OnOk result ((unit : ℕ) → lines_at rows.new.items unit
         ≡ lines_at rows.old.items unit ++ lines_added opening.now entry.now unit) }
 {
-    if !is_done(opening, entry) {
+    let op = entry.op()?;
+    if !is_done(opening, entry.condition(), &op) {
         return Ok(());
     }
-    let at = entry.unit.number() as usize;
+    let unit = entry.unit();
+    let at = unit.number() as usize;
     grow(rows, alloc, at)?;
-    push_entry(&mut rows[at], entry)?;
+    push_entry(&mut rows[at], unit, &op)?;
     Ok(())
 }
 
 // Returns whether a command was answered NORMAL, on a recoverable file or queue.
-fn is_done(opening: &Opening, entry: &Entry) -> bool
-    ensures { result ≡ (is_normal entry.now.answer.condition
-        && is_recoverable opening.now entry.now.op) }
+fn is_done(opening: &Opening, condition: Condition, op: &Op) -> bool
+    ensures { result ≡ (is_normal condition && is_recoverable opening.now op.now) }
 {
-    entry.answer.condition == Condition::Normal && opening.is_recoverable(&entry.op)
+    condition == Condition::Normal && opening.is_recoverable(op)
 }
 
 // Adds an empty row for each unit up to this one that has none.
@@ -65,12 +66,13 @@ fn grow(rows: &mut Vec<Vec<u8>>, alloc: Global, last: usize) -> Result<(), NoMem
     Ok(())
 }
 
-// Appends the lines of a command.
-fn push_entry(out: &mut Vec<u8>, entry: &Entry) -> Result<(), NoMemory>
-    ensures { OnOk result (out.new.items ≡ out.old.items ++ entry_lines entry.now) }
+// Appends the lines of a command of a unit.
+fn push_entry(out: &mut Vec<u8>, unit: UnitId, op: &Op) -> Result<(), NoMemory>
+    ensures { OnOk result (out.new.items
+        ≡ out.old.items ++ (unlock_line unit op.now ++ unit_command_line unit (verb_for op.now))) }
 {
-    push_unlock(out, entry.unit, &entry.op)?;
-    push_command(out, entry.unit, verb_for(&entry.op)?)
+    push_unlock(out, unit, op)?;
+    push_command(out, unit, verb_for(op)?)
 }
 
 // Appends an UNLOCK before a READ UPDATE, since an update read of the file may be open.
