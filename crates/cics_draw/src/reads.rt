@@ -149,14 +149,12 @@ fn is_number(number: Option<u64>, wanted: u64) -> bool
     }
 }
 
-// Returns whether an entry wrote the item of a number.
-fn writes_item(queue: &Name8, number: u64, entry: &Entry) -> bool
-    ensures { result ≡ writes_item queue.now number entry.now.op entry.now.answer.number }
+// Returns whether a command wrote the item of a number. `answered` is the number of its answer.
+fn writes_item(queue: &Name8, number: u64, op: &Op, answered: Option<u64>) -> bool
+    ensures { result ≡ writes_item queue.now number op.now answered }
 {
-    match &entry.op {
-        Op::TsWrite { queue: other, .. } => {
-            is_same(other, queue) && is_number(entry.answer.number, number)
-        }
+    match op {
+        Op::TsWrite { queue: other, .. } => is_same(other, queue) && is_number(answered, number),
         Op::TsRewrite {
             queue: other,
             item,
@@ -168,45 +166,53 @@ fn writes_item(queue: &Name8, number: u64, entry: &Entry) -> bool
 
 // Returns whether an entry changed what is shown: the record, or the item of the queue that was
 // read last.
-fn changes(units: &Units, shown: &Op, entry: &Entry) -> bool
-    ensures { result ≡ changes units.now.state shown.now entry.now }
+fn changes(units: &Units, shown: &Op, entry: &Entry) -> Result<bool, NoMemory>
+    ensures { IfOk result (λ yes. yes ≡ changes units.now.state shown.now entry.now) }
 {
-    match shown {
-        Op::Delete { file, key } => changes_record(file, key, &entry.op),
-        Op::TsDelete { queue } => writes_item(queue, u64::from(units.next_place(queue)), entry),
+    let op = entry.op()?;
+    Ok(match shown {
+        Op::Delete { file, key } => changes_record(file, key, &op),
+        Op::TsDelete { queue } => {
+            let number = u64::from(units.next_place(queue));
+            writes_item(queue, number, &op, entry.number())
+        }
         _ => false,
-    }
+    })
 }
 
 // Returns whether a unit changed what is shown.
-fn is_changed(units: &Units, unit: u64, shown: &Op) -> bool
-    ensures { result ≡ list_any (changed units.now.state unit shown.now) units.now.state.trace }
+fn is_changed(units: &Units, unit: u64, shown: &Op) -> Result<bool, NoMemory>
+    ensures { IfOk result (λ yes. yes
+        ≡ list_any (changed units.now.state unit shown.now) units.now.state.trace) }
 {
     for entry in units.trace() {
-        if entry.unit.number() == unit
-            && entry.answer.condition == Condition::Normal
-            && changes(units, shown, entry)
+        if entry.unit().number() == unit
+            && entry.condition() == Condition::Normal
+            && changes(units, shown, entry)?
         {
-            return true;
+            return Ok(true);
         }
     }
-    false
+    Ok(false)
 }
 
 // Returns the open unit, other than the reader's own, that last changed what is shown, if that is
 // recoverable. This unit holds what is shown, so no other one has changed it since.
-fn changer(units: &Units, own: Option<u64>, shown: &Op) -> Option<u64>
+fn changer(units: &Units, own: Option<u64>, shown: &Op) -> Result<Option<u64>, NoMemory>
     requires { IsTrue (is_ready_op units.now.state None shown.now) }
-    ensures { result ≡ changer units.now.state own (Some shown.now) }
+    ensures { IfOk result (λ unit. unit ≡ changer units.now.state own (Some shown.now)) }
 {
     if !units.opening().is_recoverable(shown) {
-        return None;
+        return Ok(None);
     }
-    let unit = units.awaited(None, shown)?.number();
-    if is_number(own, unit) || !is_changed(units, unit, shown) {
-        None
+    let Some(unit) = units.awaited(None, shown) else {
+        return Ok(None);
+    };
+    let unit = unit.number();
+    if is_number(own, unit) || !is_changed(units, unit, shown)? {
+        Ok(None)
     } else {
-        Some(unit)
+        Ok(Some(unit))
     }
 }
 
@@ -226,7 +232,7 @@ fn shown_of(
     let Some(shown) = shown_by(region.units(), verb, told)? else {
         return Ok(None);
     };
-    match changer(region.units(), unit_of(region, label), &shown) {
+    match changer(region.units(), unit_of(region, label), &shown)? {
         Some(unit) => Ok(Some((number, unit))),
         None => Ok(None),
     }

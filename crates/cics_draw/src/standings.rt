@@ -104,30 +104,31 @@ pub fn is_change(op: &Op) -> bool
 }
 
 // Returns whether a unit changed something unrecoverable by an entry: no backout undoes that.
-fn stays(opening: &Opening, unit: u64, entry: &Entry) -> bool
-    ensures { result ≡ stays opening.now unit entry.now }
+fn stays(opening: &Opening, unit: u64, entry: &Entry) -> Result<bool, NoMemory>
+    ensures { IfOk result (λ yes. yes ≡ stays opening.now unit entry.now) }
 {
-    entry.unit.number() == unit
-        && entry.answer.condition == Condition::Normal
-        && is_change(&entry.op)
-        && !opening.is_recoverable(&entry.op)
+    if entry.unit().number() != unit || entry.condition() != Condition::Normal {
+        return Ok(false);
+    }
+    let op = entry.op()?;
+    Ok(is_change(&op) && !opening.is_recoverable(&op))
 }
 
 // Returns whether a unit made a change that stays by one of these entries.
-fn is_in_any(opening: &Opening, unit: u64, entries: &[Entry]) -> bool
-    ensures { result ≡ list_any (stays opening.now unit) entries.now }
+fn is_in_any(opening: &Opening, unit: u64, entries: &[Entry]) -> Result<bool, NoMemory>
+    ensures { IfOk result (λ yes. yes ≡ list_any (stays opening.now unit) entries.now) }
 {
     for entry in entries {
-        if stays(opening, unit, entry) {
-            return true;
+        if stays(opening, unit, entry)? {
+            return Ok(true);
         }
     }
-    false
+    Ok(false)
 }
 
 // Returns whether a unit made a change that stays after the first `before` entries of the history.
-fn any_stays(region: &Region, before: usize, unit: Option<u64>) -> bool
-    ensures { result ≡ any_stays before region.now.machine unit }
+fn any_stays(region: &Region, before: usize, unit: Option<u64>) -> Result<bool, NoMemory>
+    ensures { IfOk result (λ yes. yes ≡ any_stays before region.now.machine unit) }
 {
     let units = region.units();
     match unit {
@@ -138,22 +139,28 @@ fn any_stays(region: &Region, before: usize, unit: Option<u64>) -> bool
                 units.trace().get(before..).unwrap_or(&[]),
             )
         }
-        None => false,
+        None => Ok(false),
     }
 }
 
 // Returns how the task of a number stands after a line, before which the history had `before`
 // entries.
-fn marked_at(region: &Region, deadlocks: &[Items<Name8>], before: usize, number: usize) -> Standing
-    ensures { result ≡ marked_at before region.now.machine deadlocks.now number }
+fn marked_at(
+    region: &Region,
+    deadlocks: &[Items<Name8>],
+    before: usize,
+    number: usize,
+) -> Result<Standing, NoMemory>
+    ensures { IfOk result (λ standing. standing
+        ≡ marked_at before region.now.machine deadlocks.now number) }
 {
     let standing = standing_at(region, deadlocks, number);
-    Standing {
+    Ok(Standing {
         unit: standing.unit,
         is_deadlocked: standing.is_deadlocked,
-        stays: any_stays(region, before, standing.unit),
+        stays: any_stays(region, before, standing.unit)?,
         shows: None,
-    }
+    })
 }
 
 // Returns how the tasks that have lanes stand.
@@ -165,7 +172,7 @@ fn standings_of(alloc: Global, before: usize, region: &Region) -> Result<Items<S
     let deadlocks = shown_deadlocks(alloc, region)?;
     let mut standings = Items::new(alloc);
     for number in 0..MOST_LANES {
-        standings.push(marked_at(region, deadlocks.as_slice(), before, number))?;
+        standings.push(marked_at(region, deadlocks.as_slice(), before, number)?)?;
     }
     Ok(standings)
 }

@@ -31,14 +31,14 @@ fn push_blockers(out: &mut Vec<u8>, units: &Units, op: &Op) -> Result<(), NoMemo
 
 // Puts an executed command at the end: what it names, its unit, and its answer.
 fn push_entry(out: &mut Vec<u8>, entry: &Entry) -> Result<(), NoMemory> {
-    let (key, from) = parts(&entry.op);
+    let op = entry.op()?;
+    let (key, from) = parts(&op);
     push_text(out, key)?;
     push_text(out, from)?;
-    push_number(out, entry.unit.number())?;
-    let answer = &entry.answer;
-    push_str(out, answer.condition.name())?;
-    push_number(out, answer.number.unwrap_or(0))?;
-    match &answer.content {
+    push_number(out, entry.unit().number())?;
+    push_str(out, entry.condition().name())?;
+    push_number(out, entry.number().unwrap_or(0))?;
+    match entry.content() {
         Some(content) => push_text(out, content.bytes()),
         None => Ok(()),
     }
