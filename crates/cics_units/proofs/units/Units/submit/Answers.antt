@@ -1,3 +1,4 @@
+use Rattle.std.specs.Prelude.{OnErr, Result, Ok, Err}
 use Rattle.std.proofs.Common.{arith, ◌≡◌, ◌∙◌, refl, sym, ap, subst, true, None, [], ◌∷◌, ◌++◌, length}
 use Rattle.cics_history.specs.Execution.{execution, after_execution, unit_or_next, read_at, outcomes_with, IsOpenUnit, IsOpenOrNone, is_ready_op}
 use Rattle.cics_history.specs.Headline.{IsHeadline}
@@ -18,8 +19,14 @@ use Rattle.cics_units.specs.Executed.{IsExecuted}
 use Rattle.cics_units.proofs.AppliedKept.{given_own, seen_own}
 use Rattle.cics_units.proofs.KeptUnits.{kept_headline, kept_serializable, ready_fits}
 use Rattle.cics_units.proofs.ShownUnits.{acts_of, in_lists, none_open_of, refused_kept, with_len, in_way, waits, waits_unchanged, waits_open, free_way, seen_way, parts_state, parts_kept, record_given, answered, IsAsked, asked as asked_of}
+use Rattle.cics_units.proofs.Enqueuing.{refused_shown}
 use Rattle.cics_units.proofs.units.Units.submit.Goals as goal
 use Rattle.cics_units.proofs.units.Units.submit.Goals.{After-blocker, After-enter, In_err-answer}
+
+-- what holds is told with any answer
+on_err : {X E P : Type 0} (r : Result X E) → P → OnErr r P
+on_err (Ok x) p = tt
+on_err (Err y) p = p
 
 -- ---- the command is bound, and it is known whom it has to wait for
 module _ (c : After-blocker) where
@@ -252,3 +259,49 @@ pub returns-clause-serializable : goal.returns-clause-serializable
 returns-clause-serializable c =
     let at = goal.at.returns-clause-serializable c in
     kept_serializable _ (core_value c.execute.new.self).stores c.execute.new.self.locks (kept at.After-enter (known at.After-blocker))
+
+-- ---- what stays as it was
+pub invariant_of-self : goal.invariant_of-self
+invariant_of-self c = (
+  subst (λ es. AreValid (state_shown c.self.inside.opening es c.self.inside.outcomes.items c.self.inside.commits.items (core_value c.self.inside.core)) (core_value c.self.inside.core).stores c.self.inside.core.locks)
+      (sym c.reserve.ensures.items) c.self.invariant.0,
+  c.self.invariant.1,
+)
+
+pub invariant_of-self-in_err-reserve_unit : goal.invariant_of-self-in_err-reserve_unit
+invariant_of-self-in_err-reserve_unit c = (
+  subst (λ s. AreValid s (core_value c.self.inside.core).stores c.self.inside.core.locks)
+      (λ i. state_shown c.self.inside.opening (sym c.reserve.ensures.items i) (sym c.reserve_unit.ensures.outcomes i) (sym c.reserve_unit.ensures.commits i) (core_value c.self.inside.core)) c.self.invariant.0,
+  omega (arith, ap length c.reserve_unit.ensures.outcomes, c.self.invariant.1, c.reserve_unit.ensures.capacity),
+)
+
+pub returns-in_err-reserve-clause-err : goal.returns-in_err-reserve-clause-err
+returns-in_err-reserve-clause-err c = on_err c.from_residual-in_err-reserve.result (
+    (λ i. record {
+      state = state_shown c.self.inside.opening (c.reserve.ensures.items i) c.self.inside.outcomes.items c.self.inside.commits.items (core_value c.self.inside.core);
+      store = shown_store c.self.inside.core.store;
+    }) ∙ c.self.view_is)
+
+pub returns-in_err-reserve_unit-clause-err : goal.returns-in_err-reserve_unit-clause-err
+returns-in_err-reserve_unit-clause-err c = on_err c.from_residual-in_err-reserve_unit.result (
+    (λ i. record {
+      state = state_shown c.self.inside.opening (c.reserve.ensures.items i) (c.reserve_unit.ensures.outcomes i) (c.reserve_unit.ensures.commits i) (core_value c.self.inside.core);
+      store = shown_store c.self.inside.core.store;
+    }) ∙ c.self.view_is)
+
+pub returns-in_err-answer-clause-err : goal.returns-in_err-answer-clause-err
+returns-in_err-answer-clause-err c =
+    let u = c.self.inside in
+    let new = core_value c.execute.new.self in
+    let same = c.in_err-answer.ensures.err in
+    on_err c.from_residual-in_err-answer.result (
+    (λ i. record {
+      state = state_shown u.opening (c.reserve.ensures.items i) c.reserve_unit.new.outcomes.items c.reserve_unit.new.commits.items new;
+      store = shown_store (same.stores.store i);
+    })
+    ∙ (λ i. record {
+      state = refused_shown u.opening u.trace.items u.outcomes.items u.commits.items (core_value u.core) new c.self.invariant.0 same c.reserve_unit.new.outcomes.items c.reserve_unit.new.commits.items
+          c.reserve_unit.ensures.outcomes c.reserve_unit.ensures.commits i;
+      store = shown_store u.core.store;
+    })
+    ∙ c.self.view_is)
