@@ -1,9 +1,10 @@
 use Rattle.std.specs.Prelude.{◌≡◌, ◌<◌, ◌≤◌, ◌+◌, ℕ, zero, suc, List, [], ◌∷◌, ◌++◌, length, slice_set, refl}
 use Rattle.std.proofs.Common.{◌∙◌, ap, sym, subst, arith, length-append}
 use Rattle.std.proofs.lemmas.List.{length-set}
+use Rattle.std.proofs.lemmas.Result.{on_ok_weaker}
 use Rattle.cics_images.specs.Cells.{Kept}
 use Rattle.cics_units.specs.ImageRows.{kept_by, room_of}
-use Rattle.cics_units.proofs.UnitRows.{kept_at, row_read}
+use Rattle.cics_units.proofs.UnitRows.{kept_at, kept_replaced, row_read}
 use Rattle.cics_units.proofs.units_core.reserve_images.Goals as goal
 use Rattle.cics_units.proofs.units_core.reserve_images.Goals.{After-index_mut, then-at-len+in_ok-push, else-at-len}
 
@@ -14,15 +15,7 @@ appended [] (suc w) x none = refl
 appended (r ∷ rows) zero x none = refl
 appended (r ∷ rows) (suc w) x none = appended rows w x none
 
--- a row is replaced by one with the same images
-replaced : {I : Type 0} (rows : List (Kept I)) (u w : ℕ) (x : Kept I) → x.newest_first ≡ kept_by rows u → kept_by (slice_set rows u x) w ≡ kept_by rows w
-replaced [] u w x same = refl
-replaced (r ∷ rows) zero zero x same = same
-replaced (r ∷ rows) zero (suc w) x same = refl
-replaced (r ∷ rows) (suc u) zero x same = refl
-replaced (r ∷ rows) (suc u) (suc w) x same = replaced rows u w x same
-
--- and has its room
+-- a row that is put in place has its room
 room_set : {I : Type 0} (rows : List (Kept I)) (u : ℕ) (x : Kept I) → u < length rows → room_of (slice_set rows u x) u ≡ x.room
 room_set [] u x begun = absurd (omega arith)
 room_set (r ∷ rows) zero x begun = refl
@@ -69,20 +62,10 @@ index_mut-requires c = elim c.if-at-len.branch [
 pub returns-in_err-push-clause-kept : goal.returns-in_err-push-clause-kept
 returns-in_err-push-clause-kept c = λ w. ap (λ rows. kept_by rows w) c.in_err-push.ensures.items
 
-pub returns-in_err-make_room-clause-kept : goal.returns-in_err-make_room-clause-kept
-returns-in_err-make_room-clause-kept c = λ w.
-    let at = goal.at.returns-in_err-make_room-clause-kept c in
-    replaced c.if-at-len.rows.items c.number-at.result w c.make_room.new.self (c.in_err-make_room.ensures.images ∙ held at.After-index_mut (begun at.After-index_mut).1) ∙ grown at.After-index_mut w
-
-pub returns-in_err-make_room-clause-longer : goal.returns-in_err-make_room-clause-longer
-returns-in_err-make_room-clause-longer c =
-    let long = (begun (goal.at.returns-in_err-make_room-clause-longer c).After-index_mut).0 in
-    omega (arith, long, length-set c.if-at-len.rows.items c.number-at.result c.make_room.new.self)
-
 pub returns-clause-kept : goal.returns-clause-kept
 returns-clause-kept c = λ w.
     let at = goal.at.returns-clause-kept c in
-    replaced c.if-at-len.rows.items c.number-at.result w c.make_room.new.self (c.in_ok-make_room.ensures.images ∙ held at.After-index_mut (begun at.After-index_mut).1) ∙ grown at.After-index_mut w
+    kept_replaced c.if-at-len.rows.items c.number-at.result w c.make_room.new.self (c.make_room.ensures.images ∙ held at.After-index_mut (begun at.After-index_mut).1) ∙ grown at.After-index_mut w
 
 pub returns-clause-longer : goal.returns-clause-longer
 returns-clause-longer c =
@@ -92,11 +75,15 @@ returns-clause-longer c =
 pub returns-clause-begun : goal.returns-clause-begun
 returns-clause-begun c =
     let inside = (begun (goal.at.returns-clause-begun c).After-index_mut).1 in
-    omega (arith, inside, c.number-at.ensures, length-set c.if-at-len.rows.items c.number-at.result c.make_room.new.self)
+    let unit : c.args.unit < length (slice_set c.if-at-len.rows.items c.number-at.result c.make_room.new.self) =
+    omega (arith, inside, c.number-at.ensures, length-set c.if-at-len.rows.items c.number-at.result c.make_room.new.self) in
+    on_ok_weaker c.make_room.result (λ _. unit) c.make_room.ensures.ok
 
 pub returns-clause-room : goal.returns-clause-room
 returns-clause-room c =
     let rows = c.if-at-len.rows.items in
     let unit = c.number-at.result in
     let inside = (begun (goal.at.returns-clause-room c).After-index_mut).1 in
-    subst (λ n. c.args.count ≤ n) (sym (ap (room_of (slice_set rows unit c.make_room.new.self)) (sym c.number-at.ensures) ∙ room_set rows unit c.make_room.new.self inside)) c.in_ok-make_room.ensures.ok
+    on_ok_weaker c.make_room.result
+    (subst (λ n. c.args.count ≤ n) (sym (ap (room_of (slice_set rows unit c.make_room.new.self)) (sym c.number-at.ensures) ∙ room_set rows unit c.make_room.new.self inside)))
+    c.make_room.ensures.ok
