@@ -1,4 +1,4 @@
-use Rattle.std.specs.Prelude.{IfNone, if◌then◌else◌, OnErr, Result, Ok, Err}
+use Rattle.std.specs.Prelude.{IfNone, if◌then◌else◌}
 use Rattle.std.proofs.Common.{arith, ℕ, Option, List, ◌≡◌, ◌∙◌, sym, ap, subst, refl, true, false, Some, None, is_some, length}
 use Rattle.cics_enqueue.specs.Table.{Table, holder_over, is_full, taken}
 use Rattle.cics_history.specs.State.{UnitsState}
@@ -16,13 +16,9 @@ use Rattle.cics_units.proofs.KeptUnits.{kept_headline, kept_serializable}
 use Rattle.cics_units.proofs.ShownUnits.{acts_of, in_lists, refused_kept, with_len}
 use Rattle.cics_units.proofs.Enqueuing.{value_over, enqueue-waits, enqueue-takes, enqueue-full, enqueued_shown, enqueued_kept, refused_shown}
 use Rattle.cics_units.proofs.HeldOver.{holder_open}
+use Rattle.cics_units.proofs.RefusedCommands.{on_err}
 use Rattle.cics_units.proofs.units.Units.enq.Goals as goal
 use Rattle.cics_units.proofs.units.Units.enq.Goals.{In-Ok-Some, In-Ok-None, After-reserve_images, In-Err-Full, After-begin}
-
--- what holds is told with any answer
-on_err : {X E P : Type 0} (r : Result X E) → P → OnErr r P
-on_err (Ok x) p = tt
-on_err (Err y) p = p
 
 -- ---- there is more room for images, and these locks
 module _ (c : After-reserve_images) where

@@ -1,4 +1,3 @@
-use Rattle.std.specs.Prelude.{OnErr, Result, Ok, Err}
 use Rattle.std.proofs.Common.{arith, ◌≡◌, ◌∙◌, refl, sym, ap, subst, true, None, [], ◌∷◌, ◌++◌, length}
 use Rattle.std.proofs.lemmas.Result.{IfOk-from_err}
 use Rattle.cics_history.specs.Execution.{execution, after_execution, unit_or_next, read_at, outcomes_with, IsOpenUnit, IsOpenOrNone, is_ready_op}
@@ -21,13 +20,9 @@ use Rattle.cics_units.proofs.AppliedKept.{given_own, seen_own}
 use Rattle.cics_units.proofs.KeptUnits.{kept_headline, kept_serializable, ready_fits}
 use Rattle.cics_units.proofs.ShownUnits.{acts_of, in_lists, none_open_of, refused_kept, with_len, in_way, waits, waits_unchanged, waits_open, free_way, seen_way, parts_state, parts_kept, record_given, answered, IsAsked, asked as asked_of}
 use Rattle.cics_units.proofs.Enqueuing.{refused_shown}
+use Rattle.cics_units.proofs.RefusedCommands.{on_err}
 use Rattle.cics_units.proofs.units.Units.submit.Goals as goal
 use Rattle.cics_units.proofs.units.Units.submit.Goals.{After-blocker, After-enter, In_err-answer}
-
--- what holds is told with any answer
-on_err : {X E P : Type 0} (r : Result X E) → P → OnErr r P
-on_err (Ok x) p = tt
-on_err (Err y) p = p
 
 -- ---- the command is bound, and it is known whom it has to wait for
 module _ (c : After-blocker) where

@@ -1,5 +1,5 @@
 use Rattle.std.proofs.Common.{◌≡◌, ◌<◌, ◌∙◌, false, Bool, Option, Some, None, List, sym, ap, subst, refl, arith, is_some, not, filter, Bor}
-use Rattle.std.specs.Prelude.{if◌then◌else◌, slice_get, slice_set, length, OnErr, Result, Ok, Err}
+use Rattle.std.specs.Prelude.{if◌then◌else◌, slice_get, slice_set, length}
 use Rattle.std.proofs.lemmas.List.{length-set}
 use Rattle.std.proofs.lemmas.Result.{IfOk-from_err}
 use Rattle.std.specs.Option.{option_copied}
@@ -19,7 +19,7 @@ use Rattle.cics_units.specs.TableInPlace.{is_read}
 use Rattle.cics_units.specs.ImageRows.{kept_by, AreOthersKept}
 use Rattle.cics_units.specs.Uses.{uses_if, listed, taken_all}
 use Rattle.cics_units.proofs.DoneCommands.{not_read, opened_none, changed_table, read_done}
-use Rattle.cics_units.proofs.RefusedCommands.{condition_normal, reads_refused}
+use Rattle.cics_units.proofs.RefusedCommands.{on_err, condition_normal, reads_refused}
 use Rattle.cics_units.proofs.UnitRows.{kept_at, room_at, kept_set, kept_replaced, others_set, row_read}
 use Rattle.cics_units.proofs.units_core.UnitsCore.execute.Goals as goal
 use Rattle.cics_units.proofs.units_core.UnitsCore.execute.Goals.{After-reserve_images, In_ok-reserve_images, In_ok-copied, In-Ok}
@@ -172,11 +172,6 @@ returns-in_default-condition c =
     }
 
 -- ---- memory is refused
--- what holds is told with any answer
-on_err : {X E P : Type 0} (r : Result X E) → P → OnErr r P
-on_err (Ok x) p = tt
-on_err (Err y) p = p
-
 -- there is more room
 roomier : (c : After-reserve_images) → AreRoomier (core_value c.args.self.now).stores (record { store = c.args.self.now.store; images = c.reserve_images.new.rows.items })
 roomier c = record { store = refl; kept = c.reserve_images.ensures.kept; longer = c.reserve_images.ensures.longer }
