@@ -1,5 +1,6 @@
--- A command on a file that isn't answered NORMAL changes nothing.
+-- A command on a file that isn't answered NORMAL changes nothing, nor does one that is refused memory.
 use Rattle.std.proofs.Common.{◌≡◌, ℕ, true, false, List, refl}
+use Rattle.std.specs.Prelude.{OnErr, Result, Ok, Err}
 use Rattle.std.proofs.lemmas.Bool.{false≢true}
 use Rattle.cics_names.specs.declared.conditions.Condition.{Condition}
 use Rattle.cics_names.specs.declared.conditions.Condition.TheVariants.{Normal}
@@ -16,3 +17,8 @@ condition_normal _ e = absurd (false≢true e)
 -- the update reads are after it what they were
 pub reads_refused : (unit : ℕ) (op : Op) (c : Condition) (reads : List UpdateRead) → is_normal c ≡ false → reads ≡ reads_after unit op c reads
 reads_refused unit op c reads h = rw h refl
+
+-- what holds anyway holds if memory is refused
+pub on_err : {X E P : Type 0} (r : Result X E) → P → OnErr r P
+on_err (Ok x) p = tt
+on_err (Err y) p = p

@@ -18,6 +18,14 @@ get_other (y ∷ ys) (suc u) (suc w) x apart = get_other ys u w x (λ same. apar
 get_set : {A : Type 0} (xs : List A) (u : ℕ) (x : A) → u < length xs → slice_get (slice_set xs u x) u ≡ Some x
 get_set xs u x begun = slice_get-get_or (slice_set xs u x) u x (subst (λ n. u < n) (sym (length-set xs u x)) begun) ∙ ap Some (get_or-set_same xs u x x begun)
 
+-- if a row is replaced by one with the same images, all units keep what they kept
+pub kept_replaced : {I : Type 0} (rows : List (Kept I)) (u w : ℕ) (x : Kept I) → x.newest_first ≡ kept_by rows u → kept_by (slice_set rows u x) w ≡ kept_by rows w
+kept_replaced [] u w x same = refl
+kept_replaced (r ∷ rows) zero zero x same = same
+kept_replaced (r ∷ rows) zero (suc w) x same = refl
+kept_replaced (r ∷ rows) (suc u) zero x same = refl
+kept_replaced (r ∷ rows) (suc u) (suc w) x same = kept_replaced rows u w x same
+
 module _ {I : Type 0} (rows : List (Kept I)) (u : ℕ) (x : Kept I) where
   -- what stands in a unit's row is what it keeps, and the room that it has
   pub kept_at : slice_get rows u ≡ Some x → kept_by rows u ≡ x.newest_first

@@ -302,9 +302,9 @@ impl Units {
         if let Some(holder) = self.core.blocker(asking, &bound) {
             return Ok(Submitted::MustWait(holder, op));
         }
-        let content = self.core.given_record(&bound)?;
         self.trace.reserve(1)?;
         reserve_unit(&mut self.outcomes, &mut self.commits)?;
+        let content = self.core.given_record(&bound)?;
         let answer = self.core.execute(acting, &bound, content.as_ref())?;
         let noted = Answer {
             condition: answer.condition,

@@ -148,7 +148,7 @@ pub(crate) fn reserve_images(
     if at == rows.len() {
         rows.push(Images::new(alloc))?;
     }
-    Ok(rows[at].make_room(count)?)
+    rows[at].make_room(count)
 }
 
 // Acquires what a command uses if it acts on something recoverable, else nothing. Returns what was

@@ -6,6 +6,7 @@ use Rattle.cics_history.specs.Execution.{IsOpenUnit, IsOpenOrNone, unit_or_next,
 use Rattle.cics_history.specs.Events.{may_act}
 use Rattle.cics_history.specs.Headline.{IsHeadline}
 use Rattle.cics_history.specs.Serial.{IsSerializable}
+use Rattle.cics_opening.specs.StoreMatching.{shown_store}
 use Rattle.cics_units.specs.Cores.{core_value}
 use Rattle.cics_units.specs.KeptUnits.{state_shown, AreValid}
 use Rattle.cics_units.specs.Parts.{CoreValue, AreRoomier, AreEnqueued, IsCoreAsBefore}
@@ -15,6 +16,7 @@ use Rattle.cics_units.proofs.KeptUnits.{kept_headline, kept_serializable}
 use Rattle.cics_units.proofs.ShownUnits.{acts_of, in_lists, refused_kept, with_len}
 use Rattle.cics_units.proofs.Enqueuing.{value_over, enqueue-waits, enqueue-takes, enqueue-full, enqueued_shown, enqueued_kept, refused_shown}
 use Rattle.cics_units.proofs.HeldOver.{holder_open}
+use Rattle.cics_units.proofs.RefusedCommands.{on_err}
 use Rattle.cics_units.proofs.units.Units.enq.Goals as goal
 use Rattle.cics_units.proofs.units.Units.enq.Goals.{In-Ok-Some, In-Ok-None, After-reserve_images, In-Err-Full, After-begin}
 
@@ -45,6 +47,16 @@ module _ (c : After-reserve_images) where
       let u = c.self.inside in
       refused_kept u.opening u.trace.items u.outcomes.items u.commits.items core (left locks) c.self.invariant.0 (same locks is) u.trace.items c.reserve_unit.new.outcomes.items c.reserve_unit.new.commits.items refl
       c.reserve_unit.ensures.outcomes c.reserve_unit.ensures.commits
+
+  -- and nothing else is seen
+  shown_same : (locks : Table) → locks ≡ core.table → record { state = after locks; store = shown_store core.stores.store } ≡ c.args.self.now
+  shown_same locks is =
+      let u = c.self.inside in
+      (λ i. record {
+        state = refused_shown u.opening u.trace.items u.outcomes.items u.commits.items core (left locks) c.self.invariant.0 (same locks is) c.reserve_unit.new.outcomes.items c.reserve_unit.new.commits.items
+            c.reserve_unit.ensures.outcomes c.reserve_unit.ensures.commits i;
+        store = shown_store core.stores.store;
+      }) ∙ c.self.view_is
 
   -- who owns the value is asked for the unit that acts
   over : holder_over (value_of c.args.value.now) (Some c.unit_or_next-acting.result) core.table ≡ holder_over (value_of c.args.value.now) c.args.unit core.table
@@ -236,3 +248,60 @@ returns-clause-serializable c =
     let at = goal.at.returns-clause-serializable c in
     let room = at.After-reserve_images in
     kept_serializable _ _ _ (kept at.After-begin (roomier room) (none at.In-Ok-None (over room)))
+
+-- ---- what stays as it was
+pub invariant_of-self : goal.invariant_of-self
+invariant_of-self c = (
+  subst (λ s. AreValid s (core_value c.self.inside.core).stores c.self.inside.core.locks)
+      (λ i. state_shown c.self.inside.opening c.self.inside.trace.items (sym c.reserve_unit.ensures.outcomes i) (sym c.reserve_unit.ensures.commits i) (core_value c.self.inside.core)) c.self.invariant.0,
+  omega (arith, ap length c.reserve_unit.ensures.outcomes, c.self.invariant.1, c.reserve_unit.ensures.capacity),
+)
+
+pub returns-in_err-reserve_unit-clause-err : goal.returns-in_err-reserve_unit-clause-err
+returns-in_err-reserve_unit-clause-err c = on_err c.from_residual.result (
+    (λ i. record {
+      state = state_shown c.self.inside.opening c.self.inside.trace.items (c.reserve_unit.ensures.outcomes i) (c.reserve_unit.ensures.commits i) (core_value c.self.inside.core);
+      store = shown_store c.self.inside.core.store;
+    }) ∙ c.self.view_is)
+
+pub returns-in_err-reserve_images-clause-err : goal.returns-in_err-reserve_images-clause-err
+returns-in_err-reserve_images-clause-err c =
+    on_err c.from_residual-in_err-reserve_images.result (shown_same (goal.at.returns-in_err-reserve_images-clause-err c).After-reserve_images c.self.inside.core.locks refl)
+
+pub returns-in-Err-NoMemory-clause-err : goal.returns-in-Err-NoMemory-clause-err
+returns-in-Err-NoMemory-clause-err c = shown_same (goal.at.returns-in-Err-NoMemory-clause-err c).After-reserve_images c.enq.new.self c.in-Err-NoMemory.ensures.err
+
+pub invariant_of-self-in-Ok-Some : goal.invariant_of-self-in-Ok-Some
+invariant_of-self-in-Ok-Some c =
+    let at = goal.at.invariant_of-self-in-Ok-Some c in
+    (kept_same at.After-reserve_images c.enq.new.self (untaken at.In-Ok-Some), omega (arith, ap length c.reserve_unit.ensures.outcomes, c.self.invariant.1, c.reserve_unit.ensures.capacity))
+
+pub invariant_of-self-in-Err-Full : goal.invariant_of-self-in-Err-Full
+invariant_of-self-in-Err-Full c = (
+  kept_same (goal.at.invariant_of-self-in-Err-Full c).After-reserve_images c.enq.new.self c.in-Err-Full.ensures.err,
+  omega (arith, ap length c.reserve_unit.ensures.outcomes, c.self.invariant.1, c.reserve_unit.ensures.capacity),
+)
+
+pub invariant_of-self-in-Err-NoMemory : goal.invariant_of-self-in-Err-NoMemory
+invariant_of-self-in-Err-NoMemory c = (
+  kept_same (goal.at.invariant_of-self-in-Err-NoMemory c).After-reserve_images c.enq.new.self c.in-Err-NoMemory.ensures.err,
+  omega (arith, ap length c.reserve_unit.ensures.outcomes, c.self.invariant.1, c.reserve_unit.ensures.capacity),
+)
+
+pub returns-in_err-reserve_unit-clause-store : goal.returns-in_err-reserve_unit-clause-store
+returns-in_err-reserve_unit-clause-store c = ap (λ w. w.store) c.self.view_is
+
+pub returns-in_err-reserve_images-clause-store : goal.returns-in_err-reserve_images-clause-store
+returns-in_err-reserve_images-clause-store c = ap (λ w. w.store) c.self.view_is
+
+pub returns-in-Ok-Some-clause-store : goal.returns-in-Ok-Some-clause-store
+returns-in-Ok-Some-clause-store c = ap (λ w. w.store) c.self.view_is
+
+pub returns-in-Err-Full-clause-store : goal.returns-in-Err-Full-clause-store
+returns-in-Err-Full-clause-store c = ap (λ w. w.store) c.self.view_is
+
+pub returns-in-Err-NoMemory-clause-store : goal.returns-in-Err-NoMemory-clause-store
+returns-in-Err-NoMemory-clause-store c = ap (λ w. w.store) c.self.view_is
+
+pub returns-clause-store : goal.returns-clause-store
+returns-clause-store c = ap (λ w. w.store) c.self.view_is

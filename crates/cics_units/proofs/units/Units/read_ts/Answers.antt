@@ -1,4 +1,5 @@
 use Rattle.std.proofs.Common.{◌∙◌, ℕ, sym, ap, subst}
+use Rattle.std.proofs.lemmas.Result.{IfOk-from_err}
 use Rattle.cics_tempstor.specs.Queues.{places_of}
 use Rattle.cics_history.specs.Execution.{item_asked, ts_reading, after_ts_reading}
 use Rattle.cics_history.specs.Headline.{IsHeadline}
@@ -12,6 +13,7 @@ use Rattle.cics_opening.specs.StoreMatching.{shown_store}
 use Rattle.cics_units.specs.StorePlaces.{number_asked}
 use Rattle.cics_units.proofs.KeptUnits.{kept_headline, kept_serializable}
 use Rattle.cics_units.proofs.TsReadings.{asked_told, reading_told, read_state, read_kept, read_store}
+use Rattle.cics_units.proofs.RefusedCommands.{on_err}
 use Rattle.cics_units.proofs.units.Units.read_ts.Goals as goal
 use Rattle.cics_units.proofs.units.Units.read_ts.Goals.{In_ok-read}
 
@@ -28,6 +30,30 @@ returns-in_err-read-clause-serializable c =
     let s = state_shown u.opening u.trace.items u.outcomes.items u.commits.items (core_value u.core) in
     subst (λ rows. IsSerializable (record { state = record s { next = places_of rows }; store = shown_store (with_temp_storage u.core.store rows) }))
     (sym c.in_err-read.ensures.err) (kept_serializable s (core_value u.core).stores u.core.locks c.self.invariant.0)
+
+pub invariant_of-self : goal.invariant_of-self
+invariant_of-self c =
+    let u = c.self.inside in
+    let s = state_shown u.opening u.trace.items u.outcomes.items u.commits.items (core_value u.core) in (
+      subst (λ rows. AreValid (record s { next = places_of rows }) (record { store = with_temp_storage u.core.store rows; images = u.core.rows.items }) u.core.locks) (sym c.in_err-read.ensures.err) c.self.invariant.0,
+      c.self.invariant.1,
+    )
+
+pub returns-in_err-read-clause-store : goal.returns-in_err-read-clause-store
+returns-in_err-read-clause-store c = ap (λ rows. shown_store (with_temp_storage c.self.inside.core.store rows)) c.in_err-read.ensures.err ∙ ap (λ v. v.store) c.self.view_is
+
+pub returns-in_err-read-clause-err : goal.returns-in_err-read-clause-err
+returns-in_err-read-clause-err c =
+    let u = c.self.inside in
+    let s = state_shown u.opening u.trace.items u.outcomes.items u.commits.items (core_value u.core) in
+    on_err c.from_residual.result (
+    (λ i. record { state = record s { next = places_of (c.in_err-read.ensures.err i) }; store = shown_store (with_temp_storage u.core.store (c.in_err-read.ensures.err i)) }) ∙ c.self.view_is)
+
+pub returns-in_err-read-clause-answer : goal.returns-in_err-read-clause-answer
+returns-in_err-read-clause-answer c = IfOk-from_err c.from_residual.result _ c.from_residual.ensures.0
+
+pub returns-in_err-read-clause-state : goal.returns-in_err-read-clause-state
+returns-in_err-read-clause-state c = IfOk-from_err c.from_residual.result _ c.from_residual.ensures.0
 
 -- what is known once the item is read
 module _ (c : In_ok-read) where

@@ -1,4 +1,5 @@
 use Rattle.std.proofs.Common.{arith, ◌≡◌, ◌∙◌, refl, sym, ap, subst, true, None, [], ◌∷◌, ◌++◌, length}
+use Rattle.std.proofs.lemmas.Result.{IfOk-from_err}
 use Rattle.cics_history.specs.Execution.{execution, after_execution, unit_or_next, read_at, outcomes_with, IsOpenUnit, IsOpenOrNone, is_ready_op}
 use Rattle.cics_history.specs.Headline.{IsHeadline}
 use Rattle.cics_history.specs.Serial.{IsSerializable}
@@ -20,6 +21,8 @@ use Rattle.cics_units.proofs.AppliedKept.{given_own, seen_own}
 use Rattle.cics_units.proofs.Packable.{packable}
 use Rattle.cics_units.proofs.KeptUnits.{kept_headline, kept_serializable, ready_fits}
 use Rattle.cics_units.proofs.ShownUnits.{acts_of, in_lists, none_open_of, refused_kept, with_len, in_way, waits, waits_unchanged, waits_open, free_way, seen_way, parts_state, parts_kept, record_given, answered, IsAsked, asked as asked_of}
+use Rattle.cics_units.proofs.Enqueuing.{refused_shown}
+use Rattle.cics_units.proofs.RefusedCommands.{on_err}
 use Rattle.cics_units.proofs.units.Units.submit.Goals as goal
 use Rattle.cics_units.proofs.units.Units.submit.Goals.{After-blocker, After-enter, In_err-answer}
 
@@ -80,12 +83,6 @@ pub returns-in-Some-clause-serializable : goal.returns-in-Some-clause-serializab
 returns-in-Some-clause-serializable c = subst IsSerializable c.self.view_is (serializable (goal.at.returns-in-Some-clause-serializable c).After-blocker)
 
 -- ---- memory is refused
-pub returns-in_err-content-clause-headline : goal.returns-in_err-content-clause-headline
-returns-in_err-content-clause-headline c = subst IsHeadline c.self.view_is (headline (goal.at.returns-in_err-content-clause-headline c).After-blocker)
-
-pub returns-in_err-content-clause-serializable : goal.returns-in_err-content-clause-serializable
-returns-in_err-content-clause-serializable c = subst IsSerializable c.self.view_is (serializable (goal.at.returns-in_err-content-clause-serializable c).After-blocker)
-
 pub returns-in_err-reserve-clause-headline : goal.returns-in_err-reserve-clause-headline
 returns-in_err-reserve-clause-headline c =
     in_lists IsHeadline c.self.inside.opening (core_value c.self.inside.core) c.reserve.ensures.items refl refl (headline (goal.at.returns-in_err-reserve-clause-headline c).After-blocker)
@@ -99,10 +96,20 @@ returns-in_err-reserve_unit-clause-headline c =
     in_lists IsHeadline c.self.inside.opening (core_value c.self.inside.core) c.reserve.ensures.items c.reserve_unit.ensures.outcomes c.reserve_unit.ensures.commits
     (headline (goal.at.returns-in_err-reserve_unit-clause-headline c).After-blocker)
 
+pub returns-in_err-content-clause-headline : goal.returns-in_err-content-clause-headline
+returns-in_err-content-clause-headline c =
+    in_lists IsHeadline c.self.inside.opening (core_value c.self.inside.core) c.reserve.ensures.items c.reserve_unit.ensures.outcomes c.reserve_unit.ensures.commits
+    (headline (goal.at.returns-in_err-content-clause-headline c).After-blocker)
+
 pub returns-in_err-reserve_unit-clause-serializable : goal.returns-in_err-reserve_unit-clause-serializable
 returns-in_err-reserve_unit-clause-serializable c =
     in_lists IsSerializable c.self.inside.opening (core_value c.self.inside.core) c.reserve.ensures.items c.reserve_unit.ensures.outcomes c.reserve_unit.ensures.commits
     (serializable (goal.at.returns-in_err-reserve_unit-clause-serializable c).After-blocker)
+
+pub returns-in_err-content-clause-serializable : goal.returns-in_err-content-clause-serializable
+returns-in_err-content-clause-serializable c =
+    in_lists IsSerializable c.self.inside.opening (core_value c.self.inside.core) c.reserve.ensures.items c.reserve_unit.ensures.outcomes c.reserve_unit.ensures.commits
+    (serializable (goal.at.returns-in_err-content-clause-serializable c).After-blocker)
 
 refused : (c : In_err-answer) → AreValid (state_shown c.self.inside.opening c.reserve.new.self.items c.reserve_unit.new.outcomes.items c.reserve_unit.new.commits.items (core_value c.execute.new.self)) (core_value c.execute.new.self).stores c.execute.new.self.locks
 refused c =
@@ -272,3 +279,112 @@ pub returns-clause-serializable : goal.returns-clause-serializable
 returns-clause-serializable c =
     let at = goal.at.returns-clause-serializable c in
     kept_serializable _ (core_value c.execute.new.self).stores c.execute.new.self.locks (kept at.After-enter (known at.After-blocker))
+
+-- ---- what stays as it was
+pub invariant_of-self : goal.invariant_of-self
+invariant_of-self c = (
+  subst (λ es. AreValid (state_shown c.self.inside.opening es c.self.inside.outcomes.items c.self.inside.commits.items (core_value c.self.inside.core)) (core_value c.self.inside.core).stores c.self.inside.core.locks)
+      (sym c.reserve.ensures.items) c.self.invariant.0,
+  c.self.invariant.1,
+)
+
+pub invariant_of-self-in_err-reserve_unit : goal.invariant_of-self-in_err-reserve_unit
+invariant_of-self-in_err-reserve_unit c = (
+  subst (λ s. AreValid s (core_value c.self.inside.core).stores c.self.inside.core.locks)
+      (λ i. state_shown c.self.inside.opening (sym c.reserve.ensures.items i) (sym c.reserve_unit.ensures.outcomes i) (sym c.reserve_unit.ensures.commits i) (core_value c.self.inside.core)) c.self.invariant.0,
+  omega (arith, ap length c.reserve_unit.ensures.outcomes, c.self.invariant.1, c.reserve_unit.ensures.capacity),
+)
+
+pub invariant_of-self-in_err-content : goal.invariant_of-self-in_err-content
+invariant_of-self-in_err-content c = (
+  subst (λ s. AreValid s (core_value c.self.inside.core).stores c.self.inside.core.locks)
+      (λ i. state_shown c.self.inside.opening (sym c.reserve.ensures.items i) (sym c.reserve_unit.ensures.outcomes i) (sym c.reserve_unit.ensures.commits i) (core_value c.self.inside.core)) c.self.invariant.0,
+  omega (arith, ap length c.reserve_unit.ensures.outcomes, c.self.invariant.1, c.reserve_unit.ensures.capacity),
+)
+
+pub returns-in_err-reserve-clause-err : goal.returns-in_err-reserve-clause-err
+returns-in_err-reserve-clause-err c = on_err c.from_residual.result (
+    (λ i. record {
+      state = state_shown c.self.inside.opening (c.reserve.ensures.items i) c.self.inside.outcomes.items c.self.inside.commits.items (core_value c.self.inside.core);
+      store = shown_store c.self.inside.core.store;
+    }) ∙ c.self.view_is)
+
+pub returns-in_err-reserve_unit-clause-err : goal.returns-in_err-reserve_unit-clause-err
+returns-in_err-reserve_unit-clause-err c = on_err c.from_residual-in_err-reserve_unit.result (
+    (λ i. record {
+      state = state_shown c.self.inside.opening (c.reserve.ensures.items i) (c.reserve_unit.ensures.outcomes i) (c.reserve_unit.ensures.commits i) (core_value c.self.inside.core);
+      store = shown_store c.self.inside.core.store;
+    }) ∙ c.self.view_is)
+
+pub returns-in_err-content-clause-err : goal.returns-in_err-content-clause-err
+returns-in_err-content-clause-err c = on_err c.from_residual-in_err-content.result (
+    (λ i. record {
+      state = state_shown c.self.inside.opening (c.reserve.ensures.items i) (c.reserve_unit.ensures.outcomes i) (c.reserve_unit.ensures.commits i) (core_value c.self.inside.core);
+      store = shown_store c.self.inside.core.store;
+    }) ∙ c.self.view_is)
+
+pub returns-in_err-answer-clause-err : goal.returns-in_err-answer-clause-err
+returns-in_err-answer-clause-err c =
+    let u = c.self.inside in
+    let new = core_value c.execute.new.self in
+    let same = c.in_err-answer.ensures.err in
+    on_err c.from_residual-in_err-answer.result (
+    (λ i. record {
+      state = state_shown u.opening (c.reserve.ensures.items i) c.reserve_unit.new.outcomes.items c.reserve_unit.new.commits.items new;
+      store = shown_store (same.stores.store i);
+    })
+    ∙ (λ i. record {
+      state = refused_shown u.opening u.trace.items u.outcomes.items u.commits.items (core_value u.core) new c.self.invariant.0 same c.reserve_unit.new.outcomes.items c.reserve_unit.new.commits.items
+          c.reserve_unit.ensures.outcomes c.reserve_unit.ensures.commits i;
+      store = shown_store u.core.store;
+    })
+    ∙ c.self.view_is)
+
+-- ---- what is told of answers alone
+pub returns-in_err-reserve-clause-done : goal.returns-in_err-reserve-clause-done
+returns-in_err-reserve-clause-done c = IfOk-from_err c.from_residual.result _ c.from_residual.ensures.0
+
+pub returns-in_err-reserve-clause-back : goal.returns-in_err-reserve-clause-back
+returns-in_err-reserve-clause-back c = IfOk-from_err c.from_residual.result _ c.from_residual.ensures.0
+
+pub returns-in_err-reserve-clause-holder_open : goal.returns-in_err-reserve-clause-holder_open
+returns-in_err-reserve-clause-holder_open c = IfOk-from_err c.from_residual.result _ c.from_residual.ensures.0
+
+pub returns-in_err-reserve-clause-state : goal.returns-in_err-reserve-clause-state
+returns-in_err-reserve-clause-state c = IfOk-from_err c.from_residual.result _ c.from_residual.ensures.0
+
+pub returns-in_err-reserve_unit-clause-done : goal.returns-in_err-reserve_unit-clause-done
+returns-in_err-reserve_unit-clause-done c = IfOk-from_err c.from_residual-in_err-reserve_unit.result _ c.from_residual-in_err-reserve_unit.ensures.0
+
+pub returns-in_err-reserve_unit-clause-back : goal.returns-in_err-reserve_unit-clause-back
+returns-in_err-reserve_unit-clause-back c = IfOk-from_err c.from_residual-in_err-reserve_unit.result _ c.from_residual-in_err-reserve_unit.ensures.0
+
+pub returns-in_err-reserve_unit-clause-holder_open : goal.returns-in_err-reserve_unit-clause-holder_open
+returns-in_err-reserve_unit-clause-holder_open c = IfOk-from_err c.from_residual-in_err-reserve_unit.result _ c.from_residual-in_err-reserve_unit.ensures.0
+
+pub returns-in_err-reserve_unit-clause-state : goal.returns-in_err-reserve_unit-clause-state
+returns-in_err-reserve_unit-clause-state c = IfOk-from_err c.from_residual-in_err-reserve_unit.result _ c.from_residual-in_err-reserve_unit.ensures.0
+
+pub returns-in_err-content-clause-done : goal.returns-in_err-content-clause-done
+returns-in_err-content-clause-done c = IfOk-from_err c.from_residual-in_err-content.result _ c.from_residual-in_err-content.ensures.0
+
+pub returns-in_err-content-clause-back : goal.returns-in_err-content-clause-back
+returns-in_err-content-clause-back c = IfOk-from_err c.from_residual-in_err-content.result _ c.from_residual-in_err-content.ensures.0
+
+pub returns-in_err-content-clause-holder_open : goal.returns-in_err-content-clause-holder_open
+returns-in_err-content-clause-holder_open c = IfOk-from_err c.from_residual-in_err-content.result _ c.from_residual-in_err-content.ensures.0
+
+pub returns-in_err-content-clause-state : goal.returns-in_err-content-clause-state
+returns-in_err-content-clause-state c = IfOk-from_err c.from_residual-in_err-content.result _ c.from_residual-in_err-content.ensures.0
+
+pub returns-in_err-answer-clause-done : goal.returns-in_err-answer-clause-done
+returns-in_err-answer-clause-done c = IfOk-from_err c.from_residual-in_err-answer.result _ c.from_residual-in_err-answer.ensures.0
+
+pub returns-in_err-answer-clause-back : goal.returns-in_err-answer-clause-back
+returns-in_err-answer-clause-back c = IfOk-from_err c.from_residual-in_err-answer.result _ c.from_residual-in_err-answer.ensures.0
+
+pub returns-in_err-answer-clause-holder_open : goal.returns-in_err-answer-clause-holder_open
+returns-in_err-answer-clause-holder_open c = IfOk-from_err c.from_residual-in_err-answer.result _ c.from_residual-in_err-answer.ensures.0
+
+pub returns-in_err-answer-clause-state : goal.returns-in_err-answer-clause-state
+returns-in_err-answer-clause-state c = IfOk-from_err c.from_residual-in_err-answer.result _ c.from_residual-in_err-answer.ensures.0

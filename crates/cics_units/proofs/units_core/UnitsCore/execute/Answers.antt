@@ -1,5 +1,7 @@
-use Rattle.std.proofs.Common.{◌≡◌, ◌∙◌, false, Bool, Option, Some, None, List, sym, ap, subst, refl, arith, is_some, not, filter, Bor}
-use Rattle.std.specs.Prelude.{if◌then◌else◌, slice_get, slice_set}
+use Rattle.std.proofs.Common.{◌≡◌, ◌<◌, ◌∙◌, false, Bool, Option, Some, None, List, sym, ap, subst, refl, arith, is_some, not, filter, Bor}
+use Rattle.std.specs.Prelude.{if◌then◌else◌, slice_get, slice_set, length}
+use Rattle.std.proofs.lemmas.List.{length-set}
+use Rattle.std.proofs.lemmas.Result.{IfOk-from_err}
 use Rattle.std.specs.Option.{option_copied}
 use Rattle.std.proofs.lemmas.Bool.{false_from_ne_true}
 use Rattle.cics_names.specs.Keyed.{Bytes}
@@ -11,16 +13,16 @@ use Rattle.cics_history.specs.declared.ops.Op.TheVariants.{ReadUpdate}
 use Rattle.cics_units.specs.Applied.{IsApplied, IsBound, read_given}
 use Rattle.cics_units.specs.Cores.{core_value}
 use Rattle.cics_units.specs.Executed.{IsDone, IsExecuted}
-use Rattle.cics_units.specs.Parts.{CoreValue, given_record}
+use Rattle.cics_units.specs.Parts.{CoreValue, AreRoomier, IsCoreAsBefore, given_record}
 use Rattle.cics_opening.specs.StoreMatching.{AnyImage}
 use Rattle.cics_units.specs.TableInPlace.{is_read}
 use Rattle.cics_units.specs.ImageRows.{kept_by, AreOthersKept}
 use Rattle.cics_units.specs.Uses.{uses_if, listed, taken_all}
 use Rattle.cics_units.proofs.DoneCommands.{not_read, opened_none, changed_table, read_done}
-use Rattle.cics_units.proofs.RefusedCommands.{condition_normal, reads_refused}
-use Rattle.cics_units.proofs.UnitRows.{kept_at, room_at, kept_set, others_set, row_read}
+use Rattle.cics_units.proofs.RefusedCommands.{on_err, condition_normal, reads_refused}
+use Rattle.cics_units.proofs.UnitRows.{kept_at, room_at, kept_set, kept_replaced, others_set, row_read}
 use Rattle.cics_units.proofs.units_core.UnitsCore.execute.Goals as goal
-use Rattle.cics_units.proofs.units_core.UnitsCore.execute.Goals.{In_ok-reserve_images, In_ok-copied, In-Ok}
+use Rattle.cics_units.proofs.units_core.UnitsCore.execute.Goals.{After-reserve_images, In_ok-reserve_images, In_ok-copied, In-Ok}
 
 -- what is lent is there as what it points at is
 copied_some : (o : Option (Bor Bytes)) → is_some (option_copied o) ≡ is_some o
@@ -167,4 +169,64 @@ returns-in_default-condition c =
         reads = reads_refused u op answer.condition old.reads refused;
       });
       err = tt;
+    }
+
+-- ---- memory is refused
+-- there is more room
+roomier : (c : After-reserve_images) → AreRoomier (core_value c.args.self.now).stores (record { store = c.args.self.now.store; images = c.reserve_images.new.rows.items })
+roomier c = record { store = refl; kept = c.reserve_images.ensures.kept; longer = c.reserve_images.ensures.longer }
+
+pub returns-in_err-reserve_images-clause-executed : goal.returns-in_err-reserve_images-clause-executed
+returns-in_err-reserve_images-clause-executed c = IfOk-from_err c.from_residual.result _ c.from_residual.ensures.0
+
+pub returns-in_err-reserve_images-clause-err : goal.returns-in_err-reserve_images-clause-err
+returns-in_err-reserve_images-clause-err c =
+    on_err c.from_residual.result (record { stores = roomier (goal.at.returns-in_err-reserve_images-clause-err c).After-reserve_images; table = refl; reads = refl })
+
+pub returns-in_err-copied-clause-executed : goal.returns-in_err-copied-clause-executed
+returns-in_err-copied-clause-executed c = IfOk-from_err c.from_residual-in_err-copied.result _ c.from_residual-in_err-copied.ensures.0
+
+pub returns-in_err-copied-clause-err : goal.returns-in_err-copied-clause-err
+returns-in_err-copied-clause-err c =
+    on_err c.from_residual-in_err-copied.result (record { stores = roomier (goal.at.returns-in_err-copied-clause-err c).After-reserve_images; table = refl; reads = refl })
+
+pub returns-in_err-open_read-clause-executed : goal.returns-in_err-open_read-clause-executed
+returns-in_err-open_read-clause-executed c = IfOk-from_err c.from_residual-in_err-open_read.result _ c.from_residual-in_err-open_read.ensures.0
+
+pub returns-in_err-open_read-clause-err : goal.returns-in_err-open_read-clause-err
+returns-in_err-open_read-clause-err c =
+    on_err c.from_residual-in_err-open_read.result
+    (subst (λ n. IsCoreAsBefore (core_value c.args.self.now) (core_value n)) (sym c.in_err-open_read.ensures.err)
+    (record { stores = roomier (goal.at.returns-in_err-open_read-clause-err c).After-reserve_images; table = refl; reads = refl }))
+
+pub returns-in_err-were_free : goal.returns-in_err-were_free
+returns-in_err-were_free c = record {
+  executed = IfOk-from_err c.from_residual-in_err-were_free.result _ c.from_residual-in_err-were_free.ensures.0;
+  err = on_err c.from_residual-in_err-were_free.result (record { stores = roomier (goal.at.returns-in_err-were_free c).After-reserve_images; table = c.in_err-were_free.ensures.err; reads = refl });
+}
+
+pub index_mut-requires : goal.index_mut-requires
+index_mut-requires c = omega (arith, c.number-at.ensures, c.in_ok-reserve_images.ensures.begun, c.reserve_images.new.rows.ok.0)
+
+pub end_covered-requires : goal.end_covered-requires
+end_covered-requires c = record { short = c.requires.short; once = c.requires.once }
+
+pub returns-in-Err : goal.returns-in-Err
+returns-in-Err c =
+    let rows = c.reserve_images.new.rows.items in
+    let row = c.index_mut.result.now in
+    let at = c.number-at.result in
+    let read : slice_get rows at ≡ Some row = row_read rows at row at refl (subst (λ n. n < length rows) (sym c.number-at.ensures) c.in_ok-reserve_images.ensures.begun) c.index_mut.ensures.value in
+    let same : c.apply.new.images.newest_first ≡ kept_by rows at = ap (λ r. r.newest_first) c.in-Err.ensures.err_images ∙ sym (kept_at rows at row read) in
+    record {
+      executed = tt;
+      err = record {
+        stores = record {
+          store = c.in-Err.ensures.err_store;
+          kept = λ w. kept_replaced rows at w c.apply.new.images same ∙ c.reserve_images.ensures.kept w;
+          longer = omega (arith, c.reserve_images.ensures.longer, length-set rows at c.apply.new.images);
+        };
+        table = c.let_go_all-in-Err.ensures ∙ c.in_ok-were_free.ensures.undone;
+        reads = refl;
+      };
     }
