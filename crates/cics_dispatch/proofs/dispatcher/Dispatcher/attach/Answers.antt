@@ -1,8 +1,8 @@
-use Rattle.std.proofs.Common.{◌≡◌, ◌<◌, ◌∙◌, ℕ, sym, ap, subst, refl, true, false, Option, Some, None, List, length, Ok, Err}
+use Rattle.std.proofs.Common.{◌≡◌, ◌<◌, ◌∙◌, ℕ, sym, ap, subst, refl, true, Option, Some, None, List, length, Ok}
 use Rattle.std.specs.Prelude.{if◌then◌else◌, is_some, is_none, slice_get, IfSome}
 use Rattle.std.proofs.lemmas.Bool.{false≢true}
 use Rattle.cics_names.specs.Keyed.{Bytes}
-use Rattle.cics_machine.specs.Machine.{RegionValue, Task, task_at}
+use Rattle.cics_machine.specs.Machine.{Task, task_at}
 use Rattle.cics_machine.specs.Regions.{region_of, IsRegionKept}
 use Rattle.cics_machine.specs.Steps.{with_new_task, refused_or, attached}
 use Rattle.cics_machine.specs.declared.outcomes.Refused.TheVariants.{DuplicateLabel}

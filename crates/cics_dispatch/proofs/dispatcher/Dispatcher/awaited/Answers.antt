@@ -1,7 +1,7 @@
-use Rattle.std.proofs.Common.{◌≡◌, ◌∙◌, sym, ap, subst, Some, None}
-use Rattle.std.specs.Prelude.{take, IfSome}
+use Rattle.std.proofs.Common.{◌≡◌, ◌∙◌, sym, ap, subst}
+use Rattle.std.specs.Prelude.{IfSome}
 use Rattle.cics_history.specs.Execution.{IsOpenOrNone, IsOpenUnit}
-use Rattle.cics_history.specs.Holding.{awaited, value_holder}
+use Rattle.cics_history.specs.Holding.{awaited}
 use Rattle.cics_machine.specs.Calls.{OfTask, HasReady}
 use Rattle.cics_machine.specs.KeptTasks.{IsReady}
 use Rattle.cics_machine.specs.Regions.{region_of}

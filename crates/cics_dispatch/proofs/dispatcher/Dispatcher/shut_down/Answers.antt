@@ -1,4 +1,4 @@
-use Rattle.std.proofs.Common.{◌∙◌, sym, ap, subst, refl, true, Ok, List, [], ◌∷◌}
+use Rattle.std.proofs.Common.{◌∙◌, sym, ap, refl, true, Ok, List, [], ◌∷◌}
 use Rattle.std.specs.Prelude.{slice_get, All}
 use Rattle.std.proofs.lemmas.List.Elements.{All-nil, All-cons, All-head, All-tail}
 use Rattle.cics_machine.specs.Machine.{Machine, Suspended, with_waiting}
