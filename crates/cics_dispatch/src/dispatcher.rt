@@ -157,7 +157,7 @@ impl Dispatcher {
     pub(crate) fn unit_of(&self, label: &Name8) -> Option<UnitId>
         ensures { result ≡ unit_of self.now.machine label.now }
     {
-        let at = self.tasks.find(label)?;
+        let at = self.find(label)?;
         self.unit_at(at)
     }
 

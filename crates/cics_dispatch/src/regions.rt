@@ -86,10 +86,12 @@ impl Model for Region {
 fn giving_up(keeps: bool, outcome: &Outcome, unit: Option<UnitId>) -> Option<UnitId>
     ensures { result ≡ (if keeps && goes_on outcome.now then None else unit) }
 {
-    if keeps && matches!(outcome, Outcome::Replied(_) | Outcome::Waiting(_)) {
-        None
-    } else {
-        unit
+    if !keeps {
+        return unit;
+    }
+    match outcome {
+        Outcome::Replied(_) | Outcome::Waiting(_) => None,
+        Outcome::Abended(_, _) | Outcome::Ended => unit,
     }
 }
 

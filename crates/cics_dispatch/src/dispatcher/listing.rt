@@ -21,7 +21,7 @@ impl Dispatcher {
     fn task_state(&self, task: &Task) -> TaskState
         ensures { result ≡ task_state self.now.machine task.now }
     {
-        if self.waits.is_waiting(&task.label()) {
+        if self.is_waiting(&task.label()) {
             TaskState::IsWaiting
         } else if task.unit().is_some() {
             TaskState::HasUnit

@@ -2,7 +2,7 @@ use Rattle.std.proofs.Common.{◌≡◌, ◌∙◌, ◌+◌, length, sym, ap, su
 use Rattle.std.specs.Prelude.{suc, drop, is_some, slice_get}
 use Rattle.std.proofs.lemmas.Option.{slice_get_within}
 use Rattle.cics_history.specs.declared.ops.UnitState.TheVariants.{BackedOut}
-use Rattle.cics_machine.specs.Machine.{unit_closed}
+use Rattle.cics_machine.specs.Machine.{is_waiting, unit_closed}
 use Rattle.cics_machine.specs.Tasks.{own_label, IsOwn}
 use Rattle.cics_machine.specs.Shutdown.{units_of, all_ended}
 use Rattle.cics_machine.proofs.RegionShutdown.{ended_long, ended_then, count_then, none_then, one_more, none_more}
@@ -46,3 +46,6 @@ returns-clause-none c = λ i t is.
     let long = c.loop-at.invariant.long in
     let seen = ap (λ v. length v.machine.tasks) c.self.view_is in
     c.loop-at.invariant.none i t (omega (arith, within, over, end, long, seen)) is
+
+pub close-requires-clause-awake : goal.close-requires-clause-awake
+close-requires-clause-awake c = λ t there. ap (λ ws. is_waiting ws t.label) c.loop-at.invariant.alone

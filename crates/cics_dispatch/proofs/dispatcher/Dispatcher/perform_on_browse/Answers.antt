@@ -5,11 +5,13 @@ use Rattle.cics_names.specs.declared.commands.Verb.{Verb}
 use Rattle.cics_names.specs.declared.commands.Verb.TheVariants.{Write, Rewrite, Delete, StartBr, ResetBr, ReadNext, ReadPrev, EndBr}
 use Rattle.cics_machine.specs.Calls.{going_on, reading_on, reads_or_unlocks}
 use Rattle.cics_machine.specs.Machine.{Task}
+use Rattle.cics_machine.specs.Answers.{is_growing}
+use Rattle.cics_names.specs.Keyed.{Bytes, value_at}
 use Rattle.cics_machine.specs.Replies.{plain}
-use Rattle.cics_machine.specs.Steps.{answered, other_command, started}
+use Rattle.cics_machine.specs.Steps.{answered, browse_ended, other_command, reset, started}
 use Rattle.cics_machine.specs.declared.browses.Direction.TheVariants.{Forward, Back}
 use Rattle.cics_machine.proofs.RegionSteps.{told_as, may_told_as}
-use Rattle.cics_machine.proofs.RegionPerforming.{file_of, browse_of, moves_browse}
+use Rattle.cics_machine.proofs.RegionPerforming.{file_of, browse_of, moves_browse, on_error}
 use Rattle.cics_dispatch.proofs.dispatcher.Dispatcher.perform_on_browse.Goals as goal
 
 pub start_browse-requires-clause-there : goal.start_browse-requires-clause-there
@@ -82,3 +84,44 @@ returns c = record {
     by t (Rewrite f from n) is named other = refl
     by t (Delete f key given generic) is named other = refl
     by t verb is named other = cc
+
+pub start_browse-requires-clause-awake : goal.start_browse-requires-clause-awake
+start_browse-requires-clause-awake c = c.requires.may.awake
+
+pub reset_browse-requires-clause-awake : goal.reset_browse-requires-clause-awake
+reset_browse-requires-clause-awake c = c.requires.may.awake
+
+pub read_on-requires-clause-awake : goal.read_on-requires-clause-awake
+read_on-requires-clause-awake c = c.requires.may.awake
+
+pub read_on-requires-in-ReadPrev-clause-awake : goal.read_on-requires-in-ReadPrev-clause-awake
+read_on-requires-in-ReadPrev-clause-awake c = c.requires.may.awake
+
+pub end_browse-requires-clause-awake : goal.end_browse-requires-clause-awake
+end_browse-requires-clause-awake c = c.requires.may.awake
+
+pub returns-in-StartBr-clause-growing : goal.returns-in-StartBr-clause-growing
+returns-in-StartBr-clause-growing c = on_error c.start_browse.result (ap is_growing c.in-StartBr.is)
+
+pub returns-in-ReadNext-clause-growing : goal.returns-in-ReadNext-clause-growing
+returns-in-ReadNext-clause-growing c = on_error c.read_on.result (ap is_growing c.in-ReadNext.is)
+
+pub returns-in-ReadPrev-clause-growing : goal.returns-in-ReadPrev-clause-growing
+returns-in-ReadPrev-clause-growing c = on_error c.read_on-in-ReadPrev.result (ap is_growing c.in-ReadPrev.is)
+
+pub answer-requires : goal.answer-requires
+answer-requires c = record { within = c.requires.within }
+
+pub returns-in-ResetBr-clause-step : goal.returns-in-ResetBr-clause-step
+returns-in-ResetBr-clause-step c =
+    let m = c.args.self.now.machine in
+    let file = c.in-ResetBr.file in
+    let reset_to = λ (key : Bytes) (t : Task). reset m t c.args.command.resp file key c.in-ResetBr.generic c.in-ResetBr.equal (value_at file t.browses) in
+    told_as c.args.at (reset_to c.take-in-ResetBr.result) (going_on m c.args.command None)
+    (λ t there. ap (λ key. reset_to key t) c.take-in-ResetBr.ensures.taken ∙ ap (other_command m t c.args.command) (sym c.in-ResetBr.is)) c.reset_browse.ensures.step
+
+pub returns-in-EndBr-clause-step : goal.returns-in-EndBr-clause-step
+returns-in-EndBr-clause-step c =
+    let m = c.args.self.now.machine in
+    told_as c.args.at (λ t. browse_ended m t c.args.command.resp c.in-EndBr.file) (going_on m c.args.command None)
+    (λ t there. ap (other_command m t c.args.command) (sym c.in-EndBr.is)) c.end_browse.ensures.step

@@ -1,12 +1,12 @@
-use Rattle.std.proofs.Common.{◌∙◌, ap}
+use Rattle.std.proofs.Common.{◌<◌, ◌∙◌, sym, ap, subst, length}
 use Rattle.std.specs.Prelude.{option_map}
 use Rattle.cics_names.specs.Commands.{length_of}
 use Rattle.cics_history.specs.Execution.{item_asked}
 use Rattle.cics_machine.specs.Calls.{reading_item}
-use Rattle.cics_machine.specs.Regions.{region_of}
+use Rattle.cics_machine.specs.Regions.{region_of, IsRegionKept}
 use Rattle.cics_machine.specs.Steps.{answered, reply_with}
 use Rattle.cics_machine.specs.declared.outcomes.Number.TheVariants.{Item}
-use Rattle.cics_machine.proofs.RegionSteps.{seen_task, seen_awake, seen_step, then_told}
+use Rattle.cics_machine.proofs.RegionSteps.{seen_task, seen_awake, seen_step, then_told, refused_as_was}
 use Rattle.cics_machine.proofs.RegionQueues.{item_read_machine, item_read_kept}
 use Rattle.cics_dispatch.proofs.dispatcher.Dispatcher.read_item.Goals as goal
 
@@ -35,3 +35,20 @@ returns c =
           (seen_awake c.args.at c.self.view_is c.requires.awake t there) c.in_ok-answer.ensures.headline c.in_ok-answer.ensures.serializable)
           (λ i. answered (machine i) t c.args.command.now.resp (told i)) c.answer.ensures.step));
     }
+
+pub invariant_of-self : goal.invariant_of-self
+invariant_of-self c =
+    let u = c.self.inside in
+    subst (λ units. IsRegionKept (region_of units u.tasks u.waits u.clock u.is_down)) (sym c.in_err-answer.ensures.err) c.self.invariant
+
+pub returns-in_err-answer : goal.returns-in_err-answer
+returns-in_err-answer c =
+    let u = c.self.inside in
+    let command = c.args.command.now in
+    record {
+      step = refused_as_was c.args.self.now _ c.from_residual.result c.args.at (reading_item c.args.self.now.machine command.resp c.args.queue.now (length_of command.verb) c.args.item) c.from_residual.ensures.0
+          ((λ i. region_of (c.in_err-answer.ensures.err i) u.tasks u.waits u.clock u.is_down) ∙ c.self.view_is);
+    }
+
+pub answer-requires : goal.answer-requires
+answer-requires c = record { within = subst (λ v. c.args.at < length v.machine.tasks) (sym c.self.view_is) c.requires.within }

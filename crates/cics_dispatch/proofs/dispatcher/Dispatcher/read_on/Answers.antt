@@ -1,4 +1,6 @@
-use Rattle.std.proofs.Common.{◌∙◌, ap, sym}
+use Rattle.std.specs.Prelude.{is_some}
+use Rattle.cics_machine.specs.Machine.{definition_of}
+use Rattle.std.proofs.Common.{◌≡◌, ◌∙◌, ap, sym, subst, true}
 use Rattle.std.specs.Option.{option_copied_mut}
 use Rattle.cics_names.specs.Commands.{length_of}
 use Rattle.cics_names.specs.Keyed.{value_at}
@@ -49,3 +51,6 @@ returns c = record {
       (read_answered c.self.invariant c.args.at t there c.args.command.now.resp c.args.name browse records (own_records c.self.invariant c.args.at t there c.args.name records c.in-Some.ensures.records)
       (length_of c.args.command.now.verb) c.args.direction c.in_ok-browsed.browsed c.in_ok-browsed.ensures.reply c.in_ok-browsed.ensures.position) c.answer.ensures.step));
 }
+
+pub unreachable-requires : goal.unreachable-requires
+unreachable-requires c = never_none _ (subst (λ v. is_some (definition_of v.machine c.args.name) ≡ true) (sym c.self.view_is) c.requires.there) (sym c.in_default.ensures.definition)

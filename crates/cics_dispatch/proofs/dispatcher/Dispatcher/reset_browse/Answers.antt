@@ -1,4 +1,6 @@
-use Rattle.std.proofs.Common.{◌∙◌, ap, sym}
+use Rattle.std.specs.Prelude.{is_some}
+use Rattle.cics_machine.specs.Machine.{definition_of}
+use Rattle.std.proofs.Common.{◌≡◌, ◌∙◌, ap, sym, subst, true}
 use Rattle.std.specs.Option.{option_copied_mut}
 use Rattle.cics_names.specs.Keyed.{value_at}
 use Rattle.cics_machine.specs.Replies.{plain}
@@ -34,3 +36,6 @@ returns c = record {
       (reset_answered c.self.invariant c.args.at t there c.args.resp c.args.name.now browse records (own_records c.self.invariant c.args.at t there c.args.name.now records c.in-Some.ensures.records)
       c.args.start.key c.args.start.generic c.args.start.equal c.reset-condition.result c.reset-condition.ensures.condition c.reset-condition.ensures.position) c.answer.ensures.step));
 }
+
+pub unreachable-requires : goal.unreachable-requires
+unreachable-requires c = never_none _ (subst (λ v. is_some (definition_of v.machine c.args.name.now) ≡ true) (sym c.self.view_is) c.requires.there) (sym c.in_default.ensures.definition)

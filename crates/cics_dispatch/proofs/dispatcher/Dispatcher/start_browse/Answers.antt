@@ -1,10 +1,12 @@
-use Rattle.std.proofs.Common.{◌∙◌, ap, sym}
+use Rattle.std.specs.Prelude.{is_some}
+use Rattle.cics_machine.specs.Machine.{definition_of}
+use Rattle.std.proofs.Common.{◌≡◌, ◌∙◌, ap, sym, subst, true}
 use Rattle.cics_names.specs.Keyed.{with_value}
 use Rattle.cics_names.specs.declared.conditions.Condition.TheVariants.{Normal}
 use Rattle.cics_machine.specs.Regions.{region_of}
 use Rattle.cics_machine.specs.Replies.{plain}
 use Rattle.cics_machine.specs.Steps.{answered, started}
-use Rattle.cics_machine.proofs.RegionBrowses.{owner_within, browses_kept, same_browses, own_records, then_told_so, started_there, not_started}
+use Rattle.cics_machine.proofs.RegionBrowses.{never_none, owner_within, browses_kept, same_browses, own_records, then_told_so, started_there, not_started}
 use Rattle.cics_machine.proofs.RegionSteps.{seen_task, seen_awake, seen_step, told_as, refused_as_was}
 use Rattle.cics_dispatch.proofs.dispatcher.Dispatcher.start_browse.Goals as goal
 
@@ -53,3 +55,6 @@ returns c = record {
       (own_records c.self.invariant c.args.at t there c.args.name records c.in-Some.ensures.records) browse c.put.new.self (sym c.in-Some-start.is ∙ c.start.ensures)
       (c.in_ok-put.ensures.ok ∙ ap (with_value c.args.name browse) (c.browses_mut.ensures.browses t there))) c.answer-2.ensures.step));
 }
+
+pub unreachable-requires : goal.unreachable-requires
+unreachable-requires c = never_none _ (subst (λ v. is_some (definition_of v.machine c.args.name) ≡ true) (sym c.self.view_is) c.requires.there) (sym c.in_default.ensures.definition)

@@ -1,14 +1,16 @@
-use Rattle.std.proofs.Common.{◌∙◌, sym, ap, subst, Ok}
+use Rattle.std.proofs.Common.{◌∙◌, sym, ap, subst, length, Ok}
+use Rattle.cics_history.specs.Execution.{IsOpenUnit}
+use Rattle.std.proofs.lemmas.Bool.{and_from, lt-ltb}
 use Rattle.cics_machine.specs.Regions.{region_of}
 use Rattle.cics_machine.specs.Calls.{HasReady, IsStepOrRefused}
 use Rattle.std.specs.Prelude.{◌++◌, ◌∷◌, []}
-use Rattle.cics_machine.specs.Machine.{with_waiting}
+use Rattle.cics_machine.specs.Machine.{is_waiting, with_waiting}
 use Rattle.cics_machine.proofs.KeptTasks.{begins_now, kept_suspended}
 use Rattle.cics_machine.proofs.OwnedUnits.{owned_suspended}
 use Rattle.std.specs.Prelude.{unwrap_or}
 use Rattle.cics_machine.specs.Steps.{with_outcome, suspended}
 use Rattle.cics_machine.specs.declared.outcomes.Outcome.TheVariants.{Waiting}
-use Rattle.cics_machine.proofs.RegionSteps.{kept_as, one_task}
+use Rattle.cics_machine.proofs.RegionSteps.{kept_as, one_task, seen_awake, refused_as_was}
 use Rattle.cics_dispatch.proofs.dispatcher.Dispatcher.suspend.Goals as goal
 
 pub invariant_of-self-2 : goal.invariant_of-self-2
@@ -46,4 +48,21 @@ returns c =
         λ was. kept_as new (with_waiting m (m.waiting ++ begins_now t.label m command op ∷ [])) (λ i. record m { waiting = began i })
             (kept_suspended m c.args.at t command op c.self.invariant.tasks c.get.ensures ready) (owned_suspended m _ c.self.invariant.owned) (record { headline = c.self.invariant.headline.headline }) (record { serializable = c.self.invariant.serializable.serializable }),
       );
+    }
+
+pub unreachable-requires : goal.unreachable-requires
+unreachable-requires c =
+    let holder = c.args.holder in
+    let is_open = subst (λ v. IsOpenUnit v.machine.units holder) (sym c.self.view_is) c.requires.is_open in
+    c.self.invariant.owned.owned holder (and_from _ _ (lt-ltb holder (length c.self.inside.units.state.outcomes) is_open.0) is_open.1) c.in_default.ensures.none
+
+pub begin-requires : goal.begin-requires
+begin-requires c = ap (is_waiting c.self.inside.waits) c.label-label.ensures ∙ seen_awake c.args.at c.self.view_is c.requires.awake c.get.result.now c.get.ensures
+
+pub returns-in_err-begin : goal.returns-in_err-begin
+returns-in_err-begin c =
+    let u = c.self.inside in
+    record {
+      step = refused_as_was c.args.self.now _ c.from_residual.result c.args.at (λ t. suspended c.args.self.now.machine t c.args.command c.args.op c.args.holder) c.from_residual.ensures.0
+          ((λ i. region_of u.units u.tasks (c.in_err-begin.ensures.err i) u.clock u.is_down) ∙ c.self.view_is);
     }

@@ -1,17 +1,18 @@
 use Rattle.std.proofs.Common.{◌≡◌, ◌∙◌, sym, ap, subst, refl, Some}
 use Rattle.cics_machine.specs.Regions.{region_of, IsRegionKept}
-use Rattle.std.specs.Prelude.{[]}
+use Rattle.std.specs.Prelude.{[], All}
 use Rattle.cics_machine.specs.Machine.{Machine, with_waiting}
 use Rattle.cics_machine.specs.Steps.{with_outcome}
 use Rattle.cics_machine.specs.Waking.{woken}
 use Rattle.cics_machine.specs.Notes.{IsFirstFree}
-use Rattle.cics_machine.specs.KeptTasks.{AreTasksKept}
+use Rattle.cics_machine.specs.KeptTasks.{AreTasksKept, IsWaitKept}
+use Rattle.cics_machine.proofs.KeptTasks.{kept_aside, waits_aside}
 use Rattle.cics_machine.proofs.OwnedUnits.{owned_suspended}
 use Rattle.cics_machine.proofs.RegionSteps.{kept_as}
 use Rattle.cics_machine.proofs.RegionWaking.{woken_kept}
 use Rattle.cics_machine.proofs.Looks.{went_back}
 use Rattle.cics_dispatch.proofs.dispatcher.Dispatcher.wake.Goals as goal
-use Rattle.cics_dispatch.proofs.dispatcher.Dispatcher.wake.Goals.{After-remove}
+use Rattle.cics_dispatch.proofs.dispatcher.Dispatcher.wake.Goals.{After-remove, After-drop-self-inside-in-Err}
 
 -- what is known once the others wait again
 module _ (c : After-remove) where
@@ -41,6 +42,16 @@ module _ (c : After-remove) where
       (subst AreTasksKept (sym (ap (λ s. s.machine) back)) (woken_kept before c.self.invariant.tasks))
       (owned_suspended performed c.remove.new.self c.self-2.invariant.owned) (record { headline = c.self-2.invariant.headline.headline }) (record { serializable = c.self-2.invariant.serializable.serializable })
 
+-- what is known once the command waits again
+module _ (c : After-drop-self-inside-in-Err) where
+  as_was : region_of c.self-2.inside.units c.self-2.inside.tasks c.replace-waits.result c.self-2.inside.clock c.self-2.inside.is_down
+      ≡ region_of c.self.inside.units c.self.inside.tasks c.self.inside.waits c.self.inside.clock c.self.inside.is_down
+  as_was =
+      let u = c.self.inside in
+      let same : region_of c.self-2.inside.units c.self-2.inside.tasks c.self-2.inside.waits c.self-2.inside.clock c.self-2.inside.is_down ≡ region_of u.units u.tasks c.replace-waits.new.dest u.clock u.is_down =
+      c.self-2.view_is ∙ c.in-Err.ensures.err in
+      (λ i. record (same i) { machine = with_waiting (same i).machine c.replace-waits.result }) ∙ (λ i. region_of u.units u.tasks (c.replace-waits.ensures.value i) u.clock u.is_down)
+
 pub invariant_of-self-in-Ok : goal.invariant_of-self-in-Ok
 invariant_of-self-in-Ok c = kept (goal.at.invariant_of-self-in-Ok c).After-remove
 
@@ -49,3 +60,31 @@ returns-in-Ok-clause-step c = back (goal.at.returns-in-Ok-clause-step c).After-r
 
 pub returns-in-Ok-clause-kept : goal.returns-in-Ok-clause-kept
 returns-in-Ok-clause-kept c = λ was. kept (goal.at.returns-in-Ok-clause-kept c).After-remove
+
+pub invariant_of-self : goal.invariant_of-self
+invariant_of-self c =
+    let u = c.self.inside in
+    let m = (region_of u.units u.tasks u.waits u.clock u.is_down).machine in
+    let none : c.replace-waits.new.dest ≡ [] = c.replace-waits.ensures.after ∙ c.new.ensures in
+    kept_as (region_of u.units u.tasks c.replace-waits.new.dest u.clock u.is_down) (with_waiting m []) (λ i. record m { waiting = none i })
+    (kept_aside m c.self.invariant.tasks) (owned_suspended m [] c.self.invariant.owned) (record { headline = c.self.invariant.headline.headline }) (record { serializable = c.self.invariant.serializable.serializable })
+
+pub go_on_first-requires-clause-alone : goal.go_on_first-requires-clause-alone
+go_on_first-requires-clause-alone c = c.replace-waits.ensures.after ∙ c.new.ensures
+
+pub go_on_first-requires-clause-kept : goal.go_on_first-requires-clause-kept
+go_on_first-requires-clause-kept c =
+    let u = c.self.inside in
+    let m = (region_of u.units u.tasks u.waits u.clock u.is_down).machine in
+    let none : c.replace-waits.new.dest ≡ [] = c.replace-waits.ensures.after ∙ c.new.ensures in
+    subst (λ ws. All (IsWaitKept (with_waiting m c.replace-waits.new.dest)) ws) (sym c.replace-waits.ensures.value)
+    (subst (λ aside. All (IsWaitKept (with_waiting m aside)) u.waits) (sym none) (waits_aside m u.waits c.self.invariant.tasks.waits))
+
+pub invariant_of-self-in-Err : goal.invariant_of-self-in-Err
+invariant_of-self-in-Err c = subst IsRegionKept (sym (as_was (goal.at.invariant_of-self-in-Err c).After-drop-self-inside-in-Err)) c.self.invariant
+
+pub returns-in-Err-clause-kept : goal.returns-in-Err-clause-kept
+returns-in-Err-clause-kept c = λ was. subst IsRegionKept (sym (as_was (goal.at.returns-in-Err-clause-kept c).After-drop-self-inside-in-Err)) c.self.invariant
+
+pub returns-in-Err-clause-err : goal.returns-in-Err-clause-err
+returns-in-Err-clause-err c = as_was (goal.at.returns-in-Err-clause-err c).After-drop-self-inside-in-Err ∙ c.self.view_is

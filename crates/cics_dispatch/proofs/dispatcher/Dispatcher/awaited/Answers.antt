@@ -1,0 +1,36 @@
+use Rattle.std.proofs.Common.{◌≡◌, ◌∙◌, sym, ap, subst}
+use Rattle.std.specs.Prelude.{IfSome}
+use Rattle.cics_history.specs.Execution.{IsOpenOrNone, IsOpenUnit}
+use Rattle.cics_history.specs.Holding.{awaited}
+use Rattle.cics_machine.specs.Calls.{OfTask, HasReady}
+use Rattle.cics_machine.specs.KeptTasks.{IsReady}
+use Rattle.cics_machine.specs.Regions.{region_of}
+use Rattle.cics_machine.specs.Waking.{awaited_by}
+use Rattle.cics_machine.proofs.KeptTasks.{acting_or_none}
+use Rattle.cics_machine.proofs.RegionSteps.{one_task}
+use Rattle.cics_dispatch.proofs.dispatcher.Dispatcher.awaited.Goals as goal
+
+pub awaited-requires-clause-is_open : goal.awaited-requires-clause-is_open
+awaited-requires-clause-is_open c =
+    let u = c.self.inside in
+    subst (IsOpenOrNone u.units.state) (sym c.unit-asking.ensures) (acting_or_none (region_of u.units u.tasks u.waits u.clock u.is_down).machine c.args.at c.get.result.now c.self.invariant.tasks c.get.ensures)
+
+pub awaited-requires-clause-ready : goal.awaited-requires-clause-ready
+awaited-requires-clause-ready c =
+    let w = c.args.wait.now in
+    let ready = subst (λ v. HasReady v.machine c.args.at w.command.verb w.op) (sym c.self.view_is) c.requires.ready c.get.result.now c.get.ensures in
+    rw c.unit-asking.ensures (subst (λ o. IsReady c.self.inside.units.state c.get.result.now.unit w.command.verb o) (sym c.in-Some.ensures) ready)
+
+pub returns-in-Some-clause-holder : goal.returns-in-Some-clause-holder
+returns-in-Some-clause-holder c =
+    let s = c.self.inside.units.state in
+    let w = c.args.wait.now in
+    subst (λ v. OfTask v.machine.tasks c.args.at (λ t. c.awaited.result ≡ awaited_by v.machine.units t.unit w.command.verb w.op)) c.self.view_is (λ t there.
+    c.awaited.ensures.awaited ∙ ap (λ asking. awaited s asking c.in-Some.op.now) (c.unit-asking.ensures ∙ ap (λ x. x.unit) (one_task c.self.inside.tasks c.args.at c.get.ensures there))
+    ∙ ap (awaited_by s t.unit w.command.verb) c.in-Some.ensures)
+
+pub returns-in-Some-clause-is_open : goal.returns-in-Some-clause-is_open
+returns-in-Some-clause-is_open c = subst (λ v. IfSome c.awaited.result (IsOpenUnit v.machine.units)) c.self.view_is c.awaited.ensures.is_open
+
+pub returns-clause-is_open : goal.returns-clause-is_open
+returns-clause-is_open c = subst (λ v. IfSome c.value_holder.result (IsOpenUnit v.machine.units)) c.self.view_is c.value_holder.ensures.is_open
