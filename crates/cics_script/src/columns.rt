@@ -18,7 +18,7 @@ use cics_names::NoMemory;
 use std::alloc::Global;
 
 /// The fault of a line, and its column.
-#[derive(Clone, Copy, PartialEq, Eq)]
+#[derive(Clone, Copy)]
 pub struct Placed {
     pub fault: LineFault,
     /// The first byte, counted from 1, of the token at which the line can't be read on.

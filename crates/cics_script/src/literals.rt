@@ -17,7 +17,7 @@ use std::alloc::{AllocError, Global};
 const QUOTE: u8 = b'\'';
 
 /// How a literal is written.
-#[derive(Clone, Copy, PartialEq, Eq)]
+#[derive(Clone, Copy)]
 pub enum Notation {
     Quoted,
     Hexadecimal,
@@ -40,7 +40,7 @@ pub struct Literal<'a> {
 }
 
 /// How what a literal says is copied: as it is, or in EBCDIC.
-#[derive(Clone, Copy, PartialEq, Eq)]
+#[derive(Clone, Copy)]
 pub enum Encoding {
     AsWritten,
     Ebcdic,

@@ -19,7 +19,7 @@ use crate::words::OptionWord::{
 };
 
 /// The first word of a line that begins with no label.
-#[derive(Clone, Copy, PartialEq, Eq)]
+#[derive(Clone, Copy)]
 pub enum Start {
     Define,
     Load,
@@ -29,7 +29,7 @@ pub enum Start {
 }
 
 /// What a DEFINE line defines.
-#[derive(Clone, Copy, PartialEq, Eq)]
+#[derive(Clone, Copy)]
 pub enum DefineObject {
     File,
     TsPrefix,
@@ -37,14 +37,14 @@ pub enum DefineObject {
 }
 
 /// What a LOAD line loads.
-#[derive(Clone, Copy, PartialEq, Eq)]
+#[derive(Clone, Copy)]
 pub enum LoadObject {
     File,
     TdQueue,
 }
 
 /// The verb of a command, with TS or TD if it acts on a queue.
-#[derive(Clone, Copy, PartialEq, Eq)]
+#[derive(Clone, Copy)]
 pub enum CommandWord {
     Read,
     Write,
@@ -70,7 +70,7 @@ pub enum CommandWord {
 }
 
 /// What a line is, by which its options are looked up.
-#[derive(Clone, Copy, PartialEq, Eq)]
+#[derive(Clone, Copy)]
 pub enum Form {
     Define(DefineObject),
     Load(LoadObject),
@@ -81,7 +81,7 @@ pub enum Form {
 }
 
 /// An option of a line. FILE and DATASET are the same option.
-#[derive(Clone, Copy, PartialEq, Eq)]
+#[derive(Clone, Copy, PartialEq)]
 pub enum OptionWord {
     File,
     TsPrefix,
@@ -125,7 +125,7 @@ pub enum OptionWord {
 }
 
 /// What an option takes in parentheses.
-#[derive(Clone, Copy, PartialEq, Eq)]
+#[derive(Clone, Copy)]
 pub enum Kind {
     /// No parentheses.
     Flag,

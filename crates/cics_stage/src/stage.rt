@@ -27,7 +27,7 @@ use std::alloc::Global;
 use std::mem::replace;
 
 /// Why a line ends the run.
-#[derive(Clone, Copy, PartialEq, Eq)]
+#[derive(Clone, Copy)]
 pub enum Fault {
     /// The line can't be read, or stands where it may not.
     Line(LineFault),
