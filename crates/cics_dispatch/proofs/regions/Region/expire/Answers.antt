@@ -1,6 +1,6 @@
 use Rattle.std.proofs.Common.{◌≡◌, ◌∙◌, sym, ap, subst, map, Some}
 use Rattle.cics_waits.specs.Notes.{given_up, forgotten, without, without_deadline, IsPlaceOf}
-use Rattle.cics_machine.specs.Waking.{expired, first_late}
+use Rattle.cics_machine.specs.Waking.{expired, expired_task, first_late}
 use Rattle.cics_machine.proofs.Deadlines.{due_dropped}
 use Rattle.cics_machine.proofs.Noted.{noted_dropped}
 use Rattle.cics_machine.specs.Answers.{IsHeadlineRegion, IsSerializableRegion}
@@ -66,3 +66,33 @@ returns-clause-first c =
     let u = c.self.inside in
     let e = c.time_out-expired.result in
     subst (λ v. IsFirstTooLate v.machine e.label) c.self.view_is (first_expired u.dispatcher.machine c.time_out-expired.new.self.machine e c.time_out-expired.ensures.step)
+
+pub returns-in_default-clause-outcome : goal.returns-in_default-clause-outcome
+returns-in_default-clause-outcome c = sym (ap (λ o. (expired_task c.self.inside.dispatcher.machine o).outcome) c.in_default.ensures.none) ∙ ap (λ v. (expired v.machine).outcome) c.self.view_is
+
+pub returns-in_default-clause-machine : goal.returns-in_default-clause-machine
+returns-in_default-clause-machine c = sym (ap (λ o. (expired_task c.self.inside.dispatcher.machine o).machine) c.in_default.ensures.none) ∙ ap (λ v. (expired v.machine).machine) c.self.view_is
+
+pub returns-in_default-clause-headline : goal.returns-in_default-clause-headline
+returns-in_default-clause-headline c = c.self.invariant.0.headline
+
+pub returns-in_default-clause-serializable : goal.returns-in_default-clause-serializable
+returns-in_default-clause-serializable c = c.self.invariant.0.serializable
+
+pub time_out-expired-requires-clause-within : goal.time_out-expired-requires-clause-within
+time_out-expired-requires-clause-within c = c.in-Some.ensures.within
+
+pub time_out-expired-requires-clause-first : goal.time_out-expired-requires-clause-first
+time_out-expired-requires-clause-first c = c.in-Some.ensures.task
+
+pub returns-clause-outcome : goal.returns-clause-outcome
+returns-clause-outcome c = ap (λ s. s.outcome) c.time_out-expired.ensures.step ∙ ap (λ v. (expired v.machine).outcome) c.self.view_is
+
+pub returns-clause-machine : goal.returns-clause-machine
+returns-clause-machine c = ap (λ s. s.machine) c.time_out-expired.ensures.step ∙ ap (λ v. (expired v.machine).machine) c.self.view_is
+
+pub returns-clause-headline : goal.returns-clause-headline
+returns-clause-headline c = (c.time_out-expired.ensures.kept c.self.invariant.0).headline
+
+pub returns-clause-serializable : goal.returns-clause-serializable
+returns-clause-serializable c = (c.time_out-expired.ensures.kept c.self.invariant.0).serializable

@@ -1,7 +1,7 @@
 use Rattle.std.proofs.Common.{◌∙◌, ap, subst, refl, Ok, Err}
 use Rattle.std.specs.Prelude.{◌&&◌, not, if◌then◌else◌, None}
 use Rattle.cics_machine.specs.Steps.{issued_by, issued}
-use Rattle.cics_machine.specs.Answers.{may_want}
+use Rattle.cics_machine.specs.Answers.{may_want, IsHeadlineRegion, IsSerializableRegion}
 use Rattle.cics_machine.specs.Shutdown.{IsRegionStep}
 use Rattle.cics_machine.proofs.RegionShutdown.{up_step}
 use Rattle.cics_machine.specs.declared.outcomes.Refused.TheVariants.{NoTask}
@@ -39,3 +39,33 @@ invariant_of-self-2 c =
           c.in_ok-outcome.ensures.step.0 c.in_ok-outcome.ensures.step.1 (c.giving_up.ensures ∙ (λ i. if c.is_keeping-keeps.ensures i && goes_on outcome then None else c.unit_at-unit.result))
           forgot.ensures.rows forgot.ensures.blockers forgot.ensures.none forgot.ensures.resources forgot.ensures.deadlines c.is_waiting-waits.ensures refl,
     )
+
+pub returns-in_err-refuse_if_down-clause-headline : goal.returns-in_err-refuse_if_down-clause-headline
+returns-in_err-refuse_if_down-clause-headline c = subst IsHeadlineRegion c.self.view_is c.self.invariant.0.headline
+
+pub returns-in_err-refuse_if_down-clause-serializable : goal.returns-in_err-refuse_if_down-clause-serializable
+returns-in_err-refuse_if_down-clause-serializable c = subst IsSerializableRegion c.self.view_is c.self.invariant.0.serializable
+
+pub returns-in_default-clause-headline : goal.returns-in_default-clause-headline
+returns-in_default-clause-headline c = subst IsHeadlineRegion c.self.view_is c.self.invariant.0.headline
+
+pub returns-in_default-clause-serializable : goal.returns-in_default-clause-serializable
+returns-in_default-clause-serializable c = subst IsSerializableRegion c.self.view_is c.self.invariant.0.serializable
+
+pub issue-requires-clause-task : goal.issue-requires-clause-task
+issue-requires-clause-task c = c.in-Some.ensures.task
+
+pub issue-requires-clause-within : goal.issue-requires-clause-within
+issue-requires-clause-within c = c.in-Some.ensures.within
+
+pub returns-in_err-outcome-clause-headline : goal.returns-in_err-outcome-clause-headline
+returns-in_err-outcome-clause-headline c = (c.in_err-outcome.ensures.kept c.self.invariant.0).headline
+
+pub returns-in_err-outcome-clause-serializable : goal.returns-in_err-outcome-clause-serializable
+returns-in_err-outcome-clause-serializable c = (c.in_err-outcome.ensures.kept c.self.invariant.0).serializable
+
+pub returns-clause-headline : goal.returns-clause-headline
+returns-clause-headline c = (c.in_ok-outcome.ensures.kept c.self.invariant.0).headline
+
+pub returns-clause-serializable : goal.returns-clause-serializable
+returns-clause-serializable c = (c.in_ok-outcome.ensures.kept c.self.invariant.0).serializable
