@@ -1,7 +1,8 @@
 //! Runs scripts over bytes in memory, with each answer of a run but `NoMemory`. Each read and each
-//! write fails in turn.
+//! write fails in turn. Calls a region without a script too.
 #![tactic(auto)]
 
+mod calls;
 mod streams;
 
 ghost use Rattle.std.specs.Prelude.{◌≡◌};
@@ -268,6 +269,11 @@ fn try_all(rt: &HostRuntime) -> io::Result<()> {
         "too long a script",
         (&long, CHUNK),
         ("InputTooLong", &[]),
+    )?;
+    let answer = calls::run(rt.alloc());
+    println!(rt;
+        "a region by calls: {}",
+        answer.map_or("refused", |condition| condition.name())
     )
 }
 

@@ -1,16 +1,18 @@
 //! Scripts on units of work: a command of the label U0 is a call for unit 0, one of NEW for a task
 //! without a unit. A command of H0, or of HNEW, is handed over.
 
-use crate::events::{Came, Event, Word};
-use crate::guarded_calls::{dequeue, end, enqueue, execute, hand_over, is_open, unlock};
-use crate::runs::Target;
-use crate::scripts::Step;
+use crate::events::Event;
+use crate::guards::{is_open, is_open_or_none, is_ready};
+use crate::runs::{Target, Tried};
 use crate::states::push_units;
 use cics_dispatch::{Number, Outcome, Reply};
 use cics_history::UnitId;
+use cics_listing::push_listing;
 use cics_names::{Condition, Name8, NoMemory, Record, Verb};
 use cics_script::Line;
-use cics_units::{Answer, Done, Enqueued, Listing, Op, Opening, Units, plain_replay};
+use cics_spelling::{push_number, push_str};
+use cics_stage::journal::push_outcome;
+use cics_units::{Answer, Done, Enqueued, Op, Opening, Submitted, Units, plain_replay};
 use std::alloc::Global;
 
 // The length of the keys of each file: a record begins with its key.
@@ -27,30 +29,11 @@ fn unit_of(label: &Name8) -> Option<UnitId> {
     Some(UnitId::new(u64::from(digit)))
 }
 
-// The label of the unit of a number, by its last digit.
-fn label_of(number: u64) -> Result<Name8, NoMemory> {
-    match Name8::new(&[b'U', b'0' + (number % 10) as u8]) {
+// The label of a unit, by the last digit of its number.
+fn label_of(unit: UnitId) -> Result<Name8, NoMemory> {
+    match Name8::new(&[b'U', b'0' + (unit.number() % 10) as u8]) {
         Ok(label) => Ok(label),
         Err(_) => Err(NoMemory),
-    }
-}
-
-// A REWRITE with a record of the one whose key it begins with.
-fn rewrite(alloc: Global, file: Name8, from: &Record) -> Result<Op, NoMemory> {
-    let bytes = from.bytes();
-    Ok(Op::Rewrite {
-        file,
-        key: Record::from_slice(alloc, &bytes[..bytes.len().min(KEY_LENGTH)])?,
-        from: from.copy()?,
-    })
-}
-
-// A DELETE of a key, or with GENERIC of all keys under it.
-fn delete(file: Name8, key: Record, generic: bool) -> Op {
-    if generic {
-        Op::DeleteGeneric { file, prefix: key }
-    } else {
-        Op::Delete { file, key }
     }
 }
 
@@ -88,8 +71,8 @@ fn queue_op(verb: &Verb) -> Result<Option<Op>, NoMemory> {
     Ok(Some(op))
 }
 
-/// Returns the updating command that is asked for, if one is.
-pub(crate) fn op_of(alloc: Global, verb: &Verb) -> Result<Option<Op>, NoMemory> {
+// The updating command that is asked for, if one is.
+fn op_of(alloc: Global, verb: &Verb) -> Result<Option<Op>, NoMemory> {
     let op = match verb {
         Verb::Read {
             file,
@@ -110,20 +93,100 @@ pub(crate) fn op_of(alloc: Global, verb: &Verb) -> Result<Option<Op>, NoMemory> 
             key: ridfld.copy()?,
             from: from.copy()?,
         },
-        Verb::Rewrite { file, from, .. } => rewrite(alloc, *file, from)?,
+        Verb::Rewrite { file, from, .. } => {
+            let key = &from.bytes()[..from.len().min(KEY_LENGTH)];
+            Op::Rewrite {
+                file: *file,
+                key: Record::from_slice(alloc, key)?,
+                from: from.copy()?,
+            }
+        }
+        Verb::Delete {
+            file,
+            ridfld: Some(prefix),
+            generic: true,
+            ..
+        } => Op::DeleteGeneric {
+            file: *file,
+            prefix: prefix.copy()?,
+        },
         Verb::Delete {
             file,
             ridfld: Some(key),
-            generic,
             ..
-        } => delete(*file, key.copy()?, *generic),
+        } => Op::Delete {
+            file: *file,
+            key: key.copy()?,
+        },
         _ => return queue_op(verb),
     };
     Ok(Some(op))
 }
 
-// That the task of a label was answered so.
-fn told(label: Name8, answer: Answer, counts_records: bool) -> Came {
+// Executes a command for the task of a label, or hands it over; None if that may not be done.
+fn run_op(units: &mut Units, label: &Name8, op: Op) -> Result<Option<Done>, NoMemory> {
+    let unit = unit_of(label);
+    if !is_open_or_none(units, unit) || !is_ready(units, unit, &op) {
+        return Ok(None);
+    }
+    if label.bytes()[0] != H {
+        return Ok(Some(units.execute(unit, &op)?));
+    }
+    Ok(Some(match units.submit(unit, op)? {
+        Submitted::Answered(unit, answer) => Done::Answered(unit, answer),
+        Submitted::MustWait(blocker, _back) => Done::MustWait(blocker),
+    }))
+}
+
+// An answer that is this condition, and nothing else.
+fn only(condition: Condition) -> Answer {
+    Answer {
+        condition,
+        content: None,
+        number: None,
+    }
+}
+
+// Enqueues on a value for a task; None if that may not be done.
+fn run_enq(
+    units: &mut Units,
+    unit: Option<UnitId>,
+    value: &[u8],
+) -> Result<Option<Done>, NoMemory> {
+    if value.len() > 255 || !is_open_or_none(units, unit) {
+        return Ok(None);
+    }
+    Ok(match (units.enq(unit, value)?, unit) {
+        (Enqueued::Taken(unit), _) => Some(Done::Answered(unit, only(Condition::Normal))),
+        (Enqueued::MustWait(blocker), _) => Some(Done::MustWait(blocker)),
+        (Enqueued::CountFull, Some(unit)) => Some(Done::Answered(unit, only(Condition::Invreq))),
+        (Enqueued::CountFull, None) => None,
+    })
+}
+
+// Makes the call that takes no memory, if the command of a unit asks for one and it may be made.
+fn run_ending(units: &mut Units, unit: Option<UnitId>, verb: &Verb) -> Option<Done> {
+    let unit = unit?;
+    if !is_open(units, unit) {
+        return None;
+    }
+    match verb {
+        Verb::Unlock { file } => units.unlock(unit, file),
+        Verb::Deq { resource, .. } if resource.len() <= 255 => units.deq(unit, resource.bytes()),
+        Verb::Syncpoint => units.commit(unit),
+        Verb::Rollback | Verb::Abend { .. } => units.back_out(unit),
+        _ => return None,
+    }
+    Some(Done::Answered(unit, only(Condition::Normal)))
+}
+
+// Puts at the end that the task of a label was answered so. Only DELETE counts records.
+fn push_answer(
+    out: &mut Vec<u8>,
+    label: Name8,
+    answer: Answer,
+    counts_records: bool,
+) -> Result<(), NoMemory> {
     let number = match answer.number {
         Some(records) if counts_records => Some(Number::Numrec(records)),
         Some(item) => Some(Number::Item(item)),
@@ -135,90 +198,50 @@ fn told(label: Name8, answer: Answer, counts_records: bool) -> Came {
         content: answer.content,
         number,
     };
-    Came::Told(label, Outcome::Replied(reply))
+    push_outcome(out, label, &Outcome::Replied(reply))
 }
 
-// That the task of a label was answered this condition, and nothing else.
-fn told_condition(label: Name8, condition: Condition) -> Came {
-    let answer = Answer {
-        condition,
-        content: None,
-        number: None,
-    };
-    told(label, answer, false)
-}
-
-// That the task of a label has to wait for a unit.
-fn waits(label: Name8, blocker: u64) -> Result<Came, NoMemory> {
-    Ok(Came::Told(label, Outcome::Waiting(label_of(blocker)?)))
-}
-
-// Executes a command for the task of a label, or hands it over.
-fn run_op(units: &mut Units, label: &Name8, op: &Op) -> Result<Came, NoMemory> {
-    let counts_records = matches!(op, Op::DeleteGeneric { .. });
-    let done = if label.bytes()[0] == H {
-        hand_over(units, unit_of(label), op)?
-    } else {
-        execute(units, unit_of(label), op)?
-    };
-    let Some(done) = done else {
-        return Ok(Came::MayNot);
-    };
+// Puts at the end what the task of a label was answered, or the unit that it has to wait for.
+fn push_done(
+    out: &mut Vec<u8>,
+    label: Name8,
+    done: Done,
+    counts_records: bool,
+) -> Result<(), NoMemory> {
     match done {
-        Done::Answered(unit, answer) => {
-            Ok(told(label_of(unit.number())?, answer, counts_records))
-        }
-        Done::MustWait(blocker) => waits(*label, blocker.number()),
-    }
-}
-
-// Enqueues on a value for the task of a label.
-fn run_enq(units: &mut Units, label: &Name8, value: &[u8]) -> Result<Came, NoMemory> {
-    let Some(done) = enqueue(units, unit_of(label), value)? else {
-        return Ok(Came::MayNot);
-    };
-    match done {
-        Enqueued::Taken(unit) => { Ok(told_condition(label_of(unit.number())?, Condition::Normal)) }
-        Enqueued::MustWait(blocker) => waits(*label, blocker.number()),
-        Enqueued::CountFull => Ok(told_condition(*label, Condition::Invreq)),
-    }
-}
-
-// Makes the call that takes no memory, if the command of a unit asks for one, and returns whether
-// it may be made.
-fn run_ending(units: &mut Units, unit: Option<UnitId>, verb: &Verb) -> Option<bool> {
-    let unit = unit?;
-    match verb {
-        Verb::Unlock { file } => Some(unlock(units, unit, file)),
-        Verb::Deq { resource, .. } => Some(dequeue(units, unit, resource.bytes())),
-        Verb::Syncpoint => Some(end(units, unit, true)),
-        Verb::Rollback | Verb::Abend { .. } => Some(end(units, unit, false)),
-        _ => None,
+        Done::Answered(unit, answer) => push_answer(out, label_of(unit)?, answer, counts_records),
+        Done::MustWait(blocker) => push_outcome(out, label, &Outcome::Waiting(label_of(blocker)?)),
     }
 }
 
 // Makes the call that a command of the task of a label asks for, if it may be made.
-fn run_command(units: &mut Units, label: &Name8, verb: &Verb) -> Result<Came, NoMemory> {
-    match verb {
-        Verb::Enq { resource, .. } => return run_enq(units, label, resource.bytes()),
+fn run_command(
+    units: &mut Units,
+    label: &Name8,
+    verb: &Verb,
+    out: &mut Vec<u8>,
+) -> Result<(), NoMemory> {
+    let done = match verb {
         Verb::ReadqTs { queue, item, .. } => {
-            return Ok(told(*label, units.read_ts(queue, *item)?, false));
+            let answer = units.read_ts(queue, *item)?;
+            return push_answer(out, *label, answer, false);
         }
-        _ => {}
-    }
-    match run_ending(units, unit_of(label), verb) {
-        Some(true) => return Ok(told_condition(*label, Condition::Normal)),
-        Some(false) => return Ok(Came::MayNot),
-        None => {}
-    }
-    match op_of(units.opening().allocator(), verb)? {
-        Some(op) => run_op(units, label, &op),
-        None => Ok(Came::MayNot),
+        Verb::Enq { resource, .. } => run_enq(units, unit_of(label), resource.bytes())?,
+        _ => {
+            match op_of(units.opening().allocator(), verb)? {
+                Some(op) => run_op(units, label, op)?,
+                None => run_ending(units, unit_of(label), verb),
+            }
+        }
+    };
+    match done {
+        Some(done) => push_done(out, *label, done, matches!(verb, Verb::Delete { .. })),
+        None => push_str(out, "may not\n"),
     }
 }
 
-/// Returns how many control intervals the files of units have.
-pub(crate) fn intervals(units: &Units) -> Result<u64, NoMemory> {
+// How many control intervals the files of units have.
+fn intervals(units: &Units) -> Result<u64, NoMemory> {
     let mut count: u64 = 0;
     for (name, _, _) in units.listing()?.files.as_slice() {
         if let Some(file) = units.file(name) {
@@ -228,26 +251,29 @@ pub(crate) fn intervals(units: &Units) -> Result<u64, NoMemory> {
     Ok(count)
 }
 
-// The listing of the plain replay of what was executed.
-fn replayed(units: &Units) -> Result<Listing, NoMemory> {
-    let (trace, outcomes) = (units.trace(), units.outcomes());
-    plain_replay(
-        units.opening().allocator(),
-        units.opening(),
-        trace,
-        outcomes,
-    )
-}
+impl Tried for Units {
+    fn happen(&mut self, event: Event, out: &mut Vec<u8>) -> Result<(), NoMemory> {
+        match &event {
+            Event::Line(Line::Issue(label, command)) => {
+                run_command(self, label, &command.verb, out)
+            }
+            Event::Listing => push_listing(out, &self.listing()?),
+            Event::Replay => {
+                let opening = self.opening();
+                let (trace, outcomes) = (self.trace(), self.outcomes());
+                let listing = plain_replay(opening.allocator(), opening, trace, outcomes)?;
+                push_listing(out, &listing)
+            }
+            Event::Intervals => {
+                push_number(out, intervals(self)?)?;
+                push_str(out, " intervals\n")
+            }
+            _ => Ok(()),
+        }
+    }
 
-// Lets an event happen.
-fn happen(units: &mut Units, event: &Event) -> Result<Came, NoMemory> {
-    match event {
-        Event::Line(Line::Issue(label, command)) => run_command(units, label, &command.verb),
-        Event::Line(_) => Ok(Came::MayNot),
-        Event::Word(Word::Listing) => Ok(Came::Listed(units.listing()?)),
-        Event::Word(Word::Replay) => Ok(Came::Listed(replayed(units)?)),
-        Event::Word(Word::Intervals) => Ok(Came::Intervals(intervals(units)?)),
-        Event::Word(_) => Ok(Came::Nothing),
+    fn push_state(&self, out: &mut Vec<u8>) -> Result<(), NoMemory> {
+        push_units(out, self, &self.listing()?)
     }
 }
 
@@ -256,19 +282,12 @@ impl Target for Units {
         Units::start(opening)
     }
 
-    fn happen(&mut self, event: Event) -> Result<Came, NoMemory> {
-        happen(self, &event)
-    }
-
-    fn push_state(&self, out: &mut Vec<u8>, asked: &[Step]) -> Result<(), NoMemory> {
-        push_units(out, self, &self.listing()?, asked)
-    }
-
     fn free_tasks(&self, alloc: Global) -> Result<Vec<Name8>, NoMemory> {
         let mut free = Vec::new(alloc);
         for number in 0..self.outcomes().len() as u64 {
-            if is_open(self, UnitId::new(number)) {
-                free.push(label_of(number)?)?;
+            let unit = UnitId::new(number);
+            if is_open(self, unit) {
+                free.push(label_of(unit)?)?;
             }
         }
         Ok(free)

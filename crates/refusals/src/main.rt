@@ -12,17 +12,16 @@
 
 mod calls;
 mod events;
-mod guarded_calls;
+mod guards;
 mod memory;
 mod openings;
 mod regions;
 mod runs;
 mod scripts;
 mod states;
-mod texts;
 
 use crate::memory::{Requests, are_refused, switch};
-use crate::runs::{Run, Stop, Target};
+use crate::runs::{Run, Stop};
 use crate::scripts::{Kind, steps_of, written_out};
 use cics_dispatch::Region;
 use cics_names::NoMemory;
@@ -59,13 +58,6 @@ fn tell(
     }
 }
 
-// Runs a script with an end of its units of work, and with each of its events refused for good if
-// any is refused.
-fn run_with_end<T: Target + Drop>(mut run: Run<'_>, ends: [&str; 2]) -> Result<String, Stop> {
-    run.give_up_each::<T>(ends)?;
-    run.run::<T>(ends)
-}
-
 // Puts lines into one.
 fn joined(alloc: Global, lines: &str) -> Result<String, NoMemory> {
     let mut text = String::new(alloc);
@@ -88,11 +80,11 @@ fn run_script(
     let kind = Kind::of(script);
     let text = written_out(alloc, first, script, further)?;
     let steps = steps_of(alloc, &text)?;
-    let run = Run::new(alloc, &steps, are_refused(alloc) && !kind.is_ample);
+    let mut run = Run::new(alloc, &steps, are_refused(alloc) && !kind.is_ample);
     let came = if kind.on_units {
-        run_with_end::<Units>(run, ends)?
+        run.run::<Units>(ends)?
     } else {
-        run_with_end::<Region>(run, ends)?
+        run.run::<Region>(ends)?
     };
     Ok(joined(alloc, if kind.is_ample { "" } else { &came })?)
 }

@@ -7,7 +7,7 @@
 use std::alloc::{AllocError, Global};
 
 /// What becomes of the requests that follow.
-#[derive(Clone, Copy, PartialEq, Eq)]
+#[derive(Clone, Copy)]
 pub(crate) enum Requests {
     /// They are granted.
     Granted,

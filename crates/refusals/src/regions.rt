@@ -1,34 +1,43 @@
 //! Scripts on a region.
 
-use crate::calls::intervals;
-use crate::events::{Came, Event, Word};
-use crate::runs::Target;
-use crate::scripts::Step;
+use crate::events::Event;
+use crate::runs::{Target, Tried};
 use crate::states::push_units;
 use cics_dispatch::{Refused, Region};
+use cics_listing::push_listing;
 use cics_names::{Command, Name8, NoMemory};
 use cics_script::Line;
 use cics_spelling::push_name;
+use cics_stage::journal::{
+    push_attached, push_clock, push_clock_refused, push_expired, push_outcome, push_refused,
+    push_shutdown, push_shutdown_refused, push_woken,
+};
 use cics_units::{Opening, TaskState};
 use std::alloc::Global;
 
-// That an event of the task of a label was refused.
-fn refused(label: Name8, why: Refused) -> Result<Came, NoMemory> {
+// Puts at the end that an event of the task of a label was refused.
+fn push_why(out: &mut Vec<u8>, label: Name8, why: Refused) -> Result<(), NoMemory> {
     match why {
         Refused::NoMemory => Err(NoMemory),
-        _ => Ok(Came::Refused(label, why)),
+        _ => push_refused(out, label, why),
     }
 }
 
-fn issue(region: &mut Region, label: Name8, command: Command) -> Result<Came, NoMemory> {
+// Issues a command.
+fn issue(
+    region: &mut Region,
+    label: Name8,
+    command: Command,
+    out: &mut Vec<u8>,
+) -> Result<(), NoMemory> {
     match region.issue(label, command) {
-        Ok(outcome) => Ok(Came::Told(label, outcome)),
-        Err(why) => refused(label, why),
+        Ok(outcome) => push_outcome(out, label, &outcome),
+        Err(why) => push_why(out, label, why),
     }
 }
 
-// Executes a line that issues no command: ATTACH, CLOCK or SHUTDOWN. Any other may not stand here.
-fn happen_by_copy(region: &mut Region, line: &Line) -> Result<Came, NoMemory> {
+// Lets happen what a line says that issues no command: ATTACH, CLOCK or SHUTDOWN.
+fn happen_by_copy(region: &mut Region, line: &Line, out: &mut Vec<u8>) -> Result<(), NoMemory> {
     match line {
         Line::Attach {
             label,
@@ -36,71 +45,60 @@ fn happen_by_copy(region: &mut Region, line: &Line) -> Result<Came, NoMemory> {
             dtimout,
         } => {
             match region.attach(*label, *transaction, *dtimout) {
-                Ok(()) => Ok(Came::Attached(*label, *transaction)),
-                Err(why) => refused(*label, why),
+                Ok(()) => push_attached(out, *label, *transaction),
+                Err(why) => push_why(out, *label, why),
             }
         }
         Line::Clock(seconds) => {
             match region.set_clock(*seconds) {
-                Ok(()) => Ok(Came::Clock(*seconds)),
-                Err(why) => Ok(Came::ClockRefused(why)),
+                Ok(()) => push_clock(out, *seconds),
+                Err(why) => push_clock_refused(out, why),
             }
         }
         Line::Shutdown => {
             match region.shutdown() {
-                Ok(units) => Ok(Came::Down(units)),
-                Err(why) => Ok(Came::ShutdownRefused(why)),
+                Ok(units) => push_shutdown(out, units),
+                Err(why) => push_shutdown_refused(out, why),
             }
         }
-        _ => Ok(Came::MayNot),
+        _ => Ok(()),
     }
 }
 
 // Lets happen what a line says.
-fn happen_by_line(region: &mut Region, line: Line) -> Result<Came, NoMemory> {
+fn happen_by_line(region: &mut Region, line: Line, out: &mut Vec<u8>) -> Result<(), NoMemory> {
     match line {
-        Line::Issue(label, command) => issue(region, label, command),
-        line => happen_by_copy(region, &line),
+        Line::Issue(label, command) => issue(region, label, command, out),
+        line => happen_by_copy(region, &line, out),
     }
 }
 
-// Lets happen what a line of one word asks for.
-fn happen_by_word(region: &mut Region, word: Word) -> Result<Came, NoMemory> {
-    match word {
-        Word::Wake => {
-            match region.wake() {
-                Ok(Some(woken)) => Ok(Came::Woken(woken)),
-                Ok(None) => Ok(Came::Nothing),
-                Err(_) => Err(NoMemory),
-            }
-        }
-        Word::Expire => {
-            match region.expire() {
-                Some(expired) => Ok(Came::Expired(expired)),
-                None => Ok(Came::Nothing),
-            }
-        }
-        Word::Listing => Ok(Came::Listed(region.listing()?)),
-        Word::Replay => Ok(Came::Listed(region.replayed()?)),
-        Word::Intervals => Ok(Came::Intervals(intervals(region.units())?)),
-    }
-}
-
-impl Target for Region {
-    fn start(opening: Opening) -> Result<Region, Opening> {
-        Region::new(opening)
-    }
-
-    fn happen(&mut self, event: Event) -> Result<Came, NoMemory> {
+impl Tried for Region {
+    fn happen(&mut self, event: Event, out: &mut Vec<u8>) -> Result<(), NoMemory> {
         match event {
-            Event::Line(line) => happen_by_line(self, line),
-            Event::Word(word) => happen_by_word(self, word),
+            Event::Line(line) => happen_by_line(self, line, out),
+            Event::Wake => {
+                match self.wake() {
+                    Ok(Some(woken)) => push_woken(out, &woken),
+                    Ok(None) => Ok(()),
+                    Err(_) => Err(NoMemory),
+                }
+            }
+            Event::Expire => {
+                match self.expire() {
+                    Some(expired) => push_expired(out, &expired),
+                    None => Ok(()),
+                }
+            }
+            Event::Listing => push_listing(out, &self.listing()?),
+            Event::Replay => push_listing(out, &self.replayed()?),
+            Event::Intervals => Ok(()),
         }
     }
 
     // Whom each task waits for, and what the units of work show; the listing has what each task
     // does.
-    fn push_state(&self, out: &mut Vec<u8>, asked: &[Step]) -> Result<(), NoMemory> {
+    fn push_state(&self, out: &mut Vec<u8>) -> Result<(), NoMemory> {
         let listing = self.listing()?;
         for (label, _) in listing.tasks.as_slice() {
             if let Some(blocker) = self.blocker(label) {
@@ -108,7 +106,13 @@ impl Target for Region {
                 push_name(out, &blocker.bytes())?;
             }
         }
-        push_units(out, self.units(), &listing, asked)
+        push_units(out, self.units(), &listing)
+    }
+}
+
+impl Target for Region {
+    fn start(opening: Opening) -> Result<Region, Opening> {
+        Region::new(opening)
     }
 
     fn free_tasks(&self, alloc: Global) -> Result<Vec<Name8>, NoMemory> {

@@ -1,11 +1,11 @@
 //! Runs of scripts: each event with each of its requests for memory refused in turn, and compared.
 
-use crate::events::{Came, Event, event_of};
+use crate::events::Event;
 use crate::memory::{Requests, switch, was_refused};
 use crate::openings::start;
 use crate::scripts::Step;
-use crate::texts::push_came;
 use cics_names::{Name8, NoMemory};
+use cics_script::{LineFault, read_line};
 use cics_spelling::{push_bare, push_str};
 use cics_units::Opening;
 use std::alloc::{AllocError, Global};
@@ -13,16 +13,23 @@ use std::alloc::{AllocError, Global};
 /// No event asks for memory as often as this, and no region goes on by itself so often.
 pub(crate) const MOST: u64 = 20_000;
 
+// How many bytes the lines of an event have room for: an event has to put them without memory.
+const ROOM: usize = 60_000;
+
+/// What events happen to.
+pub(crate) trait Tried {
+    /// Lets an event happen, and puts the lines of what came of it at the end of a text that has
+    /// room for them. `NoMemory` if the event was refused.
+    fn happen(&mut self, event: Event, out: &mut Vec<u8>) -> Result<(), NoMemory>;
+
+    /// Puts all that is shown at the end.
+    fn push_state(&self, out: &mut Vec<u8>) -> Result<(), NoMemory>;
+}
+
 /// What a script runs on.
-pub(crate) trait Target: Sized {
+pub(crate) trait Target: Tried + Sized {
     /// Starts with an opening, which comes back if memory is refused.
     fn start(opening: Opening) -> Result<Self, Opening>;
-
-    /// Lets an event happen.
-    fn happen(&mut self, event: Event) -> Result<Came, NoMemory>;
-
-    /// Puts all that is shown at the end, also with regard to these steps.
-    fn push_state(&self, out: &mut Vec<u8>, asked: &[Step]) -> Result<(), NoMemory>;
 
     /// Returns the labels of the tasks that have a unit of work and don't wait.
     fn free_tasks(&self, alloc: Global) -> Result<Vec<Name8>, NoMemory>;
@@ -106,10 +113,10 @@ impl<'a> Run<'a> {
     }
 
     /// Returns all that is shown; nothing if no request is refused.
-    pub(crate) fn state<T: Target>(&self, target: &T) -> Result<Vec<u8>, NoMemory> {
+    pub(crate) fn state<T: Tried>(&self, target: &T) -> Result<Vec<u8>, NoMemory> {
         let mut out = Vec::new(self.alloc);
         if self.refuses {
-            target.push_state(&mut out, self.steps)?;
+            target.push_state(&mut out)?;
         }
         Ok(out)
     }
@@ -133,67 +140,61 @@ impl<'a> Run<'a> {
 
     // Returns the event of a line.
     fn event(&self, line: &str) -> Result<Event, Stop> {
-        match event_of(self.alloc, line)? {
-            Some(event) => Ok(event),
-            None => Err(self.stop(Wrong::NoCall, line)),
-        }
+        Ok(match line {
+            "WAKE" => Event::Wake,
+            "EXPIRE" => Event::Expire,
+            "LISTING" => Event::Listing,
+            "REPLAY" => Event::Replay,
+            "INTERVALS" => Event::Intervals,
+            _ => {
+                match read_line(self.alloc, line.as_bytes()) {
+                    Ok(line) => Event::Line(line),
+                    Err(LineFault::NoMemory) => return Err(Stop::NoRoom),
+                    Err(_) => return Err(self.stop(Wrong::NoCall, line)),
+                }
+            }
+        })
     }
 
-    // Lets an event happen while this becomes of its requests.
-    fn happen_with<T: Target>(
-        &self,
-        target: &mut T,
-        event: Event,
-        requests: Requests,
-    ) -> Result<Came, NoMemory> {
-        switch(self.alloc, requests);
-        let came = target.happen(event);
-        switch(self.alloc, Requests::Granted);
-        came
-    }
-
-    // Lets the event of a line happen once.
-    fn happen<T: Target>(
-        &self,
-        target: &mut T,
-        line: &str,
-        answer: &str,
-    ) -> Result<Result<Came, NoMemory>, Stop> {
-        let event = self.event(line)?;
-        let requests = if event.may_ask(answer) {
-            self.requests(false)
-        } else {
-            Requests::Forbidden
-        };
-        Ok(self.happen_with(target, event, requests))
-    }
-
-    // Lets the event of a line happen once, and puts what came of it at the end. Returns whether
-    // anything did; None if it was refused, which it has to be exactly if one of its requests was.
-    fn comes_out<T: Target>(
+    // Lets the event of a line happen once, and puts what came of it at the end, but for the lines
+    // of a listing on tasks. Returns whether anything did; None if it was refused, which it has to
+    // be exactly if one of its requests was.
+    fn comes_out<T: Tried>(
         &self,
         target: &mut T,
         line: &str,
         answer: &str,
         text: &mut String,
     ) -> Result<Option<bool>, Stop> {
-        let pushed = match self.happen(target, line, answer)? {
-            Ok(came) => Some(push_came(self.alloc, text, &came)),
-            Err(_) => None,
+        let event = self.event(line)?;
+        let requests = if event.may_ask(answer) {
+            self.requests(false)
+        } else {
+            Requests::Forbidden
         };
-        if was_refused(self.alloc) != pushed.is_none() {
+        let mut out = Vec::with_capacity(self.alloc, ROOM)?;
+        switch(self.alloc, requests);
+        let is_refused = target.happen(event, &mut out).is_err();
+        switch(self.alloc, Requests::Granted);
+        if was_refused(self.alloc) != is_refused {
             return Err(self.stop(Wrong::Refused, line));
         }
-        match pushed {
-            Some(comes) => Ok(Some(comes?)),
-            None => Ok(None),
+        if is_refused {
+            return Ok(None);
         }
+        for line in std::str::from_utf8(&out).unwrap_or("").lines() {
+            if !line.starts_with("TASK ") {
+                text.push_str(line)?;
+                text.push('\n')?;
+            }
+        }
+        Ok(Some(!out.is_empty()))
     }
 
     // Lets the event of a line happen until none of its requests is refused. Puts what came of it
     // at the end, and returns whether anything did. Each time that it is refused all has to be as
     // before.
-    fn come_out_at_last<T: Target>(
+    fn come_out_at_last<T: Tried>(
         &self,
         target: &mut T,
         line: &str,
@@ -214,7 +215,7 @@ impl<'a> Run<'a> {
     }
 
     // Lets the event of a line happen, once if it is the one to be refused for good.
-    fn come_out<T: Target>(
+    fn come_out<T: Tried>(
         &mut self,
         target: &mut T,
         line: &str,
@@ -237,7 +238,7 @@ impl<'a> Run<'a> {
 
     // Lets a region go on by itself until nothing more comes: a waiting command that may resume
     // comes before a task that has waited too long.
-    fn drain<T: Target>(&mut self, target: &mut T, text: &mut String) -> Result<(), Stop> {
+    fn drain<T: Tried>(&mut self, target: &mut T, text: &mut String) -> Result<(), Stop> {
         for _ in 0..MOST {
             if !self.come_out(target, "WAKE", "", text)?
                 && !self.come_out(target, "EXPIRE", "", text)?
@@ -249,7 +250,7 @@ impl<'a> Run<'a> {
     }
 
     // Returns the listing behind a line, which has to be that of the replay.
-    fn listed<T: Target>(&mut self, target: &mut T, line: &str) -> Result<String, Stop> {
+    fn listed<T: Tried>(&mut self, target: &mut T, line: &str) -> Result<String, Stop> {
         let (mut listed, mut replayed) = (String::new(self.alloc), String::new(self.alloc));
         self.come_out(target, "LISTING", "", &mut listed)?;
         self.come_out(target, "REPLAY", "", &mut replayed)?;
@@ -261,25 +262,26 @@ impl<'a> Run<'a> {
     }
 
     // Runs a step; what comes of it and by itself then has to be what the script says.
-    fn run_step<T: Target>(&mut self, target: &mut T, step: &Step) -> Result<(), Stop> {
+    fn run_step<T: Tried>(&mut self, target: &mut T, step: &Step) -> Result<(), Stop> {
         let mut came = String::new(self.alloc);
-        self.come_out(target, step.line(), step.answer(), &mut came)?;
+        let answer = step.expected.lines().next().unwrap_or("");
+        self.come_out(target, &step.line, answer, &mut came)?;
         self.drain(target, &mut came)?;
         if self.refuses {
-            Run::new(self.alloc, self.steps, false).listed(target, step.line())?;
+            Run::new(self.alloc, self.steps, false).listed(target, &step.line)?;
         }
         if step.is_met_by(&came) {
             Ok(())
         } else {
-            Err(Stop::Otherwise(step.line().to_string(self.alloc)?, came))
+            Err(Stop::Otherwise(step.line.to_string(self.alloc)?, came))
         }
     }
 
     // Runs the steps that define something, or those that don't.
-    fn run_steps<T: Target>(&mut self, target: &mut T, defines: bool) -> Result<(), Stop> {
+    fn run_steps<T: Tried>(&mut self, target: &mut T, defines: bool) -> Result<(), Stop> {
         let steps = self.steps;
         for step in steps {
-            if self.event(step.line())?.is_definition() == defines {
+            if self.event(&step.line)?.is_definition() == defines {
                 self.run_step(target, step)?;
             }
         }
@@ -290,7 +292,7 @@ impl<'a> Run<'a> {
     fn start<T: Target + Drop>(&mut self) -> Result<T, Stop> {
         let mut opening = Opening::new(self.alloc);
         match self.run_steps(&mut opening, true) {
-            Ok(()) => start(*self, &mut opening),
+            Ok(()) => start(*self, opening),
             Err(stop) => Err(stop),
         }
     }
@@ -330,30 +332,13 @@ impl<'a> Run<'a> {
         Ok(text)
     }
 
-    /// Runs the steps, and ends what is open then.
+    /// Runs the steps, and ends what is open then; before that also with each event refused for
+    /// good, if requests are refused.
     pub(crate) fn run<T: Target + Drop>(&mut self, ends: [&str; 2]) -> Result<String, Stop> {
+        self.give_up_each::<T>(ends)?;
         let mut target: T = self.start()?;
         self.run_steps(&mut target, false)?;
         self.end(&mut target, ends)
-    }
-
-    // Runs the steps up to the event that is refused for good, and ends what is open then. Returns
-    // whether the event was refused, and None if there is none.
-    fn give_up<T: Target>(
-        &mut self,
-        target: &mut T,
-        ends: [&str; 2],
-    ) -> Result<Option<bool>, Stop> {
-        match self.run_steps(target, false) {
-            Ok(()) => Ok(None),
-            Err(stop) if matches!(&stop, Stop::Granted) => Ok(Some(false)),
-            Err(stop) if matches!(&stop, Stop::GivenUp) => {
-                self.left = u64::MAX;
-                self.end(target, ends)?;
-                Ok(Some(true))
-            }
-            Err(stop) => Err(stop),
-        }
     }
 
     // Refuses the event behind so many for good, at each of its requests in a run of its own.
@@ -364,18 +349,21 @@ impl<'a> Run<'a> {
             let mut run = Run::new(self.alloc, self.steps, false);
             let mut target: T = run.start()?;
             run.left = left;
-            match run.give_up(&mut target, ends)? {
-                Some(true) => {}
-                Some(false) => return Ok(true),
-                None => return Ok(false),
+            match run.run_steps(&mut target, false) {
+                Ok(()) => return Ok(false),
+                Err(stop) if matches!(&stop, Stop::Granted) => return Ok(true),
+                Err(stop) if matches!(&stop, Stop::GivenUp) => {}
+                Err(stop) => return Err(stop),
             }
+            run.left = u64::MAX;
+            run.end(&mut target, ends)?;
         }
         Err(Stop::Granted)
     }
 
-    /// If requests are refused, refuses each event for good, at each of its requests in a run of
-    /// its own, which then ends what is open.
-    pub(crate) fn give_up_each<T: Target + Drop>(&self, ends: [&str; 2]) -> Result<(), Stop> {
+    // If requests are refused, refuses each event for good, at each of its requests in a run of its
+    // own, which then ends what is open.
+    fn give_up_each<T: Target + Drop>(&self, ends: [&str; 2]) -> Result<(), Stop> {
         for left in 0..MOST {
             if !self.refuses || !self.give_up_at::<T>(left, ends)? {
                 return Ok(());

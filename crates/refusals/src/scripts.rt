@@ -8,9 +8,10 @@
 //! wait is told so, and doesn't wait.
 //!
 //! A line `+ LINE` stands as often as the run says, each with its number of three digits for `nnn`.
-//! A line `xCOUNT LINE` stands so often. The lines of the first text are put before each script:
-//! those behind `* ` only before scripts on a region, those behind `** ` only if memory is ample
-//! too.
+//! A line `xCOUNT LINE` stands so often. Its numbers rise; with `t` for `x` only each third number
+//! stands there, with `f` they fall, and with `b` they come from both ends in turn. The lines of the
+//! first text are put before each script: those behind `* ` only before scripts on a region, those
+//! behind `** ` only if memory is ample too.
 
 use cics_names::NoMemory;
 use std::alloc::Global;
@@ -27,8 +28,8 @@ pub(crate) struct Kind {
 
 /// A line of a script, and the lines that are to come of it.
 pub(crate) struct Step {
-    line: String,
-    expected: String,
+    pub(crate) line: String,
+    pub(crate) expected: String,
 }
 
 // By hand: a derived drop is taken apart wherever a step is dropped.
@@ -68,16 +69,6 @@ impl Kind {
 }
 
 impl Step {
-    /// Returns the line.
-    pub(crate) fn line(&self) -> &str {
-        self.line.as_str()
-    }
-
-    /// Returns the answer that the line is to have, if the script says it.
-    pub(crate) fn answer(&self) -> &str {
-        self.expected.lines().next().unwrap_or("")
-    }
-
     /// Returns whether this is what is to come of the line.
     pub(crate) fn is_met_by(&self, came: &str) -> bool {
         if !self.expected.is_empty() {
@@ -100,23 +91,31 @@ fn push_numbered(text: &mut String, line: &str, number: u64) -> Result<(), NoMem
     Ok(())
 }
 
-// How often a line stands, and the line itself.
-fn times(line: &str, further: u64) -> (u64, &str) {
-    if let Some(line) = line.strip_prefix("+ ") {
-        return (further, line);
+// How often a line stands if that is said before it, the letter of the order, and the line itself.
+fn times(line: &str, further: u64) -> Option<(u64, &str, &str)> {
+    let (word, line) = line.split_once(' ')?;
+    if word == "+" {
+        return Some((further, "x", line));
     }
-    if let Some((count, line)) = line.split_once(' ') {
-        if let Some(digits) = count.strip_prefix("x") {
-            return (digits.parse::<u64>().unwrap_or(0), line);
+    for order in ["x", "t", "f", "b"] {
+        if let Some(digits) = word.strip_prefix(order) {
+            return Some((digits.parse::<u64>().ok()?, order, line));
         }
     }
-    (1, line)
+    None
 }
 
 // Puts a line at the end, as often as it stands.
 fn push_line(text: &mut String, line: &str, further: u64) -> Result<(), NoMemory> {
-    let (count, line) = times(line, further);
-    for number in 0..count {
+    let (count, order, line) = times(line, further).unwrap_or((1, "x", line));
+    for at in 0..count {
+        let number = match order {
+            "t" => at.saturating_mul(3),
+            "f" => count - 1 - at,
+            "b" if at % 2 == 1 => count - 1 - at / 2,
+            "b" => at / 2,
+            _ => at,
+        };
         push_numbered(text, line, number)?;
     }
     Ok(())

@@ -6,7 +6,7 @@ use Rattle.cics_ksds.specs.Files.{fits_file, key_of}
 use Rattle.cics_ksds.specs.declared.definition.FileDef.{FileDef}
 use Rattle.cics_history.specs.State.{FileOpening}
 use Rattle.cics_history.specs.Execution.{is_fit_for}
-use Rattle.refusals.proofs.guarded_calls.is_fit.Goals as goal
+use Rattle.refusals.proofs.guards.is_fit.Goals as goal
 
 -- a record fits a definition, and the key is the one that lies in it
 abbrev fits_by : Option FileDef → Bytes → Bytes → Bool

@@ -2,7 +2,7 @@ use Rattle.std.proofs.Common.{◌∙◌, ap}
 use Rattle.cics_names.specs.Keyed.{is_same}
 use Rattle.cics_names.specs.KeyedLaws.{pointwise-is_same}
 use Rattle.cics_units.specs.OpenReads.{is_read_key}
-use Rattle.refusals.proofs.guarded_calls.has_read_key.Goals as goal
+use Rattle.refusals.proofs.guards.has_read_key.Goals as goal
 
 pub returns-in-Some : goal.returns-in-Some
 returns-in-Some c =
