@@ -44,3 +44,7 @@ module _ {I : Type 0} (rows : List (Kept I)) (u : ℕ) (x : Kept I) where
   -- the row that was read is the one that stands there
   pub row_read : (at : ℕ) → at ≡ u → u < length rows → x ≡ get_or rows at x → slice_get rows u ≡ Some x
   row_read at same begun value = slice_get_read rows (length rows) u x refl begun (subst (λ n. x ≡ get_or rows n x) same value)
+
+-- what other units keep stays so through two changes
+pub others_then : {I : Type 0} {old mid new : List (Kept I)} {u : ℕ} → AreOthersKept old mid u → AreOthersKept mid new u → AreOthersKept old new u
+others_then first then = record { count = then.count ∙ first.count; rows = λ w apart. then.rows w apart ∙ first.rows w apart }

@@ -186,6 +186,21 @@ fn take_images(rows: &mut Vec<Images<Store>>, alloc: Global, unit: UnitId) -> Im
     mem::replace(&mut rows[at], Images::new(alloc))
 }
 
+// Leaves the room of an ended unit's images in its row if that is the last, for the unit that begins
+// next.
+fn leave_room(rows: &mut Vec<Images<Store>>, unit: UnitId, emptied: Images<Store>)
+    requires begun { unit < length rows.old.items }
+    requires emptied { emptied.newest_first ≡ [] }
+    requires none { kept_by rows.old.items unit ≡ [] }
+    ensures none { kept_by rows.new.items unit ≡ [] }
+    ensures others { AreOthersKept rows.old.items rows.new.items unit }
+{
+    let at = unit.number() as usize;
+    if at + 1 == rows.len() {
+        rows[at] = emptied;
+    }
+}
+
 impl Units {
     /// Starts with a copy of an opening's files and queues: no command is executed, and no unit has
     /// begun.
@@ -459,6 +474,7 @@ impl Units {
         let mut images = take_images(&mut self.core.rows, self.alloc, unit);
         settle_ends(&mut self.core.store, images.oldest_first());
         images.forget(&mut self.core.store);
+        leave_room(&mut self.core.rows, unit, images);
         self.core.locks.release_all(unit);
         self.core.reads.end(unit);
         self.outcomes[unit.number() as usize] = UnitState::Committed;
@@ -479,6 +495,7 @@ impl Units {
     {
         let mut images = take_images(&mut self.core.rows, self.alloc, unit);
         images.back_out(&mut self.core.store);
+        leave_room(&mut self.core.rows, unit, images);
         self.core.locks.release_all(unit);
         self.core.reads.end(unit);
         self.outcomes[unit.number() as usize] = UnitState::BackedOut;

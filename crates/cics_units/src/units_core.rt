@@ -36,6 +36,7 @@ use cics_opening::{Files, FilesImage, QueueImage, Queues};
 use cics_tempstor::{TempStore, TsImage};
 use cics_transdata::TdImage;
 use std::alloc::Global;
+use std::mem;
 
 /// The files, temporary storage and transient data of a region.
 pub(crate) type Store = Stores<Files, TempStore, Queues>;
@@ -130,6 +131,20 @@ fn copied(given: Option<&Record>) -> Result<Option<Record>, NoMemory>
     }
 }
 
+// Returns an empty list of images. It has the room of the last row if that has no images.
+fn spare_images(rows: &mut Vec<Images<Store>>, alloc: Global) -> Images<Store>
+    ensures empty { result.newest_first ≡ [] }
+    ensures kept { (w : ℕ) → kept_by rows.new.items w ≡ kept_by rows.old.items w }
+    ensures count { length rows.new.items ≡ length rows.old.items }
+{
+    let count = rows.len();
+    if count > 0 && rows[count - 1].oldest_first().is_empty() {
+        mem::replace(&mut rows[count - 1], Images::new(alloc))
+    } else {
+        Images::new(alloc)
+    }
+}
+
 /// Makes room for `count` more images of a unit, which may be the next to begin.
 /// A command that changes many cells makes room for all its images before its first change.
 pub(crate) fn reserve_images(
@@ -146,7 +161,8 @@ pub(crate) fn reserve_images(
 {
     let at = unit.number() as usize;
     if at == rows.len() {
-        rows.push(Images::new(alloc))?;
+        let images = spare_images(rows, alloc);
+        rows.push(images)?;
     }
     rows[at].make_room(count)
 }

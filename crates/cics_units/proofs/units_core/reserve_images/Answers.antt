@@ -26,7 +26,8 @@ module _ (c : After-index_mut) where
   grown : (w : ℕ) → kept_by c.if-at-len.rows.items w ≡ kept_by c.args.rows.now.items w
   grown w = elim c.if-at-len.branch [
     | then-at-len+in_ok-push b ↦
-        ap (λ r. kept_by r.items w) b.rows-is ∙ ap (λ rows. kept_by rows w) b.in_ok-push.ensures.items ∙ appended c.args.rows.now.items w b.new.result b.new.ensures
+        ap (λ r. kept_by r.items w) b.rows-is ∙ ap (λ rows. kept_by rows w) b.in_ok-push.ensures.items
+        ∙ appended b.spare_images-images.new.rows.items w b.spare_images-images.result b.spare_images-images.ensures.empty ∙ b.spare_images-images.ensures.kept w
     | else-at-len b ↦ ap (λ r. kept_by r.items w) b.rows-is
   ]
 
@@ -34,7 +35,8 @@ module _ (c : After-index_mut) where
   begun = elim c.if-at-len.branch [
     | then-at-len+in_ok-push b ↦
         let more : length c.if-at-len.rows.items ≡ length c.args.rows.now.items + 1 =
-        ap (λ r. length r.items) b.rows-is ∙ ap length b.in_ok-push.ensures.items ∙ length-append c.args.rows.now.items (b.new.result ∷ []) in
+        ap (λ r. length r.items) b.rows-is ∙ ap length b.in_ok-push.ensures.items ∙ length-append b.spare_images-images.new.rows.items (b.spare_images-images.result ∷ [])
+        ∙ ap (λ n. n + 1) b.spare_images-images.ensures.count in
         (omega (arith, more), omega (arith, more, c.number-at.ensures, c.requires.begun))
     | else-at-len b ↦
         let same : length c.if-at-len.rows.items ≡ length c.args.rows.now.items = ap (λ r. length r.items) b.rows-is in
@@ -52,7 +54,8 @@ pub index_mut-requires : goal.index_mut-requires
 index_mut-requires c = elim c.if-at-len.branch [
   | then-at-len+in_ok-push b ↦
       let more : length c.if-at-len.rows.items ≡ length c.args.rows.now.items + 1 =
-      ap (λ r. length r.items) b.rows-is ∙ ap length b.in_ok-push.ensures.items ∙ length-append c.args.rows.now.items (b.new.result ∷ []) in
+      ap (λ r. length r.items) b.rows-is ∙ ap length b.in_ok-push.ensures.items ∙ length-append b.spare_images-images.new.rows.items (b.spare_images-images.result ∷ [])
+        ∙ ap (λ n. n + 1) b.spare_images-images.ensures.count in
       omega (arith, more, c.number-at.ensures, c.requires.begun, c.if-at-len.rows.ok.0)
   | else-at-len b ↦
       let same : length c.if-at-len.rows.items ≡ length c.args.rows.now.items = ap (λ r. length r.items) b.rows-is in
@@ -60,7 +63,7 @@ index_mut-requires c = elim c.if-at-len.branch [
 ]
 
 pub returns-in_err-push-clause-kept : goal.returns-in_err-push-clause-kept
-returns-in_err-push-clause-kept c = λ w. ap (λ rows. kept_by rows w) c.in_err-push.ensures.items
+returns-in_err-push-clause-kept c = λ w. ap (λ rows. kept_by rows w) c.in_err-push.ensures.items ∙ c.spare_images-images.ensures.kept w
 
 pub returns-clause-kept : goal.returns-clause-kept
 returns-clause-kept c = λ w.

@@ -11,11 +11,12 @@ use Rattle.cics_history.specs.declared.ops.UnitState.TheVariants.{BackedOut}
 use Rattle.cics_images.specs.Cells.{AreReadyInTurn, LeadBack, images_of, is_unnamed, all_swept}
 use Rattle.cics_units.specs.Parts.{CoreValue}
 use Rattle.cics_opening.specs.StoreMatching.{shown_store, cell_of_any, any_content, AnyLeads, IsAnyReady, any_undone, any_swept, any_holds, AnyKeep}
-use Rattle.cics_units.specs.ImageRows.{kept_by}
+use Rattle.cics_units.specs.ImageRows.{AreOthersKept, kept_by}
 use Rattle.cics_units.specs.ImageRowsLaws.{held_after_end}
 use Rattle.cics_units.specs.Cores.{core_value}
 use Rattle.cics_units.specs.KeptUnits.{state_shown, AreValid}
 use Rattle.cics_units.proofs.KeptUnits.{store_is, kept_headline, kept_serializable, kept_backed_out}
+use Rattle.cics_units.proofs.UnitRows.{others_then}
 use Rattle.cics_units.proofs.ShownUnits.{live_of, ended_state, ended_kept}
 use Rattle.cics_units.proofs.units.Units.back_out.Goals as goal
 use Rattle.cics_units.proofs.units.Units.back_out.Goals.{After-end}
@@ -37,7 +38,11 @@ module _ (c : After-end) where
 
   -- the core that is left
   abbrev left : CoreValue
-  left = record { stores = record { store = c.back_out.new.target; images = c.take_images-images.new.rows.items }; table = c.release_all.new.self; reads = c.end.new.self }
+  left = record { stores = record { store = c.back_out.new.target; images = c.leave_room.new.rows.items }; table = c.release_all.new.self; reads = c.end.new.self }
+
+  -- no other unit's images changed
+  others : AreOthersKept core.stores.images left.stores.images c.args.unit
+  others = others_then c.take_images-images.ensures.others c.leave_room.ensures.others
 
   images : c.take_images-images.result.newest_first ≡ kept_by core.stores.images c.args.unit
   images = c.take_images-images.ensures.images
@@ -47,10 +52,10 @@ module _ (c : After-end) where
       let old = core.stores.store in
       let new = left.stores.store in
       let back = c.back_out.ensures in
-      kept_backed_out before core.stores left.stores core.table c.self.invariant.0 c.args.unit live c.take_images-images.ensures.none c.take_images-images.ensures.others
+      kept_backed_out before core.stores left.stores core.table c.self.invariant.0 c.args.unit live c.leave_room.ensures.none others
       (λ x. subst (λ is. LeadBack AnyLeads (images_of cell_of_any x is) (any_content old x) (any_content new x)) images (back.led_back x))
       (subst (λ is. AnyKeep (is_unnamed cell_of_any is) old new) images back.others) back.fixed
-      (held_after_end any_holds cell_of_any old new core.stores.images left.stores.images c.args.unit c.take_images-images.ensures.others
+      (held_after_end any_holds cell_of_any old new core.stores.images left.stores.images c.args.unit others
       (λ x. back.swept x ∙ ap (λ is. any_holds old x && is_unnamed cell_of_any is x) images))
       (subst (λ is. new ≡ all_swept any_swept cell_of_any (fold any_undone old is) is) images back.whole)
 

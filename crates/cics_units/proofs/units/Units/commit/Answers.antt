@@ -14,9 +14,10 @@ use Rattle.cics_units.specs.KeptUnits.{state_shown, AreValid}
 use Rattle.cics_units.specs.Parts.{CoreValue}
 use Rattle.cics_units.specs.StoreEnds.{any_fixed, ends_settled}
 use Rattle.cics_opening.specs.StoreMatching.{StoreValue, AnyImage, cell_of_any, any_content, any_swept, any_holds, AnyKeep}
-use Rattle.cics_units.specs.ImageRows.{kept_by, AreHeldForImages}
+use Rattle.cics_units.specs.ImageRows.{AreOthersKept, kept_by, AreHeldForImages}
 use Rattle.cics_units.specs.ImageRowsLaws.{held_after_end}
 use Rattle.cics_units.proofs.KeptUnits.{kept_headline, kept_serializable, kept_committed, committed_store}
+use Rattle.cics_units.proofs.UnitRows.{others_then}
 use Rattle.cics_units.proofs.ShownUnits.{live_of, ended_state, ended_kept}
 use Rattle.cics_units.proofs.units.Units.commit.Goals as goal
 use Rattle.cics_units.proofs.units.Units.commit.Goals.{After-end}
@@ -34,7 +35,11 @@ module _ (c : After-end) where
 
   -- the core that is left
   abbrev left : CoreValue
-  left = record { stores = record { store = c.forget.new.target; images = c.take_images-images.new.rows.items }; table = c.release_all.new.self; reads = c.end.new.self }
+  left = record { stores = record { store = c.forget.new.target; images = c.leave_room.new.rows.items }; table = c.release_all.new.self; reads = c.end.new.self }
+
+  -- no other unit's images changed
+  others : AreOthersKept core.stores.images left.stores.images c.args.unit
+  others = others_then c.take_images-images.ensures.others c.leave_room.ensures.others
 
   images : c.take_images-images.result.newest_first ≡ kept_by core.stores.images c.args.unit
   images = c.take_images-images.ensures.images
@@ -61,7 +66,7 @@ module _ (c : After-end) where
   fixed = given_up (λ s is. any_fixed left.stores.store ≡ any_fixed s) c.forget.ensures.fixed
 
   held : AreHeldForImages any_holds cell_of_any (ends_settled core.stores.store (kept_by core.stores.images c.args.unit)) core.stores.images → AreHeldForImages any_holds cell_of_any left.stores.store left.stores.images
-  held = held_after_end any_holds cell_of_any (ends_settled core.stores.store (kept_by core.stores.images c.args.unit)) left.stores.store core.stores.images left.stores.images c.args.unit c.take_images-images.ensures.others
+  held = held_after_end any_holds cell_of_any (ends_settled core.stores.store (kept_by core.stores.images c.args.unit)) left.stores.store core.stores.images left.stores.images c.args.unit others
       (given_up (λ s is. (x : List ℕ) → any_holds left.stores.store x ≡ (any_holds s x && is_unnamed cell_of_any is x)) c.forget.ensures.swept)
 
   whole : left.stores.store ≡ all_swept any_swept cell_of_any (ends_settled core.stores.store (kept_by core.stores.images c.args.unit)) (kept_by core.stores.images c.args.unit)
@@ -69,7 +74,7 @@ module _ (c : After-end) where
 
   ended : AreValid (after_end before c.args.unit Committed) left.stores (released core.table c.args.unit)
   ended = kept_committed before core.stores left.stores core.table c.self.invariant.0 c.args.unit live
-      c.take_images-images.ensures.none c.take_images-images.ensures.others contents cells fixed held whole
+      c.leave_room.ensures.none others contents cells fixed held whole
 
   abbrev after : UnitsState
   after = state_shown c.self.inside.opening c.self.inside.trace.items (slice_set c.self.inside.outcomes.items c.args.unit Committed) (c.self.inside.commits.items ++ c.args.unit ∷ []) left
@@ -115,5 +120,5 @@ pub returns-clause-store : goal.returns-clause-store
 returns-clause-store c =
     let at = (goal.at.returns-clause-store c).After-end in
     committed_store (before at) (core at).stores (left at).stores (core at).table c.self.invariant.0 c.args.unit (live at)
-    c.take_images-images.ensures.none c.take_images-images.ensures.others (contents at) (cells at) (fixed at) (held at) (whole at)
+    c.leave_room.ensures.none (others at) (contents at) (cells at) (fixed at) (held at) (whole at)
     ∙ ap (λ v. v.store) c.self.view_is
