@@ -8,7 +8,7 @@ ghost use Rattle.cics_session.specs.Streams.{Rises, Tells, given, failed_reads, 
 use std::io::{Read, Write};
 
 /// A read or a write failed.
-#[derive(Clone, Copy, PartialEq, Eq)]
+#[derive(Clone, Copy)]
 pub struct Failed;
 
 /// Gives the bytes of a script.

@@ -13,7 +13,7 @@ use cics_names::NoMemory;
 const FULL: usize = 65_536;
 
 /// Why printing stopped.
-#[derive(Clone, Copy, PartialEq, Eq)]
+#[derive(Clone, Copy)]
 pub enum Stop {
     /// A request for memory was refused.
     NoMemory,
