@@ -1,7 +1,7 @@
 //! The program's arguments.
 
 use cics_names::NoMemory;
-use cics_session::{Options, Wanted};
+use cics_session::{Options, Orders, Wanted};
 use clap::builder::ValueParser;
 use clap::error::ErrorKind;
 use clap::{Arg, ArgAction, ArgMatches, Command, Error};
@@ -73,18 +73,6 @@ T1 EXEC CICS DELETE FILE('ACCT') RIDFLD('0001')
 T2 EXEC CICS READ FILE('ACCT') RIDFLD('0001') UPDATE
 T1 EXEC CICS SYNCPOINT ROLLBACK
 END";
-
-/// The options of a report on the orders in which a script's tasks may give their lines.
-///
-/// - `told`: whether endings with different answers are different.
-/// - `limit`: how many orders are followed at most.
-/// - `ending`: the number of the ending to print as a script, if one is given.
-#[derive(Clone, Copy, PartialEq, Eq)]
-pub struct Orders {
-    pub told: bool,
-    pub limit: u64,
-    pub ending: Option<u64>,
-}
 
 /// How many orders are followed at most, if the command line doesn't say.
 const ORDERS: u64 = 20_000;

@@ -4,7 +4,7 @@
 mod command_line;
 
 pub use cics_session::{
-    CHUNK, Failed, LIMIT, Options, RunFault, Session, Sink, Source, Status, Stop, Wanted,
+    CHUNK, Failed, LIMIT, Options, Orders, RunFault, Session, Sink, Source, Status, Stop, Wanted,
     exit_status, line_len, run, run_over, strict_status, write_all, write_pending,
 };
-pub use command_line::{Asked, Orders, arguments};
+pub use command_line::{Asked, arguments};

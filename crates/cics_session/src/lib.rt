@@ -12,7 +12,7 @@ mod statuses;
 mod streams;
 mod writing;
 
-pub use running::{CHUNK, LIMIT, Options, RunFault, Status, Wanted, run, run_over};
+pub use running::{CHUNK, LIMIT, Options, Orders, RunFault, Status, Wanted, run, run_over};
 pub use session::{Session, line_len};
 pub use statuses::{exit_status, strict_status};
 pub use streams::{Failed, Sink, Source};

@@ -67,6 +67,18 @@ pub struct Wanted {
     pub with_script: bool,
 }
 
+/// The options of a report on the orders in which a script's tasks may give their lines.
+///
+/// - `told`: whether endings with different answers are different.
+/// - `limit`: how many orders are followed at most.
+/// - `ending`: the number of the ending to print as a script, if one is given.
+#[derive(Clone, Copy)]
+pub struct Orders {
+    pub told: bool,
+    pub limit: u64,
+    pub ending: Option<u64>,
+}
+
 /// Runs the script that a reader gives, and writes its journal and what follows it.
 ///
 /// It is [`run_over`] a source and a sink that count nothing, and prints neither the serial run nor

@@ -4,7 +4,7 @@ use Rattle.std.specs.Io.KnownBytes.{Appends, Consumes, IsAtEnd}
 use Rattle.cics_session.specs.Lines.{all_lines}
 use Rattle.cics_session.specs.Running.{most_bytes}
 use Rattle.cics_session.specs.Printing.{AppendsFront}
-use Rattle.cics_run.specs.declared.command_line.Orders.{Orders}
+use Rattle.cics_session.specs.declared.running.Orders.{Orders}
 use Rattle.cics_session.specs.declared.running.RunFault.{RunFault}
 use Rattle.cics_session.specs.declared.running.RunFault.TheVariants as faults
 use Rattle.cics_plans.specs.Taking.{nothing_taken, taken_apart, planned}

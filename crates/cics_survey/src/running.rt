@@ -9,8 +9,7 @@ ghost use Rattle.cics_survey.specs.Written.{ending_of, Writes, IsPrinted, Survey
 use crate::surveys::{Survey, survey_script};
 use cics_names::NoMemory;
 use cics_report::{push_fault, push_report, push_script};
-use cics_run::Orders;
-use cics_session::{RunFault, Sink, Source, write_all};
+use cics_session::{Orders, RunFault, Sink, Source, write_all};
 use cics_whole::{lines_of, read_script};
 use std::alloc::Global;
 
