@@ -84,6 +84,7 @@ fn keep(names: &mut Vec<Named>, line: &[u8]) {
 
 /// Keeps the name in a line that was run, if what it printed behind `before` bytes says that the
 /// name isn't defined. Each name is kept once, and at most 64 are.
+#[inline(always)]
 pub fn keep_undefined(names: &mut Vec<Named>, line: &[u8], printed: &[u8], before: usize) {
     if let Some(text) = printed.get(before..) {
         if is_undefined(text) {

@@ -127,6 +127,7 @@ impl Tasks {
 
     /// Gives the task at an index a unit, unless it has it already. No other task has it. Takes no
     /// memory.
+    #[inline(always)]
     pub fn own_unit(&mut self, at: usize, unit: UnitId)
         requires within { at < length self.old }
         requires free { OfTask self.old at (λ t. t.unit ≡ None → HasNoOwner self.old unit) }

@@ -113,6 +113,7 @@ fn file_definition(found: &[Found<'_>]) -> Result<Line, LineFault>
 }
 
 // Returns the first word, and the line after it.
+#[inline(always)]
 fn first_word(bytes: &[u8]) -> Result<(&[u8], &[u8]), LineFault>
     ensures { GivesWord (word_first (tokens bytes.now)) result }
 {

@@ -35,6 +35,7 @@ pub fn text_of(alloc: Global, found: &[Found<'_>], option: OptionWord) -> Result
 }
 
 /// Returns the record that an option gives, if it gives one. Errors: `NoMemory`.
+#[inline(always)]
 pub fn optional_text_of(
     alloc: Global,
     found: &[Found<'_>],

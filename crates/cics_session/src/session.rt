@@ -94,6 +94,17 @@ fn short_line_len(bytes: &[u8]) -> usize
     bytes.iter().take_while(|byte| **byte != LF).count()
 }
 
+// Returns the same as `line_len`, by eight bytes at first and then byte by byte.
+fn block_line_len(bytes: &[u8]) -> usize
+    ensures value { result ≡ prefix_len is_in_line bytes.now }
+    ensures within { result ≤ length bytes.now }
+{
+    match bytes.split_first_chunk::<8>() {
+        Some((block, behind)) if are_in_line(block) => 8 + short_line_len(behind),
+        _ => short_line_len(bytes),
+    }
+}
+
 /// Returns how many bytes stand before the first LF, or before the end if there is none.
 pub fn line_len(bytes: &[u8]) -> usize
     ensures value { result ≡ prefix_len is_in_line bytes.now }
@@ -107,7 +118,7 @@ pub fn line_len(bytes: &[u8]) -> usize
                 passed += 16;
                 rest = behind;
             }
-            _ => return passed + short_line_len(rest),
+            _ => return passed + block_line_len(rest),
         }
     }
 }

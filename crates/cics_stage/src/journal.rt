@@ -35,6 +35,7 @@ pub fn push_attached(out: &mut Vec<u8>, label: Name8, transaction: Name4) -> Res
 }
 
 /// Appends the line of a command that was issued, with its outcome.
+#[inline(always)]
 pub fn push_outcome(out: &mut Vec<u8>, label: Name8, outcome: &Outcome) -> Result<(), NoMemory>
     ensures { OnOk result (out.new.items ≡ out.old.items ++ outcome_line label outcome.now) }
 {
@@ -201,6 +202,7 @@ fn push_abend(out: &mut Vec<u8>, code: AbendCode, reply: &Option<Reply>) -> Resu
 }
 
 // Appends the outcome of a command that was issued or resumed.
+#[inline(always)]
 fn push_what_came(out: &mut Vec<u8>, outcome: &Outcome) -> Result<(), NoMemory>
     ensures { OnOk result (out.new.items ≡ out.old.items ++ outcome_text outcome.now) }
 {

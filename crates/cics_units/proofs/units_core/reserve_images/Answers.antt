@@ -55,7 +55,7 @@ index_mut-requires c = elim c.if-at-len.branch [
   | then-at-len+in_ok-push b ↦
       let more : length c.if-at-len.rows.items ≡ length c.args.rows.now.items + 1 =
       ap (λ r. length r.items) b.rows-is ∙ ap length b.in_ok-push.ensures.items ∙ length-append b.spare_images-images.new.rows.items (b.spare_images-images.result ∷ [])
-        ∙ ap (λ n. n + 1) b.spare_images-images.ensures.count in
+      ∙ ap (λ n. n + 1) b.spare_images-images.ensures.count in
       omega (arith, more, c.number-at.ensures, c.requires.begun, c.if-at-len.rows.ok.0)
   | else-at-len b ↦
       let same : length c.if-at-len.rows.items ≡ length c.args.rows.now.items = ap (λ r. length r.items) b.rows-is in
