@@ -21,7 +21,7 @@ pub const LIMIT: usize = 16_777_216;
 pub const CHUNK: usize = 65_536;
 
 /// How a run ended that wrote all that it had to.
-#[derive(Clone, Copy)]
+#[derive(Clone, Copy, PartialEq, Eq)]
 pub enum Status {
     /// Every line was run; the journal and what was asked for after it are written.
     Done,
@@ -49,7 +49,7 @@ pub enum RunFault {
 }
 
 /// What `run` prints beside the journal.
-#[derive(Clone, Copy)]
+#[derive(Clone, Copy, PartialEq, Eq)]
 pub struct Options {
     /// Print the replay behind the listing.
     pub replay: bool,

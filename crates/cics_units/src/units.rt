@@ -186,8 +186,8 @@ fn take_images(rows: &mut Vec<Images<Store>>, alloc: Global, unit: UnitId) -> Im
     mem::replace(&mut rows[at], Images::new(alloc))
 }
 
-// Leaves the room of an ended unit's images in its row if that is the last, for the unit that begins
-// next.
+// Leaves the room of an ended unit's images in its row, if that row is the last. The next unit
+// that begins takes it over.
 fn leave_room(rows: &mut Vec<Images<Store>>, unit: UnitId, emptied: Images<Store>)
     requires begun { unit < length rows.old.items }
     requires emptied { emptied.newest_first ≡ [] }

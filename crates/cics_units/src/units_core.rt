@@ -52,7 +52,7 @@ type AnyImage = StoreImage<FilesImage, TsImage, QueueImage>;
 pub(crate) struct UnitsCore {
     pub(crate) store: Store,
     /// The images of each unit that has begun or is about to, by its number. A unit that has ended
-    /// has none.
+    /// has none, but the last row may keep its room.
     pub(crate) rows: Vec<Images<Store>>,
     pub(crate) locks: Enqueues,
     pub(crate) reads: OpenReads,

@@ -35,7 +35,7 @@ fn delete(alloc: Global) -> Option<Command> {
     })
 }
 
-// T1 deletes the record, T2 waits for it, and T1 rolls back. Returns what T2 is answered then.
+// T1 deletes the record, T2 waits for T1, and T1 rolls back. Returns T2's condition.
 fn play(alloc: Global, region: &mut Region) -> Option<Condition> {
     let first = Name8::new(b"T1").ok()?;
     let second = Name8::new(b"T2").ok()?;

@@ -18,8 +18,8 @@ const ROOM: usize = 60_000;
 
 /// What events happen to.
 pub(crate) trait Tried {
-    /// Lets an event happen, and puts the lines of what came of it at the end of a text that has
-    /// room for them. `NoMemory` if the event was refused.
+    /// Makes an event happen, and appends its lines to a text that has room for them. `NoMemory` if
+    /// the event was refused.
     fn happen(&mut self, event: Event, out: &mut Vec<u8>) -> Result<(), NoMemory>;
 
     /// Puts all that is shown at the end.
@@ -156,9 +156,9 @@ impl<'a> Run<'a> {
         })
     }
 
-    // Lets the event of a line happen once, and puts what came of it at the end, but for the lines
-    // of a listing on tasks. Returns whether anything did; None if it was refused, which it has to
-    // be exactly if one of its requests was.
+    // Makes the event of a line happen once, and appends its lines, but for those of a listing on
+    // tasks. Returns whether there were any, None if it was refused. It has to be refused exactly
+    // if one of its requests was.
     fn comes_out<T: Tried>(
         &self,
         target: &mut T,
@@ -361,8 +361,8 @@ impl<'a> Run<'a> {
         Err(Stop::Granted)
     }
 
-    // If requests are refused, refuses each event for good, at each of its requests in a run of its
-    // own, which then ends what is open.
+    // If requests are refused, refuses each event for good, at each of its requests. Each is a run
+    // of its own, which then ends what is open.
     fn give_up_each<T: Target + Drop>(&self, ends: [&str; 2]) -> Result<(), Stop> {
         for left in 0..MOST {
             if !self.refuses || !self.give_up_at::<T>(left, ends)? {

@@ -8,8 +8,8 @@
 //! wait is told so, and doesn't wait.
 //!
 //! A line `+ LINE` stands as often as the run says, each with its number of three digits for `nnn`.
-//! A line `xCOUNT LINE` stands so often. Its numbers rise; with `t` for `x` only each third number
-//! stands there, with `f` they fall, and with `b` they come from both ends in turn. The lines of the
+//! A line `xCOUNT LINE` stands so often, and its numbers rise. With `f` for `x` they fall, with `b`
+//! they come from both ends in turn. With `t` each is three more than the last. The lines of the
 //! first text are put before each script: those behind `* ` only before scripts on a region, those
 //! behind `** ` only if memory is ample too.
 
