@@ -161,7 +161,7 @@ impl Region {
     /// Issues a command of the task of a label: it is answered, or it waits, or its task ends.
     ///
     /// A condition that neither RESP nor NOHANDLE handles abends the task with its default code, if
-    /// it has one (the manual's chapter on the exceptional conditions).
+    /// it has one. The manual has this in its chapter on the exceptional conditions.
     ///
     /// Errors, in this order, which change nothing:
     ///

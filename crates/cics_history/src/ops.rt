@@ -340,7 +340,7 @@ impl Op {
 impl Entry {
     /// Returns the entry of a command and its answer. It takes no memory: a record moves in.
     ///
-    /// A key beside a record must lie in it. Only READ UPDATE and READQ TD may be answered with a
+    /// A key beside a record must lie in it, and has at most 255 bytes. Only READ UPDATE and READQ TD may be answered with a
     /// record. WRITE, REWRITE and READ UPDATE may be answered with no number, and a rewrite of an
     /// item with none but the item's.
     ///
@@ -374,6 +374,8 @@ impl Entry {
     /// Returns what the command asked for.
     ///
     /// Errors: `NoMemory` if the memory for copies of its key and record is refused.
+    ///
+    /// Cost: O(bytes of its key and record).
     pub fn op(&self) -> Result<Op, NoMemory>
         ensures { IfOk result (λ op. op ≡ self.now.op) }
     {

@@ -1,5 +1,5 @@
-//! Runs the script on standard input, and prints its journal and listing, a picture of it, or what
-//! the orders of its lines lead to, on standard output.
+//! Runs the script on standard input. Prints its journal and listing on standard output, or a
+//! picture of it, or what the orders of its lines lead to.
 #![tactic(auto)]
 
 use cics_draw::{NoPicture, run_picture};

@@ -1,5 +1,5 @@
 //! Scripts on units of work: a command of the label U0 is a call for unit 0, one of NEW for a task
-//! without a unit. A command of H0, or of HNEW, is handed over.
+//! without a unit. A command of H0 or HNEW goes through `submit`.
 
 use crate::events::Event;
 use crate::guards::{is_open, is_open_or_none, is_ready};

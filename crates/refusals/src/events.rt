@@ -8,7 +8,7 @@ use cics_script::Line;
 pub(crate) enum Event {
     /// What a line of a script says.
     Line(Line),
-    /// `WAKE`: the first waiting command that needn't wait any more resumes.
+    /// `WAKE`: the first waiting command that no longer has to wait resumes.
     Wake,
     /// `EXPIRE`: the first task that has waited too long is abended.
     Expire,

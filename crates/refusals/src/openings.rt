@@ -1,4 +1,4 @@
-//! Definitions and loads, and the start with an opening, which comes back if memory is refused.
+//! Definitions and loads, and the start with an opening, which is returned if memory is refused.
 
 use crate::events::Event;
 use crate::memory::{Requests, switch, was_refused};
@@ -39,8 +39,8 @@ impl Tried for Opening {
     }
 }
 
-/// Starts with an opening, with each of its requests refused in turn. Each time that it comes back
-/// it has to be as it was.
+/// Starts with an opening, with each of its requests refused in turn. Each time that the opening is
+/// returned, it has to be as it was.
 pub(crate) fn start<T: Target + Drop>(run: Run<'_>, opening: Opening) -> Result<T, Stop> {
     let mut opening = opening;
     let before = run.state(&opening)?;

@@ -28,7 +28,7 @@ pub(crate) trait Tried {
 
 /// What a script runs on.
 pub(crate) trait Target: Tried + Sized {
-    /// Starts with an opening, which comes back if memory is refused.
+    /// Starts with an opening, which is returned if memory is refused.
     fn start(opening: Opening) -> Result<Self, Opening>;
 
     /// Returns the labels of the tasks that have a unit of work and don't wait.

@@ -1,11 +1,11 @@
-//! Scripts in the language of `cicsrun`. Behind a line stand lines that begin with `= `: what is to
-//! come of it, and of what the region then does by itself. If none stands there, the line is
-//! answered NORMAL, or attaches its task, or defines something.
+//! Scripts in the language of `cicsrun`. Behind a line stand lines that begin with `= `: the
+//! expected result of the line, and of what the region then does by itself. If none stands there,
+//! the line is answered NORMAL, or attaches its task, or defines something.
 //!
 //! Lines of one word ask for the listing, the replay, or how many intervals the files of units of
 //! work have (`events`). In a script on units the labels U0 to U9 are of units by their numbers,
-//! and NEW of a task without one. H in place of U, and HNEW, hand the command over. What has to
-//! wait is told so, and doesn't wait.
+//! and NEW of a task without one. H in place of U, and HNEW, go through `submit`. What has to wait
+//! is told so, and doesn't wait.
 //!
 //! A line `+ LINE` stands as often as the run says, each with its number of three digits for `nnn`.
 //! A line `xCOUNT LINE` stands so often, and its numbers rise. With `f` for `x` they fall, with `b`
@@ -69,7 +69,7 @@ impl Kind {
 }
 
 impl Step {
-    /// Returns whether this is what is to come of the line.
+    /// Returns whether this is the expected result of the line.
     pub(crate) fn is_met_by(&self, came: &str) -> bool {
         if !self.expected.is_empty() {
             return came == self.expected.as_str();
@@ -141,8 +141,8 @@ pub(crate) fn written_out(
     Ok(text)
 }
 
-/// Returns the steps of a script that is written out. A line that is to come of nothing is a step,
-/// which no reader of lines takes.
+/// Returns the steps of a script that is written out. An expected result that stands behind no line
+/// is a step too, which no reader of lines takes.
 pub(crate) fn steps_of(alloc: Global, text: &str) -> Result<Vec<Step>, NoMemory> {
     let mut steps: Vec<Step> = Vec::new(alloc);
     for line in text.lines() {
