@@ -2,6 +2,7 @@ use Rattle.std.proofs.Common.{◌≡◌, ◌∙◌, sym, ap, subst}
 use Rattle.std.specs.Prelude.{IfSome}
 use Rattle.cics_history.specs.Execution.{IsOpenOrNone, IsOpenUnit}
 use Rattle.cics_history.specs.Holding.{awaited}
+use Rattle.cics_history.specs.Isolation.{IsSound}
 use Rattle.cics_machine.specs.Calls.{OfTask, HasReady}
 use Rattle.cics_machine.specs.KeptTasks.{IsReady}
 use Rattle.cics_machine.specs.Regions.{region_of}
@@ -34,3 +35,6 @@ returns-in-Some-clause-is_open c = subst (λ v. IfSome c.awaited.result (IsOpenU
 
 pub returns-clause-is_open : goal.returns-clause-is_open
 returns-clause-is_open c = subst (λ v. IfSome c.value_holder.result (IsOpenUnit v.machine.units)) c.self.view_is c.value_holder.ensures.is_open
+
+pub returns-in-Some-clause-sound : goal.returns-in-Some-clause-sound
+returns-in-Some-clause-sound c = λ reads. subst (λ v. IsSound v.machine.units) c.self.view_is c.awaited.ensures.sound

@@ -1,7 +1,8 @@
-use Rattle.std.proofs.Common.{◌∙◌, sym, ap, subst}
+use Rattle.std.proofs.Common.{◌≡◌, ◌∙◌, sym, ap, subst}
 use Rattle.cics_history.specs.Execution.{IsOpenOrNone}
-use Rattle.cics_machine.specs.Machine.{units_after, state_after}
+use Rattle.cics_machine.specs.Machine.{unit_closed, units_after, state_after}
 use Rattle.cics_machine.specs.Regions.{region_of}
+use Rattle.cics_machine.specs.Calls.{OfTask}
 use Rattle.cics_machine.proofs.KeptTasks.{acting_or_none}
 use Rattle.cics_machine.proofs.RegionSteps.{seen_task, seen_awake, closed_kept, end_shut}
 use Rattle.cics_dispatch.proofs.dispatcher.Dispatcher.close.Goals as goal
@@ -30,3 +31,15 @@ returns-clause-kept c = λ was.
     (seen_awake c.args.at c.self.view_is c.requires.awake t there)
     (end_shut c.args.ending) (c.end_unit.ensures.state ∙ ap (λ o. units_after u.units.state o (state_after c.args.ending)) (c.close_unit-unit.ensures.unit t there))
     (c.close_unit-unit.ensures.task t there) c.end_unit.ensures.headline c.end_unit.ensures.serializable)
+
+pub returns-clause-machine : goal.returns-clause-machine
+returns-clause-machine c =
+    let u = c.self.inside in
+    let new = (region_of c.end_unit.new.units c.close_unit-unit.new.self u.waits u.clock u.is_down).machine in
+    subst (λ v. OfTask v.machine.tasks c.args.at (λ t. new ≡ unit_closed v.machine t (state_after c.args.ending) c.args.has_ended)) c.self.view_is (λ t there i. record {
+      units = (c.end_unit.ensures.state ∙ ap (λ o. units_after u.units.state o (state_after c.args.ending)) (c.close_unit-unit.ensures.unit t there)) i;
+      tasks = c.close_unit-unit.ensures.task t there i;
+      waiting = u.waits;
+      clock = u.clock;
+      is_down = u.is_down;
+    })

@@ -1,7 +1,10 @@
-use Rattle.std.proofs.Common.{◌∙◌, ap}
+use Rattle.std.proofs.Common.{◌∙◌, sym, ap, subst}
+use Rattle.cics_history.specs.Execution.{IsOpenOrNone}
 use Rattle.cics_names.specs.declared.conditions.Condition.TheVariants.{Normal}
+use Rattle.cics_machine.specs.Regions.{region_of}
 use Rattle.cics_machine.specs.Replies.{plain}
 use Rattle.cics_machine.specs.Steps.{answered, dequeued, units_dequeued}
+use Rattle.cics_machine.proofs.KeptTasks.{acting_or_none}
 use Rattle.cics_machine.proofs.RegionSteps.{seen_awake, seen_step, then_told}
 use Rattle.cics_machine.proofs.RegionEnqueuing.{dequeued_kept, dequeue_answered}
 use Rattle.cics_dispatch.proofs.dispatcher.Dispatcher.dequeue.Goals as goal
@@ -28,3 +31,8 @@ returns c =
           (dequeued_kept c.self.invariant c.args.at t there value c.free_value.new.units state (seen_awake c.args.at c.self.view_is c.requires.awake t there) c.free_value.ensures.headline c.free_value.ensures.serializable)
           (dequeue_answered c.self.invariant c.args.at t there value c.free_value.new.units state c.args.resp c.plain_reply.result c.plain_reply.ensures) c.answer.ensures.step);
     }
+
+pub free_value-requires-clause-is_open : goal.free_value-requires-clause-is_open
+free_value-requires-clause-is_open c =
+    let u = c.self.inside in
+    subst (IsOpenOrNone u.units.state) (sym c.unit-unit.ensures) (acting_or_none (region_of u.units u.tasks u.waits u.clock u.is_down).machine c.args.at c.get.result.now c.self.invariant.tasks c.get.ensures)

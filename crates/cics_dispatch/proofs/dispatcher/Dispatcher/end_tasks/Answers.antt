@@ -1,6 +1,7 @@
-use Rattle.std.proofs.Common.{◌≡◌, ◌∙◌, ◌+◌, length, sym, ap, subst, arith, true, Some}
+use Rattle.std.proofs.Common.{◌≡◌, ◌∙◌, ◌+◌, length, sym, ap, subst, refl, arith, true, Some}
 use Rattle.std.specs.Prelude.{suc, drop, is_some, slice_get}
 use Rattle.std.proofs.lemmas.Option.{slice_get_within}
+use Rattle.std.proofs.lemmas.List.{drop_all}
 use Rattle.cics_history.specs.declared.ops.UnitState.TheVariants.{BackedOut}
 use Rattle.cics_machine.specs.Machine.{is_waiting, unit_closed}
 use Rattle.cics_machine.specs.Tasks.{own_label, IsOwn}
@@ -49,3 +50,40 @@ returns-clause-none c = λ i t is.
 
 pub close-requires-clause-awake : goal.close-requires-clause-awake
 close-requires-clause-awake c = λ t there. ap (λ ws. is_waiting ws t.label) c.loop-at.invariant.alone
+
+pub loop-at-init : goal.loop-at-init
+loop-at-init c = record {
+  alone = c.requires.alone;
+  long = refl;
+  rest = refl;
+  count = omega arith;
+  few = omega arith;
+  none = λ i t before is. absurd (omega (arith, before));
+  kept = λ was. was;
+}
+
+pub overflow_add-count : goal.overflow_add-count
+overflow_add-count c = omega arith
+
+pub returns-clause-machine : goal.returns-clause-machine
+returns-clause-machine c =
+    let m = c.loop-at.self.machine in
+    let over = c.loop-at-test.false in
+    let end = c.len-at-end.ensures in
+    let long = c.loop-at.invariant.long in
+    let seen = ap (λ v. length v.machine.tasks) c.self.view_is in
+    ap (all_ended m) (sym (drop_all c.loop-at.at m.tasks (omega (arith, over, end, long, seen)))) ∙ c.loop-at.invariant.rest
+
+pub returns-clause-count : goal.returns-clause-count
+returns-clause-count c =
+    let m = c.loop-at.self.machine in
+    let over = c.loop-at-test.false in
+    let end = c.len-at-end.ensures in
+    let long = c.loop-at.invariant.long in
+    let seen = ap (λ v. length v.machine.tasks) c.self.view_is in
+    let none = ap units_of (drop_all c.loop-at.at m.tasks (omega (arith, over, end, long, seen))) in
+    let all = c.loop-at.invariant.count in
+    omega (arith, none, all)
+
+pub returns-clause-kept : goal.returns-clause-kept
+returns-clause-kept c = c.loop-at.invariant.kept

@@ -1,12 +1,14 @@
 use Rattle.std.proofs.Common.{◌∙◌, sym, ap, subst, Some, Ok}
+use Rattle.std.proofs.lemmas.Option.{slice_get_within}
 use Rattle.cics_machine.specs.Regions.{region_of, IsRegionKept}
 use Rattle.cics_machine.specs.Calls.{HasReady, IsAttempt, going_on}
-use Rattle.cics_history.specs.Execution.{IfMustWait, IsOpenUnit}
+use Rattle.cics_history.specs.Execution.{execution, IfMustWait, IsOpenOrNone, IsOpenUnit}
 use Rattle.cics_history.specs.Holding.{awaited}
 use Rattle.cics_units.specs.Submitting.{as_done, IsBackIfItWaits}
 use Rattle.cics_machine.specs.Machine.{with_unit}
 use Rattle.cics_machine.specs.declared.outcomes.Attempt.TheVariants.{Told, MustWait}
-use Rattle.cics_machine.proofs.RegionSteps.{then_told, executes, waits_same, holder_awaited, acted_kept, acted_step, owner_free, owner_there, placed_within, one_task, seen_awake}
+use Rattle.cics_machine.proofs.KeptTasks.{acting_or_none}
+use Rattle.cics_machine.proofs.RegionSteps.{then_told, executes, waits_same, acts_in, holder_awaited, acted_kept, acted_step, owner_free, owner_there, placed_within, one_task, seen_awake}
 use Rattle.cics_dispatch.proofs.dispatcher.Dispatcher.execute.Goals as goal
 
 pub submit-requires-clause-ready : goal.submit-requires-clause-ready
@@ -88,3 +90,24 @@ returns-in-Answered c =
           (acted_step c.self.invariant c.args.at t c.get.ensures tried c.submit.ensures.headline c.submit.ensures.serializable unit a acts c.own_unit.new.self owned told c.reply_of_answer-reply.result
           (c.reply_of_answer-reply.ensures ∙ alike a)) c.answer.ensures.step);
     }
+
+pub submit-requires-clause-is_open : goal.submit-requires-clause-is_open
+submit-requires-clause-is_open c =
+    let u = c.self.inside in
+    subst (IsOpenOrNone u.units.state) (sym c.unit-unit.ensures) (acting_or_none (region_of u.units u.tasks u.waits u.clock u.is_down).machine c.args.at c.get.result.now c.self.invariant.tasks c.get.ensures)
+
+pub invariant_of-self : goal.invariant_of-self
+invariant_of-self c =
+    let u = c.self.inside in
+    subst (λ units. IsRegionKept (region_of units u.tasks u.waits u.clock u.is_down)) (sym c.in_err-holder.ensures.err) c.self.invariant
+
+pub own_unit-requires-clause-within : goal.own_unit-requires-clause-within
+own_unit-requires-clause-within c = slice_get_within c.self.inside.tasks c.args.at c.get.result.now c.get.ensures
+
+pub own_unit-requires-clause-own : goal.own_unit-requires-clause-own
+own_unit-requires-clause-own c = λ t unit there owns.
+    let s = c.self.inside.units.state in
+    let tried = executes c.self.inside.units c.submit.new.self c.get.result.now c.unit-unit.result c.args.op (as_done c.in_ok-holder.field-0)
+    c.unit-unit.ensures c.in_ok-holder.ensures.state c.in_ok-holder.ensures.done in
+    let own = ap (λ x. x.unit) (one_task c.self.inside.tasks c.args.at c.get.ensures there) ∙ owns in
+    acts_in s (Some unit) c.args.op c.in-Answered.unit c.in-Answered.answer (ap (λ o. execution s o c.args.op) (sym own) ∙ tried.comes_to ∙ ap as_done c.in-Answered.is)

@@ -4,7 +4,7 @@ use Rattle.cics_names.specs.Keyed.{Bytes}
 use Rattle.cics_history.specs.Records.{key_of}
 use Rattle.cics_machine.specs.Machine.{RegionValue, task_at}
 use Rattle.cics_machine.specs.Answers.{is_growing}
-use Rattle.cics_machine.specs.Calls.{OfTask, MayPerform}
+use Rattle.cics_machine.specs.Calls.{OfTask, KeepsRegion, MayPerform}
 use Rattle.cics_machine.specs.Steps.{answered, asked_op, op_of, performed}
 use Rattle.cics_machine.proofs.RegionPerforming.{issued_to, issued_waiting, issued_awake, issued_told, wants_memory, refused_memory}
 use Rattle.cics_dispatch.proofs.dispatcher.Dispatcher.issue.Goals as goal
@@ -69,3 +69,22 @@ returns-in_ok-perform-in-None-clause-step c =
     (sym c.has_ended.ensures ∙ c.if-has_ended.false) (sym c.is_waiting.ensures.waiting ∙ c.if-is_waiting.false) in
     issued_told c.args.self.now.machine c.args.label c.args.command c.args.at t None c.in_ok-perform-in-None.field-0 c.perform.new.self.machine to
     (sym (c.fault.ensures.fault t to.there) ∙ c.in-None.is) (c.in_ok-perform-in-None.ensures.step.0 t to.there ∙ ap (λ v. performed c.args.self.now.machine t (record c.args.command { verb = v })) c.in_ok-op-in-None.ensures.back)
+
+-- ---- the region is kept
+pub returns-then-has_ended-clause-kept : goal.returns-then-has_ended-clause-kept
+returns-then-has_ended-clause-kept c = λ was. was
+
+pub returns-then-is_waiting-clause-kept : goal.returns-then-is_waiting-clause-kept
+returns-then-is_waiting-clause-kept c = λ was. was
+
+pub returns-in-Some-clause-kept : goal.returns-in-Some-clause-kept
+returns-in-Some-clause-kept c = c.answer.ensures.step.1
+
+pub returns-in_err-op-in-None-clause-kept : goal.returns-in_err-op-in-None-clause-kept
+returns-in_err-op-in-None-clause-kept c = λ was. was
+
+pub returns-in_err-perform-in-None-clause-kept : goal.returns-in_err-perform-in-None-clause-kept
+returns-in_err-perform-in-None-clause-kept c = subst (KeepsRegion c.args.self.now) (sym c.in_err-perform-in-None.ensures.step) (λ was. was)
+
+pub returns-in_ok-perform-in-None-clause-kept : goal.returns-in_ok-perform-in-None-clause-kept
+returns-in_ok-perform-in-None-clause-kept c = c.in_ok-perform-in-None.ensures.step.1

@@ -1,4 +1,4 @@
-use Rattle.std.proofs.Common.{◌≡◌, ◌∙◌, ap, refl, false, None, is_some}
+use Rattle.std.proofs.Common.{◌≡◌, ◌∙◌, sym, ap, refl, false, None, is_some}
 use Rattle.cics_names.specs.declared.conditions.Condition.TheVariants.{Invreq}
 use Rattle.cics_names.specs.Commands.{file_named}
 use Rattle.cics_names.specs.declared.commands.Verb.{Verb}
@@ -6,7 +6,8 @@ use Rattle.cics_names.specs.declared.commands.Verb.TheVariants.{WriteqTs, ReadqT
 use Rattle.cics_machine.specs.Calls.{going_on}
 use Rattle.cics_machine.specs.Machine.{Task}
 use Rattle.cics_machine.specs.Replies.{plain}
-use Rattle.cics_machine.specs.Steps.{answered, other_command}
+use Rattle.cics_machine.specs.Steps.{answered, other_command, with_outcome}
+use Rattle.cics_machine.specs.declared.outcomes.Outcome.TheVariants.{Abended, Ended}
 use Rattle.cics_machine.proofs.Ready.{ready_value}
 use Rattle.cics_machine.proofs.RegionSteps.{told_as}
 use Rattle.cics_machine.proofs.RegionPerforming.{deq_fits}
@@ -47,3 +48,25 @@ returns c = record {
     by t (ReadqTd q n nosuspend) is named = refl
     by t (DeleteqTd q) is named = refl
     by t verb is named = cc
+
+pub returns-in-Syncpoint : goal.returns-in-Syncpoint
+returns-in-Syncpoint c =
+    let by = c.end_of_unit.ensures in
+    record { step = (λ t there. (λ i. with_outcome (by.outcome i) (by.machine t there i)) ∙ ap (other_command c.args.self.now.machine t c.args.command) (sym c.in-Syncpoint.is), by.kept); growing = tt }
+
+pub returns-in-Rollback : goal.returns-in-Rollback
+returns-in-Rollback c =
+    let by = c.end_of_unit-in-Rollback.ensures in
+    record { step = (λ t there. (λ i. with_outcome (by.outcome i) (by.machine t there i)) ∙ ap (other_command c.args.self.now.machine t c.args.command) (sym c.in-Rollback.is), by.kept); growing = tt }
+
+pub returns-in-Return : goal.returns-in-Return
+returns-in-Return c =
+    record { step = (λ t there. ap (with_outcome Ended) (c.close.ensures.machine t there) ∙ ap (other_command c.args.self.now.machine t c.args.command) (sym c.in-Return.is), c.close.ensures.kept); growing = tt }
+
+pub returns-in-Abend : goal.returns-in-Abend
+returns-in-Abend c =
+    let by = c.abend.ensures in
+    record {
+      step = (λ t there. (λ i. with_outcome (Abended (c.abend_code.ensures i) None) (by.machine t there i)) ∙ ap (other_command c.args.self.now.machine t c.args.command) (sym c.in-Abend.is), by.kept);
+      growing = tt;
+    }

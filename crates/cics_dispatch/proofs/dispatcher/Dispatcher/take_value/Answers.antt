@@ -1,12 +1,14 @@
 use Rattle.std.proofs.Common.{refl, ◌∙◌, sym, ap, subst, None, Ok}
 use Rattle.std.specs.Prelude.{take}
+use Rattle.std.proofs.lemmas.Option.{slice_get_within}
 use Rattle.cics_machine.specs.Regions.{region_of, IsRegionKept}
 use Rattle.cics_machine.specs.Calls.{IsAttempt, going_on}
-use Rattle.cics_history.specs.Execution.{IfEnqMustWait, IsOpenUnit}
+use Rattle.cics_history.specs.Execution.{IfEnqMustWait, IsOpenOrNone, IsOpenUnit}
 use Rattle.cics_machine.specs.Machine.{with_unit}
 use Rattle.cics_machine.specs.Steps.{other_command}
 use Rattle.cics_machine.specs.Waking.{awaited_by}
 use Rattle.cics_machine.specs.declared.outcomes.Attempt.TheVariants.{Told, MustWait}
+use Rattle.cics_machine.proofs.KeptTasks.{acting_or_none}
 use Rattle.cics_machine.proofs.Ready.{value_ready, only_enq}
 use Rattle.cics_machine.proofs.RegionSteps.{then_told, placed_within, one_task, seen_awake}
 use Rattle.cics_machine.proofs.RegionEnqueuing.{first_fit, enqueues, enq_awaited, waits_same, full_kept, full_step, owner_free, owner_there, taken_kept, taken_step}
@@ -118,3 +120,16 @@ returns-in-Taken c =
           (taken_step c.self.invariant c.args.at t c.get.ensures tried c.enq.ensures.headline c.enq.ensures.serializable unit c.in-Taken.is c.own_unit.new.self owned command c.plain_reply-reply-in-Taken.result
           c.plain_reply-reply-in-Taken.ensures ∙ ap (other_command m t command) (sym c.in-Enq.is)) c.answer-in-Taken.ensures.step);
     }
+
+pub enq-requires-clause-is_open : goal.enq-requires-clause-is_open
+enq-requires-clause-is_open c =
+    let u = c.self.inside in
+    subst (IsOpenOrNone u.units.state) (sym c.unit-unit.ensures) (acting_or_none (region_of u.units u.tasks u.waits u.clock u.is_down).machine c.args.at c.get.result.now c.self.invariant.tasks c.get.ensures)
+
+pub invariant_of-self : goal.invariant_of-self
+invariant_of-self c =
+    let u = c.self.inside in
+    subst (λ units. IsRegionKept (region_of units u.tasks u.waits u.clock u.is_down)) (sym c.in_err-holder.ensures.err) c.self.invariant
+
+pub own_unit-requires-clause-within : goal.own_unit-requires-clause-within
+own_unit-requires-clause-within c = slice_get_within c.self.inside.tasks c.args.at c.get.result.now c.get.ensures

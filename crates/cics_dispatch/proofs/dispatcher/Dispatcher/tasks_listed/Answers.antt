@@ -1,6 +1,7 @@
-use Rattle.std.proofs.Common.{◌∙◌, sym, ap, [], ◌∷◌, ◌++◌}
-use Rattle.std.specs.Prelude.{slice_get}
-use Rattle.cics_machine.proofs.RegionListing.{rows_ended, rows_more}
+use Rattle.std.proofs.Common.{◌∙◌, sym, ap, arith, [], ◌∷◌, ◌++◌}
+use Rattle.std.specs.Prelude.{length, slice_get}
+use Rattle.std.proofs.lemmas.List.{take_all}
+use Rattle.cics_machine.proofs.RegionListing.{rows_of, rows_ended, rows_more}
 use Rattle.cics_dispatch.proofs.dispatcher.Dispatcher.tasks_listed.Goals.{then-not-has_ended+in_ok-push, else-not-has_ended}
 use Rattle.cics_dispatch.proofs.dispatcher.Dispatcher.tasks_listed.Goals as goal
 
@@ -15,3 +16,11 @@ loop-at-preserved c =
           ∙ sym (rows_more m m.tasks c.loop-at.at t there (sym c.has_ended.ensures ∙ w.if-not-has_ended.true))
       | else-not-has_ended w ↦ w.tasks-is ∙ c.loop-at.invariant ∙ sym (rows_ended m m.tasks c.loop-at.at t there (sym c.has_ended.ensures ∙ w.if-not-has_ended.false))
     ]
+
+pub returns : goal.returns
+returns c =
+    let m = c.args.self.now.machine in
+    let over = c.loop-at-test.false in
+    let end = c.len-at-end.ensures in
+    let seen = ap (λ v. length v.machine.tasks) c.self.view_is in
+    c.loop-at.invariant ∙ ap (rows_of m) (take_all c.loop-at.at m.tasks (omega (arith, over, end, seen)))

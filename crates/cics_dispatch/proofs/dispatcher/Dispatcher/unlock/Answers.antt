@@ -1,8 +1,10 @@
-use Rattle.std.proofs.Common.{◌∙◌, ap}
+use Rattle.std.proofs.Common.{◌∙◌, sym, ap, subst}
+use Rattle.cics_history.specs.Execution.{IsOpenOrNone}
 use Rattle.cics_machine.specs.Regions.{region_of}
 use Rattle.cics_names.specs.declared.conditions.Condition.TheVariants.{Normal}
 use Rattle.cics_machine.specs.Replies.{plain}
 use Rattle.cics_machine.specs.Steps.{answered, unlocked}
+use Rattle.cics_machine.proofs.KeptTasks.{acting_or_none}
 use Rattle.cics_machine.proofs.RegionSteps.{seen_awake, seen_step, then_told}
 use Rattle.cics_machine.proofs.RegionBrowses.{unlocked_kept, unlock_answered}
 use Rattle.cics_dispatch.proofs.dispatcher.Dispatcher.unlock.Goals as goal
@@ -30,3 +32,8 @@ returns c =
           (unlocked_kept c.self.invariant c.args.at t there c.unlock_file.new.units name (seen_awake c.args.at c.self.view_is c.requires.awake t there) state c.unlock_file.ensures.headline c.unlock_file.ensures.serializable)
           (unlock_answered c.self.invariant c.args.at t there c.unlock_file.new.units name c.args.resp c.plain_reply.result state c.plain_reply.ensures) c.answer.ensures.step);
     }
+
+pub unlock_file-requires-clause-is_open : goal.unlock_file-requires-clause-is_open
+unlock_file-requires-clause-is_open c =
+    let u = c.self.inside in
+    subst (IsOpenOrNone u.units.state) (sym c.unit-unit.ensures) (acting_or_none (region_of u.units u.tasks u.waits u.clock u.is_down).machine c.args.at c.get.result.now c.self.invariant.tasks c.get.ensures)

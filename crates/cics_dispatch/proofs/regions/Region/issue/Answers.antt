@@ -1,12 +1,11 @@
-use Rattle.std.proofs.Common.{◌∙◌, ap, subst, refl, Ok, Err}
+use Rattle.std.proofs.Common.{◌∙◌, sym, ap, subst, refl, Ok, Err}
 use Rattle.std.specs.Prelude.{◌&&◌, not, if◌then◌else◌, None}
 use Rattle.cics_machine.specs.Steps.{issued_by, issued}
 use Rattle.cics_machine.specs.Answers.{may_want, IsHeadlineRegion, IsSerializableRegion}
-use Rattle.cics_machine.specs.Shutdown.{IsRegionStep}
-use Rattle.cics_machine.proofs.RegionShutdown.{up_step}
 use Rattle.cics_machine.specs.declared.outcomes.Refused.TheVariants.{NoTask}
 use Rattle.cics_machine.specs.Settled.{goes_on}
 use Rattle.cics_machine.proofs.RegionRemembers.{remembered_issued}
+use Rattle.cics_dispatch.proofs.RegionCalls.{passed_on, refused_down, made_up}
 use Rattle.cics_dispatch.proofs.regions.Region.issue.Goals as goal
 
 pub returns-in_default-clause-step : goal.returns-in_default-clause-step
@@ -14,19 +13,14 @@ returns-in_default-clause-step c =
     let label = c.args.label in
     let k = c.args.command in
     let d = c.self.inside.dispatcher in
-    subst (λ v. IsRegionStep (may_want v.machine label k) v (issued v.machine label k) (Err NoTask) v) c.self.view_is
-    (up_step (may_want d.machine label k) d d (issued d.machine label k) (Err NoTask)
-    (ap (λ v. v.machine.is_down) c.self.view_is ∙ c.in_ok-refuse_if_down.ensures.up) (ap (λ o. (issued_by d.machine k o).outcome) c.in_default.ensures.none, refl))
+    made_up (λ m. may_want m label k) (λ m. issued m label k) (Err NoTask) d c.args.self.now c.args.self.now c.self.view_is c.in_ok-refuse_if_down.ensures.up
+    (ap (λ o. (issued_by d.machine k o).outcome) c.in_default.ensures.none, sym c.self.view_is)
 
 pub returns-clause-step : goal.returns-clause-step
 returns-clause-step c =
     let label = c.args.label in
     let k = c.args.command in
-    let outcome = c.in_ok-outcome.outcome in
-    let d = c.self.inside.dispatcher in
-    subst (λ v. IsRegionStep (may_want v.machine label k) v (issued v.machine label k) (Ok outcome) c.issue.new.self) c.self.view_is
-    (up_step (may_want d.machine label k) d c.issue.new.self (issued d.machine label k) (Ok outcome)
-    (ap (λ v. v.machine.is_down) c.self.view_is ∙ c.in_ok-refuse_if_down.ensures.up) c.in_ok-outcome.ensures.step)
+    made_up (λ m. may_want m label k) (λ m. issued m label k) (Ok c.in_ok-outcome.outcome) c.self.inside.dispatcher c.args.self.now c.issue.new.self c.self.view_is c.in_ok-refuse_if_down.ensures.up c.in_ok-outcome.ensures.step
 
 pub invariant_of-self-2 : goal.invariant_of-self-2
 invariant_of-self-2 c =
@@ -69,3 +63,17 @@ returns-clause-headline c = (c.in_ok-outcome.ensures.kept c.self.invariant.0).he
 
 pub returns-clause-serializable : goal.returns-clause-serializable
 returns-clause-serializable c = (c.in_ok-outcome.ensures.kept c.self.invariant.0).serializable
+
+pub returns-in_err-refuse_if_down-clause-step : goal.returns-in_err-refuse_if_down-clause-step
+returns-in_err-refuse_if_down-clause-step c =
+    let label = c.args.label in
+    let k = c.args.command in
+    refused_down (λ m. may_want m label k) (λ m. issued m label k) c.from_residual.result c.args.self.now c.in_err-refuse_if_down.field-0.0 c.from_residual.ensures c.in_err-refuse_if_down.ensures.down
+
+pub returns-in_err-outcome-clause-step : goal.returns-in_err-outcome-clause-step
+returns-in_err-outcome-clause-step c =
+    let label = c.args.label in
+    let k = c.args.command in
+    let e = c.in_err-outcome.field-0.0 in
+    passed_on (λ m. may_want m label k) (λ m. issued m label k) c.from_residual-in_err-outcome.result c.args.self.now c.issue.new.self e c.from_residual-in_err-outcome.ensures
+    (made_up (λ m. may_want m label k) (λ m. issued m label k) (Err e) c.self.inside.dispatcher c.args.self.now c.issue.new.self c.self.view_is c.in_ok-refuse_if_down.ensures.up c.in_err-outcome.ensures.step)

@@ -388,3 +388,28 @@ returns-in_err-answer-clause-holder_open c = IfOk-from_err c.from_residual-in_er
 
 pub returns-in_err-answer-clause-state : goal.returns-in_err-answer-clause-state
 returns-in_err-answer-clause-state c = IfOk-from_err c.from_residual-in_err-answer.result _ c.from_residual-in_err-answer.ensures.0
+
+-- ---- what follows at once
+pub execute-requires-clause-bound : goal.execute-requires-clause-bound
+execute-requires-clause-bound c = c.bind-bound.ensures.bound
+
+pub execute-requires-clause-once : goal.execute-requires-clause-once
+execute-requires-clause-once c = c.self.invariant.0.table.once
+
+pub enter-requires-clause-outcomes_room : goal.enter-requires-clause-outcomes_room
+enter-requires-clause-outcomes_room c = c.in_ok-reserve_unit.ensures.room
+
+pub returns-in-Some-clause-back : goal.returns-in-Some-clause-back
+returns-in-Some-clause-back c = refl
+
+pub returns-in-Some-clause-err : goal.returns-in-Some-clause-err
+returns-in-Some-clause-err c = tt
+
+pub returns-clause-back : goal.returns-clause-back
+returns-clause-back c = tt
+
+pub returns-clause-holder_open : goal.returns-clause-holder_open
+returns-clause-holder_open c = tt
+
+pub returns-clause-err : goal.returns-clause-err
+returns-clause-err c = tt
