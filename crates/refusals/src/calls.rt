@@ -4,15 +4,14 @@
 use crate::events::Event;
 use crate::guards::{is_open, is_open_or_none, is_ready};
 use crate::runs::{Target, Tried};
-use crate::states::push_units;
+use crate::states::{push_listed, push_units};
 use cics_dispatch::{Number, Outcome, Reply};
 use cics_history::UnitId;
-use cics_listing::push_listing;
 use cics_names::{Condition, Name8, NoMemory, Record, Verb};
 use cics_script::Line;
 use cics_spelling::{push_number, push_str};
 use cics_stage::journal::push_outcome;
-use cics_units::{Answer, Done, Enqueued, Op, Opening, Submitted, Units, plain_replay};
+use cics_units::{Answer, Done, Enqueued, Listing, Op, Opening, Submitted, Units, plain_replay};
 use std::alloc::Global;
 
 // The length of the keys of each file: a record begins with its key.
@@ -240,15 +239,27 @@ fn run_command(
     }
 }
 
-// How many control intervals the files of units have.
-fn intervals(units: &Units) -> Result<u64, NoMemory> {
+// What a plain replay of units lists.
+fn replayed(units: &Units) -> Result<Listing, NoMemory> {
+    let opening = units.opening();
+    plain_replay(
+        opening.allocator(),
+        opening,
+        units.trace(),
+        units.outcomes(),
+    )
+}
+
+// Puts at the end how many control intervals the files of units have.
+fn push_intervals(out: &mut Vec<u8>, units: &Units) -> Result<(), NoMemory> {
     let mut count: u64 = 0;
     for (name, _, _) in units.listing()?.files.as_slice() {
         if let Some(file) = units.file(name) {
             count = count.saturating_add(file.interval_count());
         }
     }
-    Ok(count)
+    push_number(out, count)?;
+    push_str(out, " intervals\n")
 }
 
 impl Tried for Units {
@@ -257,17 +268,9 @@ impl Tried for Units {
             Event::Line(Line::Issue(label, command)) => {
                 run_command(self, label, &command.verb, out)
             }
-            Event::Listing => push_listing(out, &self.listing()?),
-            Event::Replay => {
-                let opening = self.opening();
-                let (trace, outcomes) = (self.trace(), self.outcomes());
-                let listing = plain_replay(opening.allocator(), opening, trace, outcomes)?;
-                push_listing(out, &listing)
-            }
-            Event::Intervals => {
-                push_number(out, intervals(self)?)?;
-                push_str(out, " intervals\n")
-            }
+            Event::Listing => push_listed(out, self.listing()),
+            Event::Replay => push_listed(out, replayed(self)),
+            Event::Intervals => push_intervals(out, self),
             _ => Ok(()),
         }
     }

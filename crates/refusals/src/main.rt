@@ -1,4 +1,5 @@
-//! Scripts on units of work and on regions, each event of which is refused memory.
+//! Runs over bytes in memory, each read and write of which fails in turn (`trials`). Then scripts on
+//! units of work and on regions, each event of which is refused memory.
 //!
 //! The scripts come from standard input, with a blank line between them; the first text stands
 //! before each of them (`scripts`). Where `tools/refuse_memory` is loaded, each request of each
@@ -6,10 +7,11 @@
 //! stays refused, and the open units of work are ended. With ample memory a script runs alone and
 //! among 300 more of everything, and no request is refused.
 //!
-//! Prints what stands at the end of each script. The exit status is 0 if all came out as it has to,
-//! and 1 otherwise, with the line on standard error.
+//! Prints what came of each run, and what stands at the end of each script. The exit status is 0 if
+//! each script came out as it has to, and 1 otherwise, with the line on standard error.
 #![tactic(auto)]
 
+mod calling;
 mod calls;
 mod events;
 mod guards;
@@ -19,10 +21,13 @@ mod regions;
 mod runs;
 mod scripts;
 mod states;
+mod streams;
+mod trials;
 
 use crate::memory::{Requests, are_refused, switch};
 use crate::runs::{Run, Stop};
 use crate::scripts::{Kind, steps_of, written_out};
+use crate::trials::try_all;
 use cics_dispatch::Region;
 use cics_names::NoMemory;
 use cics_units::Units;
@@ -105,8 +110,11 @@ fn run_each(rt: &HostRuntime, texts: [&str; 2]) -> Result<(), ExitCode> {
     Ok(())
 }
 
-// Runs the scripts of a text, each behind its first text.
+// Makes the runs in memory, and runs the scripts of a text, each behind its first text.
 fn run_text(rt: &HostRuntime, text: &str) -> Result<(), ExitCode> {
+    if try_all(rt).is_err() {
+        return Err(ExitCode::FAILURE);
+    }
     let (first, scripts) = text.trim_end().split_once("\n\n").unwrap_or((text, ""));
     for script in scripts.split("\n\n") {
         run_each(rt, [first, script])?;

@@ -3,35 +3,40 @@
 use crate::events::Event;
 use crate::memory::{Requests, switch, was_refused};
 use crate::runs::{MOST, Run, Stop, Target, Tried};
-use cics_listing::push_listing;
+use crate::states::push_listed;
 use cics_names::NoMemory;
 use cics_script::Line;
 use cics_spelling::{push_name, push_str};
 use cics_stage::journal::push_define_fault;
 use cics_units::{DefineFault, Opening, plain_replay};
 
+// Lets happen what a line says that defines or loads something.
+fn define(opening: &mut Opening, line: &Line, out: &mut Vec<u8>) -> Result<(), NoMemory> {
+    let done = match line {
+        Line::DefineFile(name, definition) => opening.define_file(*name, *definition),
+        Line::DefineTsPrefix(prefix) => opening.define_ts_prefix(*prefix),
+        Line::DefineTd(name, recovery) => opening.define_td(*name, *recovery),
+        Line::LoadFile(name, content) => opening.load_file(*name, content.copy()?),
+        Line::LoadTd(name, content) => opening.load_td(*name, content.copy()?),
+        _ => return Ok(()),
+    };
+    match done {
+        Ok(()) => push_str(out, "defined\n"),
+        Err(DefineFault::NoMemory) => Err(NoMemory),
+        Err(fault) => push_define_fault(out, 0, fault),
+    }
+}
+
 impl Tried for Opening {
     fn happen(&mut self, event: Event, out: &mut Vec<u8>) -> Result<(), NoMemory> {
-        let Event::Line(line) = &event else {
-            return Ok(());
-        };
-        let done = match line {
-            Line::DefineFile(name, definition) => self.define_file(*name, *definition),
-            Line::DefineTsPrefix(prefix) => self.define_ts_prefix(*prefix),
-            Line::DefineTd(name, recovery) => self.define_td(*name, *recovery),
-            Line::LoadFile(name, content) => self.load_file(*name, content.copy()?),
-            Line::LoadTd(name, content) => self.load_td(*name, content.copy()?),
-            _ => return Ok(()),
-        };
-        match done {
-            Ok(()) => push_str(out, "defined\n"),
-            Err(DefineFault::NoMemory) => Err(NoMemory),
-            Err(fault) => push_define_fault(out, 0, fault),
+        match &event {
+            Event::Line(line) => define(self, line, out),
+            _ => Ok(()),
         }
     }
 
     fn push_state(&self, out: &mut Vec<u8>) -> Result<(), NoMemory> {
-        push_listing(out, &plain_replay(self.allocator(), self, &[], &[])?)?;
+        push_listed(out, plain_replay(self.allocator(), self, &[], &[]))?;
         for prefix in self.prefixes() {
             push_name(out, &prefix.bytes())?;
         }
@@ -50,14 +55,14 @@ pub(crate) fn start<T: Target + Drop>(run: Run<'_>, opening: Opening) -> Result<
         let started = T::start(opening);
         switch(run.alloc, Requests::Granted);
         if was_refused(run.alloc) != started.is_err() {
-            return Err(Stop::Start);
+            break;
         }
         match started {
             Ok(target) => return Ok(target),
             Err(back) => opening = back,
         }
-        if run.state(&opening)?.as_slice() != before.as_slice() {
-            return Err(Stop::Start);
+        if run.is_changed(&opening, &before)? {
+            break;
         }
     }
     Err(Stop::Start)

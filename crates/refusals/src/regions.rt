@@ -2,17 +2,16 @@
 
 use crate::events::Event;
 use crate::runs::{Target, Tried};
-use crate::states::push_units;
+use crate::states::{push_listed, push_units};
 use cics_dispatch::{Refused, Region};
-use cics_listing::push_listing;
-use cics_names::{Command, Name8, NoMemory};
+use cics_names::{Name8, NoMemory};
 use cics_script::Line;
 use cics_spelling::push_name;
 use cics_stage::journal::{
     push_attached, push_clock, push_clock_refused, push_expired, push_outcome, push_refused,
     push_shutdown, push_shutdown_refused, push_woken,
 };
-use cics_units::{Opening, TaskState};
+use cics_units::{Listing, Opening};
 use std::alloc::Global;
 
 // Puts at the end that an event of the task of a label was refused.
@@ -20,19 +19,6 @@ fn push_why(out: &mut Vec<u8>, label: Name8, why: Refused) -> Result<(), NoMemor
     match why {
         Refused::NoMemory => Err(NoMemory),
         _ => push_refused(out, label, why),
-    }
-}
-
-// Issues a command.
-fn issue(
-    region: &mut Region,
-    label: Name8,
-    command: Command,
-    out: &mut Vec<u8>,
-) -> Result<(), NoMemory> {
-    match region.issue(label, command) {
-        Ok(outcome) => push_outcome(out, label, &outcome),
-        Err(why) => push_why(out, label, why),
     }
 }
 
@@ -68,8 +54,33 @@ fn happen_by_copy(region: &mut Region, line: &Line, out: &mut Vec<u8>) -> Result
 // Lets happen what a line says.
 fn happen_by_line(region: &mut Region, line: Line, out: &mut Vec<u8>) -> Result<(), NoMemory> {
     match line {
-        Line::Issue(label, command) => issue(region, label, command, out),
+        Line::Issue(label, command) => {
+            match region.issue(label, command) {
+                Ok(outcome) => push_outcome(out, label, &outcome),
+                Err(why) => push_why(out, label, why),
+            }
+        }
         line => happen_by_copy(region, &line, out),
+    }
+}
+
+// Puts at the end whom each task waits for.
+fn push_blockers(out: &mut Vec<u8>, region: &Region, listing: &Listing) -> Result<(), NoMemory> {
+    for (label, _) in listing.tasks.as_slice() {
+        if let Some(blocker) = region.blocker(label) {
+            push_name(out, &label.bytes())?;
+            push_name(out, &blocker.bytes())?;
+        }
+    }
+    Ok(())
+}
+
+// Lets the first waiting command that no longer has to wait resume.
+fn wake(region: &mut Region, out: &mut Vec<u8>) -> Result<(), NoMemory> {
+    match region.wake() {
+        Ok(Some(woken)) => push_woken(out, &woken),
+        Ok(None) => Ok(()),
+        Err(_) => Err(NoMemory),
     }
 }
 
@@ -77,21 +88,15 @@ impl Tried for Region {
     fn happen(&mut self, event: Event, out: &mut Vec<u8>) -> Result<(), NoMemory> {
         match event {
             Event::Line(line) => happen_by_line(self, line, out),
-            Event::Wake => {
-                match self.wake() {
-                    Ok(Some(woken)) => push_woken(out, &woken),
-                    Ok(None) => Ok(()),
-                    Err(_) => Err(NoMemory),
-                }
-            }
+            Event::Wake => wake(self, out),
             Event::Expire => {
                 match self.expire() {
                     Some(expired) => push_expired(out, &expired),
                     None => Ok(()),
                 }
             }
-            Event::Listing => push_listing(out, &self.listing()?),
-            Event::Replay => push_listing(out, &self.replayed()?),
+            Event::Listing => push_listed(out, self.listing()),
+            Event::Replay => push_listed(out, self.replayed()),
             Event::Intervals => Ok(()),
         }
     }
@@ -100,12 +105,7 @@ impl Tried for Region {
     // does.
     fn push_state(&self, out: &mut Vec<u8>) -> Result<(), NoMemory> {
         let listing = self.listing()?;
-        for (label, _) in listing.tasks.as_slice() {
-            if let Some(blocker) = self.blocker(label) {
-                push_name(out, &label.bytes())?;
-                push_name(out, &blocker.bytes())?;
-            }
-        }
+        push_blockers(out, self, &listing)?;
         push_units(out, self.units(), &listing)
     }
 }
@@ -117,9 +117,11 @@ impl Target for Region {
 
     fn free_tasks(&self, alloc: Global) -> Result<Vec<Name8>, NoMemory> {
         let mut free = Vec::new(alloc);
-        for (label, state) in self.listing()?.tasks.as_slice() {
-            if *state == TaskState::HasUnit {
-                free.push(*label)?;
+        for number in 0..self.task_count() {
+            if let Some(label) = self.label_at(number) {
+                if self.unit(&label).is_some() && self.waiting_command(&label).is_none() {
+                    free.push(label)?;
+                }
             }
         }
         Ok(free)

@@ -90,6 +90,17 @@ impl From<AllocError> for Stop {
     }
 }
 
+// Puts the lines of an event at the end, but for those of a listing on tasks.
+fn push_told(text: &mut String, out: &[u8]) -> Result<(), NoMemory> {
+    for line in std::str::from_utf8(out).unwrap_or("").lines() {
+        if !line.starts_with("TASK ") {
+            text.push_str(line)?;
+            text.push('\n')?;
+        }
+    }
+    Ok(())
+}
+
 /// How a script is run.
 #[derive(Clone, Copy)]
 pub(crate) struct Run<'a> {
@@ -119,6 +130,11 @@ impl<'a> Run<'a> {
             target.push_state(&mut out)?;
         }
         Ok(out)
+    }
+
+    /// Returns whether something else is shown than before.
+    pub(crate) fn is_changed<T: Tried>(&self, target: &T, before: &[u8]) -> Result<bool, NoMemory> {
+        Ok(self.state(target)?.as_slice() != before)
     }
 
     /// Returns what becomes of requests that may be refused, or of the first ones.
@@ -166,13 +182,13 @@ impl<'a> Run<'a> {
         answer: &str,
         text: &mut String,
     ) -> Result<Option<bool>, Stop> {
+        let mut out = Vec::with_capacity(self.alloc, ROOM)?;
         let event = self.event(line)?;
         let requests = if event.may_ask(answer) {
             self.requests(false)
         } else {
             Requests::Forbidden
         };
-        let mut out = Vec::with_capacity(self.alloc, ROOM)?;
         switch(self.alloc, requests);
         let is_refused = target.happen(event, &mut out).is_err();
         switch(self.alloc, Requests::Granted);
@@ -182,12 +198,7 @@ impl<'a> Run<'a> {
         if is_refused {
             return Ok(None);
         }
-        for line in std::str::from_utf8(&out).unwrap_or("").lines() {
-            if !line.starts_with("TASK ") {
-                text.push_str(line)?;
-                text.push('\n')?;
-            }
-        }
+        push_told(text, &out)?;
         Ok(Some(!out.is_empty()))
     }
 
@@ -207,7 +218,7 @@ impl<'a> Run<'a> {
             if let Some(comes) = self.comes_out(target, line, answer, text)? {
                 return Ok(comes);
             }
-            if self.state(target)?.as_slice() != before.as_slice() {
+            if self.is_changed(target, &before)? {
                 return Err(self.stop(Wrong::Changed, line));
             }
         }
@@ -297,6 +308,24 @@ impl<'a> Run<'a> {
         }
     }
 
+    // Ends a task by a command, and puts what comes at the end.
+    fn end_task<T: Tried>(
+        &mut self,
+        target: &mut T,
+        label: &Name8,
+        command: &str,
+        text: &mut String,
+    ) -> Result<(), Stop> {
+        let mut line = Vec::new(self.alloc);
+        push_bare(&mut line, &label.bytes())?;
+        push_str(&mut line, " EXEC CICS ")?;
+        push_str(&mut line, command)?;
+        if let Ok(line) = std::str::from_utf8(&line) {
+            self.come_out(target, line, "", text)?;
+        }
+        self.drain(target, text)
+    }
+
     // Ends each of these tasks, in one of two ways in turn, and puts what comes at the end.
     fn end_tasks<T: Target>(
         &mut self,
@@ -306,14 +335,7 @@ impl<'a> Run<'a> {
     ) -> Result<bool, Stop> {
         let free = target.free_tasks(self.alloc)?;
         for (at, label) in free.iter().enumerate() {
-            let mut line = Vec::new(self.alloc);
-            push_bare(&mut line, &label.bytes())?;
-            push_str(&mut line, " EXEC CICS ")?;
-            push_str(&mut line, ends[at % 2])?;
-            if let Ok(line) = std::str::from_utf8(&line) {
-                self.come_out(target, line, "", text)?;
-            }
-            self.drain(target, text)?;
+            self.end_task(target, label, ends[at % 2], text)?;
         }
         Ok(free.is_empty())
     }

@@ -54,15 +54,10 @@ impl Kind {
     // The line that one of the first text puts before a script of this kind, if it puts one there.
     fn head(self, line: &str) -> Option<&str> {
         if let Some(line) = line.strip_prefix("** ") {
-            return if self.is_ample && !self.on_units {
-                Some(line)
-            } else {
-                None
-            };
+            return (self.is_ample && !self.on_units).then_some(line);
         }
         match line.strip_prefix("* ") {
-            Some(line) if !self.on_units => Some(line),
-            Some(_) => None,
+            Some(line) => (!self.on_units).then_some(line),
             None => Some(line),
         }
     }
@@ -81,11 +76,10 @@ impl Step {
 
 // Puts a line at the end, with a number in place of each `nnn` that stands in it.
 fn push_numbered(text: &mut String, line: &str, number: u64) -> Result<(), NoMemory> {
-    for (at, part) in line.split("nnn").enumerate() {
-        if at > 0 {
-            write!(text, "{number:03}")?;
-        }
-        text.push_str(part)?;
+    let mut parts = line.split("nnn");
+    text.push_str(parts.next().unwrap_or(""))?;
+    for part in parts {
+        write!(text, "{number:03}{part}")?;
     }
     text.push('\n')?;
     Ok(())
@@ -97,12 +91,11 @@ fn times(line: &str, further: u64) -> Option<(u64, &str, &str)> {
     if word == "+" {
         return Some((further, "x", line));
     }
-    for order in ["x", "t", "f", "b"] {
-        if let Some(digits) = word.strip_prefix(order) {
-            return Some((digits.parse::<u64>().ok()?, order, line));
-        }
+    let (order, digits) = word.split_at_checked(1)?;
+    if !matches!(order, "x" | "t" | "f" | "b") {
+        return None;
     }
-    None
+    Some((digits.parse::<u64>().ok()?, order, line))
 }
 
 // Puts a line at the end, as often as it stands.
@@ -141,23 +134,29 @@ pub(crate) fn written_out(
     Ok(text)
 }
 
+// Puts a line of a script that is written out into its steps: a comment into none.
+fn put_line(alloc: Global, steps: &mut Vec<Step>, line: &str) -> Result<(), NoMemory> {
+    if line.starts_with("*") {
+        return Ok(());
+    }
+    if let (Some(expected), Some(last)) = (line.strip_prefix("= "), steps.last_mut()) {
+        last.expected.push_str(expected)?;
+        last.expected.push('\n')?;
+        return Ok(());
+    }
+    steps.push(Step {
+        line: line.to_string(alloc)?,
+        expected: String::new(alloc),
+    })?;
+    Ok(())
+}
+
 /// Returns the steps of a script that is written out. An expected result that stands behind no line
 /// is a step too, which no reader of lines takes.
 pub(crate) fn steps_of(alloc: Global, text: &str) -> Result<Vec<Step>, NoMemory> {
     let mut steps: Vec<Step> = Vec::new(alloc);
     for line in text.lines() {
-        if line.starts_with("*") {
-            continue;
-        }
-        if let (Some(expected), Some(last)) = (line.strip_prefix("= "), steps.last_mut()) {
-            last.expected.push_str(expected)?;
-            last.expected.push('\n')?;
-            continue;
-        }
-        steps.push(Step {
-            line: line.to_string(alloc)?,
-            expected: String::new(alloc),
-        })?;
+        put_line(alloc, &mut steps, line)?;
     }
     Ok(steps)
 }

@@ -6,20 +6,32 @@ use cics_names::NoMemory;
 use cics_spelling::{push_number, push_str, push_text};
 use cics_units::{Entry, Listing, Op, UnitState, Units};
 
-// Puts an executed command at the end: what it names, its unit, and its answer.
-fn push_entry(out: &mut Vec<u8>, entry: &Entry) -> Result<(), NoMemory> {
-    let op = entry.op()?;
+/// Puts a listing at the end, unless there was no memory for it.
+pub(crate) fn push_listed(
+    out: &mut Vec<u8>,
+    listing: Result<Listing, NoMemory>,
+) -> Result<(), NoMemory> {
+    push_listing(out, &listing?)
+}
+
+// Puts at the end what a command names.
+fn push_op(out: &mut Vec<u8>, op: &Op) -> Result<(), NoMemory> {
     if let Some((_, key)) = op.record() {
         push_text(out, key.bytes())?;
     }
-    match &op {
+    match op {
         Op::Write { from, .. }
         | Op::Rewrite { from, .. }
         | Op::TsWrite { from, .. }
         | Op::TsRewrite { from, .. }
-        | Op::TdWrite { from, .. } => push_text(out, from.bytes())?,
-        _ => {}
+        | Op::TdWrite { from, .. } => push_text(out, from.bytes()),
+        _ => Ok(()),
     }
+}
+
+// Puts an executed command at the end: what it names, its unit, and its answer.
+fn push_entry(out: &mut Vec<u8>, entry: &Entry) -> Result<(), NoMemory> {
+    push_op(out, &entry.op()?)?;
     push_number(out, entry.unit().number())?;
     push_str(out, entry.condition().name())?;
     push_number(out, entry.number().unwrap_or(0))?;

@@ -1,17 +1,13 @@
-//! Runs scripts over bytes in memory, with each answer of a run but `NoMemory`. Each read and each
-//! write fails in turn. Calls a region without a script too.
-#![tactic(auto)]
-
-mod calls;
-mod streams;
+//! Runs of scripts over bytes in memory, with each answer of a run but `NoMemory`. Each read and each
+//! write fails in turn. A region is called without a script too.
 
 ghost use Rattle.std.specs.Prelude.{◌≡◌};
 
+use crate::calling;
 use crate::streams::{Calls, Page, Script};
 use cics_session::{CHUNK, LIMIT, Options, RunFault, Session, Status, Wanted, run, run_over};
 use std::io;
 use std::marker::Brand;
-use std::process::ExitCode;
 use std::sync::ledger::{Blank, Ledger};
 
 const SCRIPT: &[u8] = b"DEFINE TDQUEUE('LOGA') LOGICAL
@@ -49,16 +45,6 @@ const FAULT: &[u8] = b"T1 ATTACHED 'SHOW'
 LINE 2 FAULT 3 UnknownWord
 ";
 
-const LISTING: Options = Options {
-    replay: false,
-    no_list: false,
-};
-
-const REPLAY: Options = Options {
-    replay: true,
-    no_list: true,
-};
-
 // The journal alone.
 const WANTED: Wanted = Wanted {
     options: Options {
@@ -89,13 +75,15 @@ fn verdict(is_expected: bool) -> &'static str {
     }
 }
 
-// Runs a script between a reader and a writer of std.
+// Runs a script between a reader and a writer of std, with its listing or else with its replay.
 fn try_reader(
     rt: &HostRuntime,
     shows: &str,
-    (mut script, options): (&[u8], Options),
+    (mut script, replay): (&[u8], bool),
     expected: &[u8],
 ) -> io::Result<()> {
+    let no_list = replay;
+    let options = Options { replay, no_list };
     let mut text: Vec<u8> = Vec::new(rt.alloc());
     let answer = run(rt.alloc(), &mut script, &mut text, options);
     let verdict = verdict(text.as_slice() == expected);
@@ -243,43 +231,32 @@ fn try_script(
     run.tell(rt, shows, run.is(answer, text))
 }
 
-// Comments, with one byte more than a script may have.
-fn comments(rt: &HostRuntime) -> io::Result<Vec<u8>> {
+// Runs comments, with one byte more than a script may have.
+fn try_long_script(rt: &HostRuntime) -> io::Result<()> {
     let mut lines = vec![in rt.alloc(); b'*'; LIMIT + 1]?;
     for line in lines.chunks_mut(CHUNK) {
         if let Some(first) = line.first_mut() {
             *first = b'\n';
         }
     }
-    Ok(lines)
+    let shows = "too long a script";
+    try_script(rt, shows, (&lines, CHUNK), ("InputTooLong", &[]))
 }
 
-fn try_all(rt: &HostRuntime) -> io::Result<()> {
-    try_reader(rt, "a listing", (SCRIPT, LISTING), LISTED)?;
-    try_reader(rt, "a replay", (SCRIPT, REPLAY), REPLAYED)?;
-    try_reader(rt, "a fault", (FAULTY, LISTING), FAULT)?;
+/// Makes the runs and the calls, and prints what came of each.
+pub(crate) fn try_all(rt: &HostRuntime) -> io::Result<()> {
+    try_reader(rt, "a listing", (SCRIPT, false), LISTED)?;
+    try_reader(rt, "a replay", (SCRIPT, true), REPLAYED)?;
+    try_reader(rt, "a fault", (FAULTY, false), FAULT)?;
     fail_each(rt, "each read of a byte fails", (Failing::Read, 1))?;
     fail_each(rt, "each read of seven fails", (Failing::Read, 7))?;
     fail_each(rt, "each write of a byte fails", (Failing::Write, 1))?;
     fail_each(rt, "each write takes none", (Failing::EmptyWrite, 1))?;
     try_script(rt, "a fault by bytes", (FAULTY, 1), ("LineFault", FAULT))?;
-    let long = comments(rt)?;
-    try_script(
-        rt,
-        "too long a script",
-        (&long, CHUNK),
-        ("InputTooLong", &[]),
-    )?;
-    let answer = calls::run(rt.alloc());
+    try_long_script(rt)?;
+    let answer = calling::run(rt.alloc());
     println!(rt;
         "a region by calls: {}",
         answer.map_or("refused", |condition| condition.name())
     )
-}
-
-fn main(rt: HostRuntime) -> ExitCode {
-    match try_all(&rt) {
-        Ok(()) => ExitCode::SUCCESS,
-        Err(_) => ExitCode::FAILURE,
-    }
 }

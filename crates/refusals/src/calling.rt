@@ -35,6 +35,12 @@ fn delete(alloc: Global) -> Option<Command> {
     })
 }
 
+// Issues a command of a task.
+fn issue(region: &mut Region, label: Name8, command: Command) -> Option<()> {
+    region.issue(label, command).ok()?;
+    Some(())
+}
+
 // T1 deletes the record, T2 waits for T1, and T1 rolls back. Returns T2's condition.
 fn play(alloc: Global, region: &mut Region) -> Option<Condition> {
     let first = Name8::new(b"T1").ok()?;
@@ -42,13 +48,13 @@ fn play(alloc: Global, region: &mut Region) -> Option<Condition> {
     let transaction = Name4::new(b"PURG").ok()?;
     region.attach(first, transaction, 0).ok()?;
     region.attach(second, transaction, 0).ok()?;
-    region.issue(first, delete(alloc)?).ok()?;
-    region.issue(second, delete(alloc)?).ok()?;
+    issue(region, first, delete(alloc)?)?;
+    issue(region, second, delete(alloc)?)?;
     let rollback = Command {
         verb: Verb::Rollback,
         resp: false,
     };
-    region.issue(first, rollback).ok()?;
+    issue(region, first, rollback)?;
     match &region.wake().ok()??.outcome {
         Outcome::Replied(reply) => Some(reply.condition),
         _ => None,

@@ -1,4 +1,4 @@
-use Rattle.memory_runs.proofs.Trial.run.Given as goal
+use Rattle.refusals.proofs.trials.Trial.run.Given as goal
 
 abbrev pub ghosts-run_counted-R-Ledger : goal.ghosts-run_counted-R-Ledger
 ghosts-run_counted-R-Ledger a = record { name = a.reads.name; parts = a.reads.parts }
