@@ -9,7 +9,8 @@ ghost use Rattle.cics_script.specs.Tokens.{capital, tokens, after_blanks, is_cap
 ghost use Rattle.cics_script.specs.Words.{commands};
 ghost use Rattle.cics_script.specs.Views.{entries, GivesWord, GivesVerb, GivesNumber, GivesRest};
 ghost use Rattle.cics_script.specs.Views.{IsNamed};
-ghost use Rattle.cics_script.specs.Lines.{recovery_in, queue_recovery_in, definition_in};
+ghost use Rattle.cics_script.specs.Values.{needed};
+ghost use Rattle.cics_script.specs.Lines.{recovery_in, queue_recovery_in, definition_in, load_in};
 ghost use Rattle.cics_script.specs.Lines.{word_first, behind, label_in, define, load, attach};
 ghost use Rattle.cics_script.specs.Lines.{verb_first, number_first, clock, shutdown, command_at};
 ghost use Rattle.cics_script.specs.Lines.{issue, statement};
@@ -73,12 +74,9 @@ fn recovery_of(found: &[Found<'_>]) -> Option<bool>
     ensures { result ≡ recovery_in (entries found.now) }
 {
     if has_option(found, OptionWord::Recoverable) {
-        Some(true)
-    } else if has_option(found, OptionWord::Unrecoverable) {
-        Some(false)
-    } else {
-        None
+        return Some(true);
     }
+    has_option(found, OptionWord::Unrecoverable).then_some(false)
 }
 
 // Returns how far a transient data queue's changes are undone, if the line says it.
@@ -86,30 +84,51 @@ fn queue_recovery_of(found: &[Found<'_>]) -> Option<Recovery>
     ensures { result ≡ queue_recovery_in (entries found.now) }
 {
     if has_option(found, OptionWord::Logical) {
-        Some(Recovery::Logical)
-    } else if has_option(found, OptionWord::Physical) {
-        Some(Recovery::Physical)
-    } else if has_option(found, OptionWord::Unrecovered) {
-        Some(Recovery::Unrecovered)
-    } else {
-        None
+        return Some(Recovery::Logical);
     }
+    if has_option(found, OptionWord::Physical) {
+        return Some(Recovery::Physical);
+    }
+    has_option(found, OptionWord::Unrecovered).then_some(Recovery::Unrecovered)
 }
 
-// Returns a DEFINE FILE line, from its options.
-fn file_definition(found: &[Found<'_>]) -> Result<Line, LineFault>
-    ensures { result ≡ definition_in DefineObject.File (entries found.now) }
+// Returns what a DEFINE line defines, if its options are all that it needs.
+fn definition_of(object: DefineObject, found: &[Found<'_>]) -> Option<Line>
+    ensures { needed result Ok ≡ definition_in object (entries found.now) }
 {
-    let name = needed(name8_of(found, OptionWord::File))?;
-    let key_length = needed(number_of(found, OptionWord::KeyLength))?;
-    let recoverable = needed(recovery_of(found))?;
-    let definition = FileDef {
-        key_length,
-        key_offset: number_of(found, OptionWord::KeyOffset).unwrap_or(0),
-        record_size: number_of(found, OptionWord::RecordSize).unwrap_or(RECORD_SIZE),
-        recoverable,
-    };
-    Ok(Line::DefineFile(name, definition))
+    Some(match object {
+        DefineObject::File => {
+            let name = name8_of(found, OptionWord::File)?;
+            let definition = FileDef {
+                key_length: number_of(found, OptionWord::KeyLength)?,
+                key_offset: number_of(found, OptionWord::KeyOffset).unwrap_or(0),
+                record_size: number_of(found, OptionWord::RecordSize).unwrap_or(RECORD_SIZE),
+                recoverable: recovery_of(found)?,
+            };
+            Line::DefineFile(name, definition)
+        }
+        DefineObject::TsPrefix => Line::DefineTsPrefix(name8_of(found, OptionWord::TsPrefix)?),
+        DefineObject::TdQueue => {
+            let name = name4_of(found, OptionWord::TdQueue)?;
+            Line::DefineTd(name, queue_recovery_of(found)?)
+        }
+    })
+}
+
+// Returns what a LOAD line loads, from its options.
+fn load_of(alloc: Global, object: LoadObject, found: &[Found<'_>]) -> Result<Line, LineFault>
+    ensures { Reads (load_in object (entries found.now)) result }
+{
+    match object {
+        LoadObject::File => {
+            let name = needed(name8_of(found, OptionWord::File))?;
+            Ok(Line::LoadFile(name, text_of(alloc, found, OptionWord::From)?))
+        }
+        LoadObject::TdQueue => {
+            let name = needed(name4_of(found, OptionWord::TdQueue))?;
+            Ok(Line::LoadTd(name, text_of(alloc, found, OptionWord::From)?))
+        }
+    }
 }
 
 // Returns the first word, and the line after it.
@@ -121,9 +140,10 @@ fn first_word(bytes: &[u8]) -> Result<(&[u8], &[u8]), LineFault>
     if let Some(found) = next_word(bytes) {
         return Ok(found);
     }
-    match next_token(bytes)? {
-        Some((Token::Word(word), rest)) => Ok((word, rest)),
-        _ => Err(LineFault::UnknownWord),
+    match next_token(bytes) {
+        Ok(Some((Token::Word(word), rest))) => Ok((word, rest)),
+        Ok(_) => Err(LineFault::UnknownWord),
+        Err(fault) => Err(fault),
     }
 }
 
@@ -180,17 +200,7 @@ fn read_define(alloc: Global, bytes: &[u8]) -> Result<Line, LineFault>
     let object = define_object(word).ok_or(LineFault::UnknownWord)?;
     let mut found = Options::new();
     read_options(alloc, Form::Define(object), bytes, &mut found)?;
-    match object {
-        DefineObject::File => file_definition(&found),
-        DefineObject::TsPrefix => {
-            let prefix = needed(name8_of(&found, OptionWord::TsPrefix))?;
-            Ok(Line::DefineTsPrefix(prefix))
-        }
-        DefineObject::TdQueue => {
-            let name = needed(name4_of(&found, OptionWord::TdQueue))?;
-            Ok(Line::DefineTd(name, needed(queue_recovery_of(&found))?))
-        }
-    }
+    needed(definition_of(object, &found))
 }
 
 // Reads a LOAD line, from after its first word.
@@ -202,16 +212,7 @@ fn read_load(alloc: Global, bytes: &[u8]) -> Result<Line, LineFault>
     let object = load_object(word).ok_or(LineFault::UnknownWord)?;
     let mut found = Options::new();
     read_options(alloc, Form::Load(object), bytes, &mut found)?;
-    match object {
-        LoadObject::File => {
-            let name = needed(name8_of(&found, OptionWord::File))?;
-            Ok(Line::LoadFile(name, text_of(alloc, &found, OptionWord::From)?))
-        }
-        LoadObject::TdQueue => {
-            let name = needed(name4_of(&found, OptionWord::TdQueue))?;
-            Ok(Line::LoadTd(name, text_of(alloc, &found, OptionWord::From)?))
-        }
-    }
+    load_of(alloc, object, &found)
 }
 
 // Reads an ATTACH line, from after its first word.

@@ -128,11 +128,7 @@ fn hexadecimal_digits(bytes: &[u8]) -> Option<&[u8]>
 {
     let (first, rest) = bytes.split_first()?;
     let (second, digits) = rest.split_first()?;
-    if first.to_ascii_uppercase() == b'X' && is_quote_byte(*second) {
-        Some(digits)
-    } else {
-        None
-    }
+    (first.to_ascii_uppercase() == b'X' && is_quote_byte(*second)).then_some(digits)
 }
 
 // Returns the first token and the bytes after it. The bytes begin with no blank.

@@ -179,8 +179,8 @@ fn push_hexadecimal(out: &mut Vec<u8>, bytes: &[u8]) -> Result<(), NoMemory>
     Ok(())
 }
 
-// Returns a name without the blanks that fill it up.
-fn unfilled(name: &[u8]) -> &[u8]
+/// Returns a name without the blanks that fill it up.
+pub fn unfilled(name: &[u8]) -> &[u8]
     ensures { result.now ≡ unfilled name.now }
 {
     let mut end = name.len();

@@ -10,7 +10,7 @@ ghost use Rattle.cics_script.specs.Words.{option_word};
 ghost use Rattle.cics_spelling.specs.WrittenOut.{option_text, command_text, written_out};
 ghost use Rattle.cics_spelling.specs.WrittenOut.{seeks_keys, is_on_ts};
 
-use crate::texts::{push_name, push_number, push_str, push_text};
+use crate::texts::{push_number, push_str, push_text, unfilled};
 use cics_names::{Command, Name4, Name8, NoMemory, Record, Verb};
 use cics_script::{OptionWord, option_word};
 
@@ -136,7 +136,7 @@ fn push_seek_options(out: &mut Vec<u8>, verb: &Verb) -> Result<(), NoMemory>
         } => {
             push_name8(out, OptionWord::File, file)?;
             if let Some(ridfld) = ridfld {
-                push_record(out, OptionWord::Ridfld, ridfld)?;
+                push_literal(out, OptionWord::Ridfld, ridfld.bytes())?;
             }
             push_amount(out, OptionWord::KeyLength, *key_length)?;
             push_flag(out, OptionWord::Generic, *generic)
@@ -196,12 +196,12 @@ fn push_other_options(out: &mut Vec<u8>, verb: &Verb) -> Result<(), NoMemory>
             length,
             nosuspend,
         } => {
-            push_record(out, OptionWord::Resource, resource)?;
+            push_literal(out, OptionWord::Resource, resource.bytes())?;
             push_amount(out, OptionWord::Length, Some(*length))?;
             push_flag(out, OptionWord::NoSuspend, *nosuspend)
         }
         Verb::Deq { resource, length } => {
-            push_record(out, OptionWord::Resource, resource)?;
+            push_literal(out, OptionWord::Resource, resource.bytes())?;
             push_amount(out, OptionWord::Length, Some(*length))
         }
         Verb::Rollback => push_flag(out, OptionWord::Rollback, true),
@@ -266,7 +266,7 @@ fn push_key(
         ++ option_text (OptionWord.KeyLength, option_map amount key_length)))) }
 {
     push_name8(out, OptionWord::File, file)?;
-    push_record(out, OptionWord::Ridfld, ridfld)?;
+    push_literal(out, OptionWord::Ridfld, ridfld.bytes())?;
     push_amount(out, OptionWord::KeyLength, key_length)
 }
 
@@ -276,18 +276,18 @@ fn push_from(out: &mut Vec<u8>, from: &Record, length: Option<u64>) -> Result<()
         ++ (option_text (OptionWord.From, Some (text from.now))
         ++ option_text (OptionWord.Length, option_map amount length))) }
 {
-    push_record(out, OptionWord::From, from)?;
+    push_literal(out, OptionWord::From, from.bytes())?;
     push_amount(out, OptionWord::Length, length)
 }
 
-// Appends an option that gives a record.
-fn push_record(out: &mut Vec<u8>, option: OptionWord, content: &Record) -> Result<(), NoMemory>
+// Appends an option that gives bytes, which it writes as a literal.
+fn push_literal(out: &mut Vec<u8>, option: OptionWord, bytes: &[u8]) -> Result<(), NoMemory>
     ensures { OnOk result (out.new.items
-        ≡ out.old.items ++ option_text (option, Some (text content.now))) }
+        ≡ out.old.items ++ option_text (option, Some (text bytes.now))) }
 {
     push_word(out, option)?;
     push_str(out, "(")?;
-    push_text(out, content.bytes())?;
+    push_text(out, bytes)?;
     push_str(out, ")")
 }
 
@@ -296,10 +296,7 @@ fn push_name8(out: &mut Vec<u8>, option: OptionWord, name: &Name8) -> Result<(),
     ensures { OnOk result (out.new.items
         ≡ out.old.items ++ option_text (option, Some (name8 name.now))) }
 {
-    push_word(out, option)?;
-    push_str(out, "(")?;
-    push_name(out, &name.bytes())?;
-    push_str(out, ")")
+    push_literal(out, option, unfilled(&name.bytes()))
 }
 
 // Appends an option that gives a name of four bytes.
@@ -307,10 +304,7 @@ fn push_name4(out: &mut Vec<u8>, option: OptionWord, name: &Name4) -> Result<(),
     ensures { OnOk result (out.new.items
         ≡ out.old.items ++ option_text (option, Some (name4 name.now))) }
 {
-    push_word(out, option)?;
-    push_str(out, "(")?;
-    push_name(out, &name.bytes())?;
-    push_str(out, ")")
+    push_literal(out, option, unfilled(&name.bytes()))
 }
 
 // Appends an option that gives a number, if there is one.
