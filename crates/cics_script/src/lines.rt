@@ -140,10 +140,9 @@ fn first_word(bytes: &[u8]) -> Result<(&[u8], &[u8]), LineFault>
     if let Some(found) = next_word(bytes) {
         return Ok(found);
     }
-    match next_token(bytes) {
-        Ok(Some((Token::Word(word), rest))) => Ok((word, rest)),
-        Ok(_) => Err(LineFault::UnknownWord),
-        Err(fault) => Err(fault),
+    match next_token(bytes)? {
+        Some((Token::Word(word), rest)) => Ok((word, rest)),
+        _ => Err(LineFault::UnknownWord),
     }
 }
 

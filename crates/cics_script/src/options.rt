@@ -130,10 +130,9 @@ fn read_opening(kind: Kind, bytes: &[u8]) -> Result<&[u8], LineFault>
     if let Some((b'(', rest)) = bytes.split_first() {
         return Ok(rest);
     }
-    match next_token(bytes) {
-        Ok(Some((Token::Opening, rest))) => Ok(rest),
-        Ok(_) => Err(wrong_value(kind)),
-        Err(fault) => Err(fault),
+    match next_token(bytes)? {
+        Some((Token::Opening, rest)) => Ok(rest),
+        _ => Err(wrong_value(kind)),
     }
 }
 
@@ -179,10 +178,9 @@ fn read_closing(kind: Kind, bytes: &[u8]) -> Result<&[u8], LineFault>
     if let Some((b')', rest)) = bytes.split_first() {
         return Ok(rest);
     }
-    match next_token(bytes) {
-        Ok(Some((Token::Closing, rest))) => Ok(rest),
-        Ok(_) => Err(wrong_value(kind)),
-        Err(fault) => Err(fault),
+    match next_token(bytes)? {
+        Some((Token::Closing, rest)) => Ok(rest),
+        _ => Err(wrong_value(kind)),
     }
 }
 
@@ -263,10 +261,9 @@ fn read_option<'a>(
 fn read_end(bytes: &[u8]) -> Result<(), LineFault>
     ensures { Ends bytes.now result }
 {
-    match next_token(bytes) {
-        Ok(None) => Ok(()),
-        Ok(Some(_)) => Err(LineFault::UnknownWord),
-        Err(fault) => Err(fault),
+    match next_token(bytes)? {
+        None => Ok(()),
+        Some(_) => Err(LineFault::UnknownWord),
     }
 }
 
