@@ -24,11 +24,10 @@ use store::PlainStore;
 fn was_backed_out(outcomes: &[UnitState], unit: UnitId) -> bool
     ensures { result ≡ is_backed_out (outcome_of outcomes.now unit) }
 {
-    match outcomes.get(unit.number() as usize) {
-        Some(UnitState::BackedOut) => true,
-        Some(UnitState::Open) => false,
-        Some(UnitState::Committed) => false,
-        None => false,
+    if let Some(state) = outcomes.get(unit.number() as usize) {
+        *state == UnitState::BackedOut
+    } else {
+        false
     }
 }
 
