@@ -1,5 +1,6 @@
 -- Parts that are put one behind another are the parts of an element.
 use Rattle.std.proofs.Common.{◌≡◌, ℕ, List, [], ◌++◌, ap, sym, ◌∙◌, append_assoc}
+use Rattle.std.specs.Prelude.{Result, Ok, Err, OnOk}
 use Rattle.std.proofs.lemmas.List.{append-nil}
 
 -- attributes behind a start
@@ -28,3 +29,16 @@ filled o s i e = append_assoc (o ++ s) i e ∙ append_assoc o s (i ++ e) ∙ ap 
 
 pub hollow : (o s e : List ℕ) → (o ++ s) ++ e ≡ o ++ (s ++ (e ++ []))
 hollow o s e = append_assoc o s e ∙ ap (λ t. o ++ (s ++ t)) (sym (append-nil e))
+
+-- what is put is as said, if it is put
+pub onto : {E : Type 0} (r : Result (Unit {0}) E) (n s t : List ℕ) → s ≡ t → OnOk r (n ≡ s) → OnOk r (n ≡ t)
+onto (Ok done) n s t same put = put ∙ same
+onto (Err e) n s t same put = tt
+
+-- what is put part by part
+pub three_put : (o a b c k l m n : List ℕ) → k ≡ o → l ≡ k ++ a → m ≡ l ++ b → n ≡ m ++ c → n ≡ o ++ (a ++ (b ++ (c ++ [])))
+three_put o a b c k l m n e0 e1 e2 e3 = e3 ∙ ap (λ t. t ++ c) (e2 ∙ ap (λ t. t ++ b) (e1 ∙ ap (λ t. t ++ a) e0)) ∙ three o a b c
+
+pub five_put : (o a b c d e k l m n p q : List ℕ) → k ≡ o → l ≡ k ++ a → m ≡ l ++ b → n ≡ m ++ c → p ≡ n ++ d → q ≡ p ++ e → q ≡ o ++ (a ++ (b ++ (c ++ (d ++ (e ++ [])))))
+five_put o a b c d e k l m n p q e0 e1 e2 e3 e4 e5 =
+    e5 ∙ ap (λ t. t ++ e) (e4 ∙ ap (λ t. t ++ d) (e3 ∙ ap (λ t. t ++ c) (e2 ∙ ap (λ t. t ++ b) (e1 ∙ ap (λ t. t ++ a) e0)))) ∙ five o a b c d e

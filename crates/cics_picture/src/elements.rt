@@ -27,8 +27,7 @@ fn push_words_start(out: &mut Vec<u8>, class: &[u8], place: (u64, u64)) -> Resul
     push_attribute(out, Key::Class, class)?;
     push_number_attribute(out, Key::X, place.0)?;
     push_number_attribute(out, Key::Y, place.1)?;
-    push_inside(out)?;
-    Ok(())
+    push_inside(out)
 }
 
 /// Puts words at a place.
@@ -61,8 +60,7 @@ pub fn push_cut_words(
     push_words_start(out, class, place)?;
     push_text(out, parts.0)?;
     push_text(out, parts.1)?;
-    push_end(out, Tag::Text)?;
-    Ok(())
+    push_end(out, Tag::Text)
 }
 
 /// Puts a number at a place.
@@ -97,8 +95,7 @@ pub fn push_shape(
     push_attribute(out, Key::D, path)?;
     push_move(out, place.0, place.1)?;
     push_inside(out)?;
-    push_end(out, Tag::Path)?;
-    Ok(())
+    push_end(out, Tag::Path)
 }
 
 /// Puts a line from a place to another.
@@ -118,8 +115,7 @@ pub fn push_stroke(
     push_number_attribute(out, Key::X2, to.0)?;
     push_number_attribute(out, Key::Y2, to.1)?;
     push_inside(out)?;
-    push_end(out, Tag::Line)?;
-    Ok(())
+    push_end(out, Tag::Line)
 }
 
 /// Puts a rectangle at a place.
@@ -139,8 +135,7 @@ pub fn push_field(
     push_number_attribute(out, Key::Width, size.0)?;
     push_number_attribute(out, Key::Height, size.1)?;
     push_inside(out)?;
-    push_end(out, Tag::Rect)?;
-    Ok(())
+    push_end(out, Tag::Rect)
 }
 
 /// Puts an element that has a text alone.
@@ -150,8 +145,7 @@ pub fn push_spoken(out: &mut Vec<u8>, tag: Tag, bytes: &[u8]) -> Result<(), NoMe
     push_start(out, tag)?;
     push_inside(out)?;
     push_text(out, bytes)?;
-    push_end(out, tag)?;
-    Ok(())
+    push_end(out, tag)
 }
 
 fn push_namespace(out: &mut Vec<u8>) -> Result<(), NoMemory>
@@ -168,8 +162,7 @@ pub fn push_picture_start(out: &mut Vec<u8>, width: u64, height: u64) -> Result<
     push_namespace(out)?;
     push_number_attribute(out, Key::Width, width)?;
     push_number_attribute(out, Key::Height, height)?;
-    push_inside(out)?;
-    Ok(())
+    push_inside(out)
 }
 
 /// Puts the start of elements that are moved to the right.
@@ -178,8 +171,7 @@ pub fn push_moved_start(out: &mut Vec<u8>, x: u64) -> Result<(), NoMemory>
 {
     push_start(out, Tag::G)?;
     push_move(out, x, 0)?;
-    push_inside(out)?;
-    Ok(())
+    push_inside(out)
 }
 
 /// Puts the mark of an event.

@@ -91,7 +91,7 @@ fn is_number(word: &[u8]) -> bool
     ensures { result ≡ is_number word.now }
 {
     match word.split_first() {
-        Some((byte, _)) => *byte >= b'0' && *byte <= b'9',
+        Some((byte, _)) => byte.is_ascii_digit(),
         None => false,
     }
 }

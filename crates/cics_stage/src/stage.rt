@@ -310,21 +310,21 @@ fn issue(
     ensures { Happens (command_issued region.old.machine label command) region.new out.old.items
         out.new.items result }
 {
-    let answer = region.issue(label, command);
-    tell_issued(label, answer, out)?;
+    let told = tell_issued(label, &region.issue(label, command), out);
+    told?;
     go_on(region, out)
 }
 
 fn tell_issued(
     label: Name8,
-    answer: Result<Outcome, Refused>,
+    answer: &Result<Outcome, Refused>,
     out: &mut Vec<u8>,
 ) -> Result<(), NoMemory>
     ensures text { OnOk result (out.new.items
-        ≡ out.old.items ++ told_line (outcome_line label) (refused_line label) answer) }
-    ensures answered { OnOk result (IsAnswered answer) }
+        ≡ out.old.items ++ told_line (outcome_line label) (refused_line label) answer.now) }
+    ensures answered { OnOk result (IsAnswered answer.now) }
 {
-    match &answer {
+    match answer {
         Ok(outcome) => push_outcome(out, label, outcome),
         Err(Refused::NoMemory) => Err(NoMemory),
         Err(refusal) => push_refused(out, label, *refusal),

@@ -2,7 +2,7 @@ use Rattle.std.proofs.Common.{◌++◌, ap, ◌∙◌, append_assoc}
 use Rattle.cics_markup.specs.declared.names.Tag.TheVariants as tag
 use Rattle.cics_markup.specs.Documents.{said, document_text, end_text}
 use Rattle.cics_picture.specs.Elements.{words, words_start}
-use Rattle.cics_picture.proofs.Chains.{filled}
+use Rattle.cics_picture.proofs.Chains.{filled, onto}
 use Rattle.cics_picture.proofs.Markup.{said-both}
 use Rattle.cics_picture.proofs.elements.push_cut_words.Goals as goal
 
@@ -18,4 +18,4 @@ returns c =
     c.in_ok-push_text-2.ensures ∙ ap (λ t. t ++ document_text (said b)) front
     ∙ append_assoc (o ++ s) (document_text (said a)) (document_text (said b))
     ∙ ap (λ t. (o ++ s) ++ t) (said-both a b) in
-    c.in_ok-push_end.ensures ∙ ap (λ t. t ++ end_text tag.Text) inside ∙ filled o s (document_text (said (a ++ b))) (end_text tag.Text)
+    onto c.push_end.result c.push_end.new.out.items _ _ (ap (λ t. t ++ end_text tag.Text) inside ∙ filled o s (document_text (said (a ++ b))) (end_text tag.Text)) c.push_end.ensures

@@ -3,7 +3,7 @@ use Rattle.cics_markup.specs.declared.names.Tag.TheVariants as tag
 use Rattle.cics_markup.specs.Names.{tag_name}
 use Rattle.cics_markup.specs.Documents.{attribute_text, moved_to}
 use Rattle.cics_picture.specs.Elements.{moved_start}
-use Rattle.cics_picture.proofs.Chains.{one, started}
+use Rattle.cics_picture.proofs.Chains.{one, started, onto}
 use Rattle.cics_picture.proofs.elements.push_moved_start.Goals as goal
 use lib.Chars.{codes}
 
@@ -16,5 +16,4 @@ returns c =
     let e0 = c.in_ok-push_start.ensures in
     let e1 = c.in_ok-push_move.ensures ∙ ap (λ t. t ++ a0) e0 in
     let front = e1 ∙ one (o ++ n) a0 in
-    let start = c.in_ok-push_inside.ensures ∙ ap (λ t. t ++ codes ">") front ∙ started o n (a0 ++ ([])) (codes ">") in
-    start
+    onto c.push_inside.result c.push_inside.new.out.items _ _ (ap (λ t. t ++ codes ">") front ∙ started o n (a0 ++ ([])) (codes ">")) c.push_inside.ensures

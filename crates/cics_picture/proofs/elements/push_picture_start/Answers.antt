@@ -4,7 +4,7 @@ use Rattle.cics_markup.specs.declared.names.Key.TheVariants as key
 use Rattle.cics_markup.specs.Names.{tag_name}
 use Rattle.cics_markup.specs.Documents.{attribute_text, number_of}
 use Rattle.cics_picture.specs.Elements.{picture_start, namespace}
-use Rattle.cics_picture.proofs.Chains.{three, started}
+use Rattle.cics_picture.proofs.Chains.{three_put, started, onto}
 use Rattle.cics_picture.proofs.elements.push_picture_start.Goals as goal
 use lib.Chars.{codes}
 
@@ -16,10 +16,6 @@ returns c =
     let a0 = attribute_text (namespace) in
     let a1 = attribute_text (number_of key.Width c.args.width) in
     let a2 = attribute_text (number_of key.Height c.args.height) in
-    let e0 = c.in_ok-push_start.ensures in
-    let e1 = c.in_ok-push_namespace.ensures ∙ ap (λ t. t ++ a0) e0 in
-    let e2 = c.in_ok-push_number_attribute.ensures ∙ ap (λ t. t ++ a1) e1 in
-    let e3 = c.in_ok-push_number_attribute-2.ensures ∙ ap (λ t. t ++ a2) e2 in
-    let front = e3 ∙ three (o ++ n) a0 a1 a2 in
-    let start = c.in_ok-push_inside.ensures ∙ ap (λ t. t ++ codes ">") front ∙ started o n (a0 ++ (a1 ++ (a2 ++ ([])))) (codes ">") in
-    start
+    let front = three_put (o ++ n) a0 a1 a2 c.push_start.new.out.items c.push_namespace.new.out.items c.push_number_attribute.new.out.items c.push_number_attribute-2.new.out.items
+    c.in_ok-push_start.ensures c.in_ok-push_namespace.ensures c.in_ok-push_number_attribute.ensures c.in_ok-push_number_attribute-2.ensures in
+    onto c.push_inside.result c.push_inside.new.out.items _ _ (ap (λ t. t ++ codes ">") front ∙ started o n (a0 ++ (a1 ++ (a2 ++ ([])))) (codes ">")) c.push_inside.ensures

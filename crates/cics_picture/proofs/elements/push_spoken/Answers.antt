@@ -2,7 +2,7 @@ use Rattle.std.proofs.Common.{[], ◌++◌, ap, ◌∙◌, append_assoc}
 use Rattle.cics_markup.specs.Names.{tag_name}
 use Rattle.cics_markup.specs.Documents.{said, document_text, start_text, end_text}
 use Rattle.cics_picture.specs.Elements.{spoken}
-use Rattle.cics_picture.proofs.Chains.{filled}
+use Rattle.cics_picture.proofs.Chains.{filled, onto}
 use Rattle.cics_picture.proofs.elements.push_spoken.Goals as goal
 use lib.Chars.{codes}
 
@@ -14,4 +14,4 @@ returns c =
     let e0 = c.in_ok-push_start.ensures in
     let start = c.in_ok-push_inside.ensures ∙ ap (λ t. t ++ codes ">") e0 ∙ append_assoc o n (codes ">") in
     let s = start_text c.args.tag [] in
-    c.in_ok-push_end.ensures ∙ ap (λ t. t ++ end_text c.args.tag) (c.in_ok-push_text.ensures ∙ ap (λ t. t ++ document_text (said c.args.bytes.now)) start) ∙ filled o s (document_text (said c.args.bytes.now)) (end_text c.args.tag)
+    onto c.push_end.result c.push_end.new.out.items _ _ (ap (λ t. t ++ end_text c.args.tag) (c.in_ok-push_text.ensures ∙ ap (λ t. t ++ document_text (said c.args.bytes.now)) start) ∙ filled o s (document_text (said c.args.bytes.now)) (end_text c.args.tag)) c.push_end.ensures
