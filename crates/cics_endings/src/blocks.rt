@@ -1,7 +1,7 @@
 //! The blocks of files and queues, each as the listing of a run has it.
 
 ghost use Rattle.std.specs.Prelude.{◌≡◌, ◌++◌, OnOk, map};
-ghost use Rattle.cics_listing.specs.Listings.{file_text, storage_text, transient_text};
+ghost use Rattle.cics_listing.specs.Listings.{kept_text, transient_text};
 ghost use Rattle.cics_endings.specs.Telling.{blocks};
 
 use cics_dispatch::Region;
@@ -10,31 +10,21 @@ use cics_names::{Items, Name4, Name8, NoMemory, Record};
 use cics_transdata::Recovery;
 use std::alloc::Global;
 
-fn add_files(
+// Adds the blocks of files or temporary storage queues: what they are called, what is counted of
+// each, and their rows.
+fn add_kept(
     alloc: Global,
     parts: &mut Items<Record>,
-    files: &[(Name8, bool, Items<Record>)],
+    kind: &str,
+    counted: &str,
+    rows: &[(Name8, bool, Items<Record>)],
 ) -> Result<(), NoMemory>
-    ensures { OnOk result (parts.new ≡ parts.old ++ map file_text files.now) }
+    ensures { OnOk result (parts.new
+        ≡ parts.old ++ map (kept_text kind.now counted.now) rows.now) }
 {
-    for file in files {
+    for row in rows {
         let mut text = Vec::new(alloc);
-        push_block(&mut text, "FILE", "RECORDS", file)?;
-        parts.push(Record::new(text))?;
-    }
-    Ok(())
-}
-
-fn add_storage(
-    alloc: Global,
-    parts: &mut Items<Record>,
-    queues: &[(Name8, bool, Items<Record>)],
-) -> Result<(), NoMemory>
-    ensures { OnOk result (parts.new ≡ parts.old ++ map storage_text queues.now) }
-{
-    for queue in queues {
-        let mut text = Vec::new(alloc);
-        push_block(&mut text, "TSQUEUE", "ITEMS", queue)?;
+        push_block(&mut text, kind, counted, row)?;
         parts.push(Record::new(text))?;
     }
     Ok(())
@@ -64,7 +54,7 @@ pub(crate) fn add_blocks(
     ensures { OnOk result (parts.new ≡ parts.old ++ blocks region.now.machine) }
 {
     let listing = region.listing()?;
-    add_files(alloc, parts, listing.files.as_slice())?;
-    add_storage(alloc, parts, listing.ts.as_slice())?;
+    add_kept(alloc, parts, "FILE", "RECORDS", listing.files.as_slice())?;
+    add_kept(alloc, parts, "TSQUEUE", "ITEMS", listing.ts.as_slice())?;
     add_transient(alloc, parts, listing.td.as_slice())
 }

@@ -1,6 +1,6 @@
 -- What an event's call answers is its step, and a lane gives its next line.
 use Rattle.std.proofs.Common.{◌≡◌, ◌<◌, ℕ, Bool, List, length, Option, None, Some, Result, Ok, Err, refl, ap, sym, ◌∙◌, subst}
-use Rattle.std.specs.Prelude.{slice_get, option_map, option_and_then}
+use Rattle.std.specs.Prelude.{slice_get, option_map, option_and_then, IfOk, OnOk}
 use Rattle.std.proofs.lemmas.Option.{slice_get_within}
 use Rattle.std.specs.Result.{result_ok}
 use Rattle.cics_machine.specs.Machine.{RegionValue}
@@ -32,8 +32,10 @@ module _ {X : Type 0} (wants : Bool) (old : RegionValue) (step : Stepped (Result
   by_answer (Err refusals.RegionDown) (is, same) all = refused refusals.RegionDown is same
 
   -- an event was answered, or it was refused and changed nothing
-  pub happened : (r : Result X Refused) (o : Option X) → IsStep wants old step r new → IsAnswered r → o ≡ result_ok r → Happens old.machine step o new.machine
-  happened r o is all told = subst (λ t. Happens old.machine step t new.machine) (sym told) (by_answer r is all)
+  pub happened : {E : Type 0} (r : Result X Refused) (o : Result (Option X) E) → IsStep wants old step r new → OnOk o (IsAnswered r) → IfOk o (λ told. told ≡ result_ok r)
+      → IfOk o (λ told. Happens old.machine step told new.machine)
+  happened r (Err e) is all told = tt
+  happened r (Ok o) is all told = subst (λ t. Happens old.machine step t new.machine) (sym told) (by_answer r is all)
 
 -- ---- A line is given
 

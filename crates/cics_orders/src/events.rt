@@ -30,9 +30,7 @@ pub(crate) fn issue(
     ensures { IfOk result (λ told. Happens region.old.machine
         (issuing region.old.machine label command) told region.new.machine) }
 {
-    let answer = region.issue(label, command);
-    let told = answered(answer)?;
-    Ok(told)
+    answered(region.issue(label, command))
 }
 
 /// Sets the clock. Returns `None` if that was refused.
@@ -40,9 +38,7 @@ pub(crate) fn set_clock(region: &mut Region, seconds: u64) -> Result<Option<()>,
     ensures { IfOk result (λ told. Happens region.old.machine
         (timing region.old.machine seconds) told region.new.machine) }
 {
-    let answer = region.set_clock(seconds);
-    let told = answered(answer)?;
-    Ok(told)
+    answered(region.set_clock(seconds))
 }
 
 /// Shuts a region down. Returns `None` if that was refused.
@@ -50,9 +46,7 @@ pub(crate) fn shut_down(region: &mut Region) -> Result<Option<u64>, NoMemory>
     ensures { IfOk result (λ told. Happens region.old.machine
         (shutting region.old.machine) told region.new.machine) }
 {
-    let answer = region.shutdown();
-    let told = answered(answer)?;
-    Ok(told)
+    answered(region.shutdown())
 }
 
 /// Attaches a task. Returns `None` if that was refused.
@@ -60,9 +54,7 @@ pub(crate) fn attach(region: &mut Region, task: &TaskPlan) -> Result<Option<()>,
     ensures { IfOk result (λ told. Happens region.old.machine
         (attaching region.old.machine task.now.label task.now.dtimout) told region.new.machine) }
 {
-    let answer = region.attach(task.label, task.transaction, task.dtimout);
-    let told = answered(answer)?;
-    Ok(told)
+    answered(region.attach(task.label, task.transaction, task.dtimout))
 }
 
 /// Takes one step of draining: resumes the first waiting command that may resume, or else abends

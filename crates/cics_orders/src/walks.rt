@@ -255,10 +255,7 @@ impl Walker {
         ensures { OnOk result (self.new ≡ after_line self.old (Ok (Issue label command))) }
     {
         match events::issue(&mut self.region, label, command)? {
-            Some(outcome) => {
-                hear(&mut self.lanes, &label, outcome)?;
-                Ok(())
-            }
+            Some(outcome) => hear(&mut self.lanes, &label, outcome),
             None => Ok(()),
         }
     }
@@ -267,10 +264,8 @@ impl Walker {
     fn set_clock(&mut self, seconds: u64) -> Result<(), NoMemory>
         ensures { OnOk result (self.new ≡ after_line self.old (Ok (Clock seconds))) }
     {
-        match events::set_clock(&mut self.region, seconds)? {
-            Some(()) => Ok(()),
-            None => Ok(()),
-        }
+        events::set_clock(&mut self.region, seconds)?;
+        Ok(())
     }
 
     // Shuts the region down.

@@ -1,2 +1,3 @@
+pub mod Each
 mod Rows
 pub mod PlainFaults

@@ -71,8 +71,8 @@ fn push_next_word(out: &mut Vec<u8>, next: &(u64, Record)) -> Result<(), NoMemor
 fn push_words(out: &mut Vec<u8>, lines: &[(u64, Record)]) -> Result<(), NoMemory>
     ensures { OnOk result (out.new.items ≡ out.old.items ++ flat_map word_text lines.now) }
 {
-    for i in 0..lines.len() {
-        push_next_word(out, &lines[i])?;
+    for next in lines {
+        push_next_word(out, next)?;
     }
     Ok(())
 }

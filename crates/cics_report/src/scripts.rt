@@ -23,8 +23,8 @@ fn push_line(out: &mut Vec<u8>, line: &(u64, Record)) -> Result<(), NoMemory>
 fn push_lines(out: &mut Vec<u8>, lines: &[(u64, Record)]) -> Result<(), NoMemory>
     ensures { OnOk result (out.new.items ≡ out.old.items ++ flat_map script_line lines.now) }
 {
-    for i in 0..lines.len() {
-        push_line(out, &lines[i])?;
+    for line in lines {
+        push_line(out, line)?;
     }
     Ok(())
 }
@@ -33,8 +33,8 @@ fn push_lines(out: &mut Vec<u8>, lines: &[(u64, Record)]) -> Result<(), NoMemory
 fn push_attaches(out: &mut Vec<u8>, tasks: &[TaskPlan]) -> Result<(), NoMemory>
     ensures { OnOk result (out.new.items ≡ out.old.items ++ flat_map attach_line tasks.now) }
 {
-    for i in 0..tasks.len() {
-        push_line(out, &tasks[i].attach)?;
+    for task in tasks {
+        push_line(out, &task.attach)?;
     }
     Ok(())
 }

@@ -9,5 +9,5 @@ pub returns : goal.returns
 unfolding attaching
 returns c =
     let old = c.args.region.now in
-    happened _ old (unless_down old.machine (attached old.machine c.args.task.now.label c.args.task.now.dtimout)) c.attach-answer.new.self c.attach-answer.result c.in_ok-told.told
-    c.attach-answer.ensures.step c.in_ok-told.ensures.answered c.in_ok-told.ensures.told
+    happened _ old (unless_down old.machine (attached old.machine c.args.task.now.label c.args.task.now.dtimout)) c.attach.new.self c.attach.result c.answered.result
+    c.attach.ensures.step c.answered.ensures.answered c.answered.ensures.told

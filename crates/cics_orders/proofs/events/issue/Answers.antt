@@ -9,5 +9,5 @@ pub returns : goal.returns
 unfolding issuing
 returns c =
     let old = c.args.region.now in
-    happened _ old (unless_down old.machine (issued old.machine c.args.label c.args.command)) c.issue-answer.new.self c.issue-answer.result c.in_ok-told.told
-    c.issue-answer.ensures.step c.in_ok-told.ensures.answered c.in_ok-told.ensures.told
+    happened _ old (unless_down old.machine (issued old.machine c.args.label c.args.command)) c.issue.new.self c.issue.result c.answered.result
+    c.issue.ensures.step c.answered.ensures.answered c.answered.ensures.told

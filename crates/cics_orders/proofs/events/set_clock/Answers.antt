@@ -9,5 +9,5 @@ pub returns : goal.returns
 unfolding timing
 returns c =
     let old = c.args.region.now in
-    happened _ old (unless_down old.machine (clock_set old.machine c.args.seconds)) c.set_clock-answer.new.self c.set_clock-answer.result c.in_ok-told.told
-    c.set_clock-answer.ensures.step c.in_ok-told.ensures.answered c.in_ok-told.ensures.told
+    happened _ old (unless_down old.machine (clock_set old.machine c.args.seconds)) c.set_clock.new.self c.set_clock.result c.answered.result
+    c.set_clock.ensures.step c.answered.ensures.answered c.answered.ensures.told

@@ -8,5 +8,5 @@ pub returns : goal.returns
 unfolding shutting
 returns c =
     let old = c.args.region.now in
-    happened _ old (unless_down old.machine (shut_down old.machine)) c.shutdown-answer.new.self c.shutdown-answer.result c.in_ok-told.told
-    c.shutdown-answer.ensures.step c.in_ok-told.ensures.answered c.in_ok-told.ensures.told
+    happened _ old (unless_down old.machine (shut_down old.machine)) c.shutdown.new.self c.shutdown.result c.answered.result
+    c.shutdown.ensures.step c.answered.ensures.answered c.answered.ensures.told

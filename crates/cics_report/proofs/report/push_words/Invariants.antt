@@ -3,5 +3,5 @@ use Rattle.std.specs.List.{flat_map}
 use Rattle.cics_report.specs.Reporting.{word_text}
 use Rattle.cics_report.proofs.report.push_words.Given as goal
 
-abbrev pub invariant-loop-i : goal.invariant-loop-i
-invariant-loop-i l = l.out.items ≡ l.fn.out.items ++ flat_map word_text (take l.i l.lines)
+abbrev pub invariant-loop-next : goal.invariant-loop-next
+invariant-loop-next l = l.out.items ≡ l.fn.out.items ++ flat_map word_text (take l.next-index l.lines)
