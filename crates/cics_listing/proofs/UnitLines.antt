@@ -7,7 +7,7 @@ use Rattle.std.proofs.Math.Dec.{eqb-suc-zero, eqb-zero-suc, eqb-suc-suc}
 use Rattle.std.proofs.lemmas.Bool.{cases_Bool, eqb-true}
 use Rattle.std.proofs.lemmas.Bool.Decides.{nat_tests}
 use Rattle.std.proofs.lemmas.Option.{slice_get_past, slice_get-get_or}
-use Rattle.std.proofs.lemmas.List.{take_more, flat_map_more}
+use Rattle.std.proofs.lemmas.List.{take_more}
 use Rattle.std.proofs.lemmas.List.Elements.{filter_more}
 use Rattle.std.proofs.lemmas.Grind.{flat_map-append}
 use Rattle.cics_history.specs.State.{OpeningState, UnitsState}
@@ -152,13 +152,6 @@ open-step f outcomes i n d old before after within at so_far more =
     ap open_units (take_more outcomes i d within) ∙ open_from-more 0 (take i outcomes) last ∙ ap (λ n. here ++ open_from n (last ∷ [])) count in
     more ∙ ap (λ out. out ++ flat_map f next) so_far ∙ append_assoc old (flat_map f here) (flat_map f next)
     ∙ ap (λ lines. old ++ lines) (sym (flat_map-append f here next)) ∙ ap (λ units. old ++ flat_map f units) (sym units)
-
--- one item further
-pub each-step : {X : Type 0} (f : X → List ℕ) (xs : List X) (i : ℕ) (x : X) (old before after : List ℕ) → i < length xs → x ≡ get_or xs i x
-    → before ≡ old ++ flat_map f (take i xs) → after ≡ before ++ f x → after ≡ old ++ flat_map f (take (i + 1) xs)
-each-step f xs i x old before after within is so_far more =
-    let next : take (i + 1) xs ≡ take i xs ++ x ∷ [] = take_more xs i x within ∙ ap (λ y. take i xs ++ y ∷ []) (sym is) in
-    more ∙ ap (λ out. out ++ f x) so_far ∙ flat_map_more f old (take i xs) x ∙ ap (λ ys. old ++ flat_map f ys) (sym next)
 
 -- ---- the whole
 

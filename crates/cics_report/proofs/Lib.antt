@@ -1,3 +1,2 @@
-pub mod Each
 mod Rows
 pub mod PlainFaults

@@ -1,4 +1,5 @@
 mod Characters
+pub mod Each
 mod Unfilled
 pub mod Tables
 pub mod PlainTexts

@@ -1,5 +1,5 @@
 use Rattle.cics_listing.specs.Listings.{kept_text}
-use Rattle.cics_listing.proofs.UnitLines.{each-step}
+use Rattle.cics_spelling.proofs.Each.{each-step}
 use Rattle.cics_listing.proofs.listing.push_kept.Goals as goal
 
 pub loop-row-preserved : goal.loop-row-preserved

@@ -1,5 +1,5 @@
 use Rattle.cics_listing.specs.Listings.{transient_text}
-use Rattle.cics_listing.proofs.UnitLines.{each-step}
+use Rattle.cics_spelling.proofs.Each.{each-step}
 use Rattle.cics_listing.proofs.listing.push_transient.Goals as goal
 
 pub loop-queue-preserved : goal.loop-queue-preserved

@@ -1,6 +1,6 @@
 use Rattle.cics_listing.specs.Serial.{committed_lines}
 use Rattle.cics_listing.specs.UnitLines.{lines_at}
-use Rattle.cics_listing.proofs.UnitLines.{each-step}
+use Rattle.cics_spelling.proofs.Each.{each-step}
 use Rattle.cics_listing.proofs.serial.push_committed.Goals as goal
 
 pub loop-unit-preserved : goal.loop-unit-preserved

@@ -1,5 +1,5 @@
 use Rattle.cics_listing.specs.Serial.{file_lines}
-use Rattle.cics_listing.proofs.UnitLines.{each-step}
+use Rattle.cics_spelling.proofs.Each.{each-step}
 use Rattle.cics_listing.proofs.serial.push_files.Goals as goal
 
 pub loop-file-preserved : goal.loop-file-preserved

@@ -1,5 +1,5 @@
 use Rattle.cics_listing.specs.Serial.{load_line}
-use Rattle.cics_listing.proofs.UnitLines.{each-step}
+use Rattle.cics_spelling.proofs.Each.{each-step}
 use Rattle.cics_listing.proofs.serial.push_loads.Goals as goal
 
 pub loop-loaded-preserved : goal.loop-loaded-preserved

@@ -1,5 +1,5 @@
 use Rattle.cics_listing.specs.Serial.{prefix_line}
-use Rattle.cics_listing.proofs.UnitLines.{each-step}
+use Rattle.cics_spelling.proofs.Each.{each-step}
 use Rattle.cics_listing.proofs.serial.push_prefixes.Goals as goal
 
 pub loop-prefix-preserved : goal.loop-prefix-preserved

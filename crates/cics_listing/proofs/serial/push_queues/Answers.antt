@@ -1,5 +1,5 @@
 use Rattle.cics_listing.specs.Serial.{queue_lines}
-use Rattle.cics_listing.proofs.UnitLines.{each-step}
+use Rattle.cics_spelling.proofs.Each.{each-step}
 use Rattle.cics_listing.proofs.serial.push_queues.Goals as goal
 
 pub loop-queue-preserved : goal.loop-queue-preserved

@@ -1,5 +1,5 @@
 use Rattle.cics_report.specs.Parts.{own_text}
-use Rattle.cics_report.proofs.Each.{each-step}
+use Rattle.cics_spelling.proofs.Each.{each-step}
 use Rattle.cics_report.proofs.parts.push_own.Goals as goal
 
 pub loop-part-preserved : goal.loop-part-preserved

@@ -1,4 +1,4 @@
-use Rattle.cics_report.proofs.Each.{each-step}
+use Rattle.cics_spelling.proofs.Each.{each-step}
 use Rattle.cics_report.proofs.parts.push_parts.Goals as goal
 
 pub loop-part-preserved : goal.loop-part-preserved

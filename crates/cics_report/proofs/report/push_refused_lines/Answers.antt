@@ -1,5 +1,5 @@
 use Rattle.cics_report.specs.Reporting.{refused_text}
-use Rattle.cics_report.proofs.Each.{each-step}
+use Rattle.cics_spelling.proofs.Each.{each-step}
 use Rattle.cics_report.proofs.report.push_refused_lines.Goals as goal
 
 pub loop-line-preserved : goal.loop-line-preserved

@@ -1,5 +1,5 @@
 use Rattle.cics_report.specs.Reporting.{word_text}
-use Rattle.cics_report.proofs.Each.{each-step}
+use Rattle.cics_spelling.proofs.Each.{each-step}
 use Rattle.cics_report.proofs.report.push_words.Goals as goal
 
 pub loop-next-preserved : goal.loop-next-preserved

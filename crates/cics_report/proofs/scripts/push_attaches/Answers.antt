@@ -1,5 +1,5 @@
 use Rattle.cics_report.specs.Reporting.{attach_line}
-use Rattle.cics_report.proofs.Each.{each-step}
+use Rattle.cics_spelling.proofs.Each.{each-step}
 use Rattle.cics_report.proofs.scripts.push_attaches.Goals as goal
 
 pub loop-task-preserved : goal.loop-task-preserved
