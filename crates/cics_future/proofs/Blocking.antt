@@ -1,41 +1,46 @@
--- In two regions that are alike a command of the same task is blocked by the units of the same
--- task, or by none.
-use Rattle.std.proofs.Common.{◌≡◌, ℕ, ◌<◌, ◌==◌, Bool, true, false, not, ◌&&◌, Option, Some, None, List, [], ◌∷◌, length, refl, ap, sym, ◌∙◌, subst, arith}
+-- In two regions that are alike a command of the same task is blocked by the unit of the same task,
+-- or by none.
+use Rattle.std.proofs.Common.{◌≡◌, ℕ, ◌<◌, ◌==◌, Bool, true, false, not, ◌&&◌, Option, Some, None, List, [], ◌∷◌, length, ◌⊎◌, inl, inr, refl, ap, sym, ◌∙◌, subst, arith}
 use Rattle.std.specs.Prelude.{is_some, is_none, option_map, unwrap_or, if◌then◌else◌, take}
 use Rattle.std.specs.List.{list_any}
 use Rattle.std.specs.Ordering.{is_lt, ordering_reverse}
 use Rattle.std.specs.declared.cmp.Ordering.{Ordering}
 use Rattle.std.specs.declared.cmp.Ordering.TheVariants.{Less, Equal, Greater}
 use Rattle.std.specs.Cmp.Lexicographic.{nat_list_cmp_total}
-use Rattle.std.proofs.lemmas.Bool.{true≢false, false≢true, and_parts, and_from, or_left, eqb-true, eq-eqb}
+use Rattle.std.proofs.lemmas.Bool.{true≢false, false≢true, cases_Bool, and_parts, and_from, or_left, eqb-true, eqb-false, eq-eqb, ne_eqb, lt-ltb, ltb-true}
 use Rattle.cics_names.specs.Keyed.{Bytes, bytes_cmp, is_same, is_below}
 use Rattle.cics_names.specs.KeyedLaws.{is_same-self, is_same-eq, same_bytes}
 use Rattle.cics_names.specs.declared.commands.Verb.{Verb}
 use Rattle.cics_names.specs.declared.commands.Verb.TheVariants.{Enq}
 use Rattle.cics_ksds.specs.Prefixes.{has_prefix}
 use Rattle.cics_history.specs.Resources.{is_one}
-use Rattle.cics_history.specs.ResourceLaws.{is_one-eq, same_test}
+use Rattle.cics_history.specs.ResourceLaws.{is_one-eq}
 use Rattle.cics_history.specs.declared.resources.Resource.{Resource}
 use Rattle.cics_history.specs.declared.resources.Resource.TheVariants.{FileKey, TsQueue, TdRead as ReadingEnd, TdWrite as WritingEnd, User, FilePrefix}
-use Rattle.cics_history.specs.State.{queue_logical}
-use Rattle.cics_history.specs.Headline.{outcome_of, is_open, is_backed_out}
-use Rattle.cics_history.specs.Holding.{uses_of, held_by, conflicts, bytes_in, owned, smallest_conflict, blocker_at, first_some, blocker_among, committed_for, is_nothing, writer_awaited, awaited, own_value, value_holder}
+use Rattle.cics_history.specs.State.{OpeningState, queue_logical, initial_store}
+use Rattle.cics_history.specs.Store.{is_recoverable}
+use Rattle.cics_history.specs.Headline.{outcome_of, is_open, is_backed_out, replay}
+use Rattle.cics_history.specs.Holding.{uses_of, held_by, conflicts, bytes_in, owned, is_other, smallest_conflict, blocker_at, first_some, blocker_among, committed_for, is_nothing, writer_awaited, awaited, own_value}
 use Rattle.cics_history.specs.Holders.{IsLeastHeld}
 use Rattle.cics_history.specs.Execution.{unit_or_next}
 use Rattle.cics_history.specs.Cells.{Td, content}
+use Rattle.cics_history.specs.Isolation.{Outcomes, Each, stays, left_by, store_by, AreKnown}
+use Rattle.cics_history.specs.declared.ops.Entry.{Entry}
 use Rattle.cics_history.specs.declared.ops.Op.{Op}
-use Rattle.cics_history.specs.declared.ops.Op.TheVariants.{Write, Rewrite, Delete, DeleteGeneric, ReadUpdate, TsWrite, TsRewrite, TsDelete, TdWrite, TdRead, TdDelete}
-use Rattle.cics_history.specs.declared.ops.UnitState.{UnitState}
+use Rattle.cics_history.specs.declared.ops.Op.TheVariants.{TdRead}
+use Rattle.cics_history.specs.State.{UnitsState}
+use Rattle.cics_history.specs.Events.{is_live}
 use Rattle.cics_history.specs.declared.ops.UnitState.TheVariants.{BackedOut}
-use Rattle.cics_history.proofs.Executes.{alone, alone-ended, open_kept}
-use Rattle.cics_history.proofs.Holders.{conflicts-joined, found_holds, found_other}
+use Rattle.cics_history.proofs.Executes.{alone}
+use Rattle.cics_history.proofs.Replays.{Each_more}
+use Rattle.cics_history.proofs.Holders.{held_cases, holder_begun, conflicts-joined, found_holds, found_other}
 use Rattle.cics_history.proofs.LeastHeld.{least_held, holder_some}
 use Rattle.cics_history.proofs.Waiting.{any_more, committed-content}
-use Rattle.cics_machine.specs.Machine.{Machine, label_of}
+use Rattle.cics_waits.specs.Notes.{is_unit}
+use Rattle.cics_machine.specs.Machine.{Machine, Task, label_of}
 use Rattle.cics_machine.specs.Waking.{awaited_by}
-use Rattle.cics_machine.proofs.OtherUnits.{begun}
-use Rattle.cics_future.specs.Futures.{unit_at, KeepSame, HaveSameFuture}
-use Rattle.cics_future.proofs.Partners.{ArePartners, turned, open_at, live_at, held_there, same_owner}
+use Rattle.cics_future.specs.Futures.{store_if, ending, IsSteady, HaveSameFuture}
+use Rattle.cics_future.proofs.Labels.{turned, AreMates, same_label, HasPartner, partner, told_by_label, other_by_label, open_of}
 
 -- ---- The least of what conflicts
 
@@ -53,7 +58,7 @@ has_prefix-self [] = refl
 has_prefix-self (x ∷ p) = and_from _ _ (eq-eqb x x refl) (has_prefix-self p)
 
 same_names : (f g h : Bytes) → is_same f g ≡ true → is_same f h ≡ true → is_same g h ≡ true
-same_names f g h a b = subst (λ x. is_same x h ≡ true) (is_same-eq f g a) b
+same_names f g h a b = rw (is_same-eq f g a) at b
 
 -- two resources of the same bytes that conflict with a third conflict
 conflict_joined : (r s t : Resource) → conflicts r s ≡ true → conflicts r t ≡ true → bytes_in s ≡ bytes_in t → conflicts s t ≡ true
@@ -75,190 +80,170 @@ conflict_joined (ReadingEnd q) s t a b same = conflicts-joined (ReadingEnd q) s 
 conflict_joined (WritingEnd q) s t a b same = conflicts-joined (WritingEnd q) s t refl a b
 conflict_joined (User v) s t a b same = conflicts-joined (User v) s t refl a b
 
--- the entry at which a blocker is found
-entry_of : (o : Option (Resource × ℕ)) (u : ℕ) → option_map (λ e. e.1) o ≡ Some u → (e : Resource × ℕ) × (o ≡ Some e) × (e.1 ≡ u)
-entry_of None u is = cc
-entry_of (Some e) u is = (e, refl, same e.1 is)
-  where
-    same : (v : ℕ) → Some v ≡ Some u → v ≡ u
-    same v e = cc
-
 -- ---- The blocker of a task
 
--- no unit in both, or partners
-abbrev pub AreSameBlockers : Machine → Machine → Option ℕ → Option ℕ → Type 0
-AreSameBlockers m n None None = Unit {0}
-AreSameBlockers m n None (Some v) = ⊥
-AreSameBlockers m n (Some u) None = ⊥
-AreSameBlockers m n (Some u) (Some v) = ArePartners m n u v
+-- the label of a blocker's task, if there is a blocker
+abbrev pub told : Machine → Option ℕ → Option Bytes
+told m o = option_map (label_of m.tasks) o
 
-module _ (m n : Machine) (same : HaveSameFuture m n) (at : ℕ) where
-  abbrev asks : Option ℕ
-  asks = unit_at m.tasks at
+-- who holds something is open
+holder_live : (m : Machine) → IsSteady m → (p : Resource → Bool) (u : ℕ) → list_any p (held_by m.units u) ≡ true → is_live m.units u ≡ true
+holder_live m steady p u holds =
+    and_from _ _ (lt-ltb u (length m.units.outcomes) (holder_begun m.units steady.units.sound.known steady.units.sound.begun u p holds)) (held_cases m.units u p holds).0
 
-  abbrev asks_too : Option ℕ
-  asks_too = unit_at n.tasks at
+-- a holder that is another unit than a task's has a partner, which is another and holds the same
+record HasHolder (m n : Machine) (u : Task) (x : ℕ) (p : Resource → Bool) : Type 0 where
+  unit : ℕ
+  label : label_of m.tasks x ≡ label_of n.tasks unit
+  holds : list_any p (held_by n.units unit) ≡ true
+  other : is_other u.unit unit ≡ true
 
+held_there : (m n : Machine) → HaveSameFuture m n → (t u : Task) → AreMates m n t u → (x : ℕ) (p : Resource → Bool) →
+    list_any p (held_by m.units x) ≡ true → is_other t.unit x ≡ true → HasHolder m n u x p
+held_there m n same t u mates x p holds other =
+    let live = holder_live m same.first p x holds in
+    let mate = partner m n same x live in
+    record {
+      unit = mate.unit;
+      label = mate.label;
+      holds = ap (list_any p) (sym mate.held) ∙ holds;
+      other =
+          other_by_label n same.second u mates.too mate.unit mate.live
+          ∙ (ap (λ l. not (is_same l u.label)) (sym mate.label)
+          ∙ (ap (λ l. not (is_same (label_of m.tasks x) l)) (sym (same_label t u mates.bare))
+          ∙ (sym (other_by_label m same.first t mates.there x live) ∙ other)));
+    }
+
+-- mates the other way round
+mates_turned : {m n : Machine} {t u : Task} → AreMates m n t u → AreMates n m u t
+mates_turned mates = record { there = mates.too; too = mates.there; bare = sym mates.bare }
+
+module _ (m n : Machine) (same : HaveSameFuture m n) (t u : Task) (mates : AreMates m n t u) where
   -- both find the unit of the same task
-  same_least : (r : Resource) (e d : Resource × ℕ) → IsLeastHeld m.units asks r e → IsLeastHeld n.units asks_too r d → ArePartners m n e.1 d.1
+  same_least : (r : Resource) (e d : Resource × ℕ) → IsLeastHeld m.units t.unit r e → IsLeastHeld n.units u.unit r d → label_of m.tasks e.1 ≡ label_of n.tasks d.1
   same_least r e d first second =
-      let there = held_there m n same at e.1 (is_one e.0) first.holds first.other in
-      let back = held_there n m (turned same) at d.1 (is_one d.0) second.holds second.other in
+      let there = held_there m n same t u mates e.1 (is_one e.0) first.holds first.other in
+      let back = held_there n m (turned same) u t (mates_turned mates) d.1 (is_one d.0) second.holds second.other in
       let bytes : bytes_in e.0 ≡ bytes_in d.0 =
       neither_below (bytes_in e.0) (bytes_in d.0)
       (second.least e.0 there.unit first.meets there.other there.holds) (first.least d.0 back.unit second.meets back.other back.holds) in
-      let both : conflicts e.0 d.0 ≡ true = conflict_joined r e.0 d.0 first.meets second.meets bytes in
+      let meets : conflicts e.0 d.0 ≡ true = conflict_joined r e.0 d.0 first.meets second.meets bytes in
       let here : (x : Resource) → is_one e.0 x ≡ true → list_any (conflicts x) (held_by n.units d.1) ≡ true =
       λ x is. any_more (is_one d.0) (conflicts x)
-      (λ y one. subst (λ z. conflicts z y ≡ true) (is_one-eq e.0 x is) (subst (λ z. conflicts e.0 z ≡ true) (is_one-eq d.0 y one) both))
+      (λ y one. subst (λ z. conflicts z y ≡ true) (is_one-eq e.0 x is) (subst (λ z. conflicts e.0 z ≡ true) (is_one-eq d.0 y one) meets))
       (held_by n.units d.1) second.holds in
       let one : there.unit ≡ d.1 =
-      same.second.sound.one there.unit d.1 (any_more (is_one e.0) (λ x. list_any (conflicts x) (held_by n.units d.1)) here (held_by n.units there.unit) there.holds) in
-      subst (ArePartners m n e.1) one there.partners
+      same.second.units.sound.one there.unit d.1 (any_more (is_one e.0) (λ x. list_any (conflicts x) (held_by n.units d.1)) here (held_by n.units there.unit) there.holds) in
+      there.label ∙ ap (label_of n.tasks) one
 
-  same_blocker : (r : Resource) → AreSameBlockers m n (blocker_at (owned m.units) asks r) (blocker_at (owned n.units) asks_too r)
-  same_blocker r = by (blocker_at (owned m.units) asks r) (blocker_at (owned n.units) asks_too r) refl refl
+  pub same_blocker : (r : Resource) → told m (blocker_at (owned m.units) t.unit r) ≡ told n (blocker_at (owned n.units) u.unit r)
+  same_blocker r = by (smallest_conflict (owned m.units) t.unit r) (smallest_conflict (owned n.units) u.unit r) refl refl
     where
-      nothing : (o : Option ℕ) → o ≡ None → is_some o ≡ true → ⊥
-      nothing o none some = true≢false (sym some ∙ ap is_some none)
+      entry : Option (Resource × ℕ) → Option ℕ
+      entry o = option_map (λ e. e.1) o
 
-      by : (o p : Option ℕ) → blocker_at (owned m.units) asks r ≡ o → blocker_at (owned n.units) asks_too r ≡ p → AreSameBlockers m n o p
-      by None None here there = tt
-      by None (Some v) here there =
-          let found = held_there n m (turned same) at v (conflicts r) (found_holds n.units asks_too r v there) (found_other (owned n.units) asks_too r v there) in
-          nothing (blocker_at (owned m.units) asks r) here (holder_some m.units asks r found.unit same.first.sound found.other found.holds)
-      by (Some u) None here there =
-          let found = held_there m n same at u (conflicts r) (found_holds m.units asks r u here) (found_other (owned m.units) asks r u here) in
-          nothing (blocker_at (owned n.units) asks_too r) there (holder_some n.units asks_too r found.unit same.second.sound found.other found.holds)
-      by (Some u) (Some v) here there =
-          let e = entry_of (smallest_conflict (owned m.units) asks r) u here in
-          let d = entry_of (smallest_conflict (owned n.units) asks_too r) v there in
-          subst (λ x. ArePartners m n x v) e.2
-          (subst (ArePartners m n e.0.1) d.2
-          (same_least r e.0 d.0 (least_held m.units asks r e.0 same.first.sound e.1) (least_held n.units asks_too r d.0 same.second.sound d.1)))
+      by : (o p : Option (Resource × ℕ)) → smallest_conflict (owned m.units) t.unit r ≡ o → smallest_conflict (owned n.units) u.unit r ≡ p → told m (entry o) ≡ told n (entry p)
+      by None None here there = refl
+      by (Some e) (Some d) here there =
+          ap Some (same_least r e d (least_held m.units t.unit r e same.first.units.sound here) (least_held n.units u.unit r d same.second.units.sound there))
+      by None (Some d) here there =
+          let found = ap entry there in
+          let back = held_there n m (turned same) u t (mates_turned mates) d.1 (conflicts r) (found_holds n.units u.unit r d.1 found) (found_other (owned n.units) u.unit r d.1 found) in
+          absurd (true≢false (sym (holder_some m.units t.unit r back.unit same.first.units.sound back.other back.holds) ∙ ap (λ o. is_some (entry o)) here))
+      by (Some e) None here there =
+          let found = ap entry here in
+          let back = held_there m n same t u mates e.1 (conflicts r) (found_holds m.units t.unit r e.1 found) (found_other (owned m.units) t.unit r e.1 found) in
+          absurd (true≢false (sym (holder_some n.units u.unit r back.unit same.second.units.sound back.other back.holds) ∙ ap (λ o. is_some (entry o)) there))
 
-  first_of_two : (x y x' y' : Option ℕ) → AreSameBlockers m n x x' → AreSameBlockers m n y y' → AreSameBlockers m n (first_some x y) (first_some x' y')
+  first_of_two : (x y x' y' : Option ℕ) → told m x ≡ told n x' → told m y ≡ told n y' → told m (first_some x y) ≡ told n (first_some x' y')
   first_of_two None y None y' a b = b
-  first_of_two None y (Some v) y' a b = absurd a
-  first_of_two (Some u) y None y' a b = absurd a
-  first_of_two (Some u) y (Some v) y' a b = a
+  first_of_two (Some v) y (Some w) y' a b = a
+  first_of_two None y (Some w) y' a b = cc
+  first_of_two (Some v) y None y' a b = cc
 
-  same_among : (rs : List Resource) → AreSameBlockers m n (blocker_among (owned m.units) asks rs) (blocker_among (owned n.units) asks_too rs)
-  same_among [] = tt
+  same_among : (rs : List Resource) → told m (blocker_among (owned m.units) t.unit rs) ≡ told n (blocker_among (owned n.units) u.unit rs)
+  same_among [] = refl
   same_among (r ∷ rs) =
-      first_of_two (blocker_at (owned m.units) asks r) (blocker_among (owned m.units) asks rs) (blocker_at (owned n.units) asks_too r) (blocker_among (owned n.units) asks_too rs)
+      first_of_two (blocker_at (owned m.units) t.unit r) (blocker_among (owned m.units) t.unit rs) (blocker_at (owned n.units) u.unit r) (blocker_among (owned n.units) u.unit rs)
       (same_blocker r) (same_among rs)
 
-  -- ---- READQ TD
+-- ---- Endings
 
-  -- partners are the unit that asks, or neither is
-  same_asker : (i u v : ℕ) → unit_at m.tasks i ≡ Some u → unit_at n.tasks i ≡ Some v →
-      (u == unit_or_next asks m.units.outcomes) ≡ true → (v == unit_or_next asks_too n.units.outcomes) ≡ true
-  same_asker i u v at_i at_v is = by asks refl (eqb-true u (unit_or_next asks m.units.outcomes) is)
-    where
-      by : (o : Option ℕ) → asks ≡ o → u ≡ unit_or_next o m.units.outcomes → (v == unit_or_next asks_too n.units.outcomes) ≡ true
-      by None none next = let below : u < length m.units.outcomes = begun m.units u (live_at m same.first i u at_i) in absurd (omega (arith, below, next))
-      by (Some w) has own =
-          let place : i ≡ at = same.first.owners.one i at u at_i (has ∙ ap Some (sym own)) in
-          let mine : asks_too ≡ Some v = ap (unit_at n.tasks) (sym place) ∙ at_v in
-          ap (λ o. v == unit_or_next o n.units.outcomes) mine ∙ eq-eqb v v refl
+-- two endings that back out the same units of the history leave the same store
+pub same_endings : (s : UnitsState) (fin more : Outcomes) → AreKnown s → ((u : ℕ) → u < length s.outcomes → is_backed_out (fin u) ≡ is_backed_out (more u)) →
+    store_by s.opening fin s.trace ≡ store_by s.opening more s.trace
+same_endings s fin more known same =
+    ap (replay (initial_store s.opening)) (left s.trace (Each_more (λ e. e.unit < length s.outcomes) (λ e. is_backed_out (fin e.unit) ≡ is_backed_out (more e.unit)) (λ e. same e.unit) s.trace known))
+  where
+    left : (es : List Entry) → Each (λ e. is_backed_out (fin e.unit) ≡ is_backed_out (more e.unit)) es → left_by s.opening fin es ≡ left_by s.opening more es
+    left [] each = refl
+    left (e ∷ es) each = rw (each.0, left es each.1) refl
 
--- what partners leave, once every other open unit is backed out
-module _ (m n : Machine) (same : HaveSameFuture m n) (at : ℕ) where
-  kept_alone : KeepSame m.tasks n.tasks (alone (outcome_of m.units.outcomes) (unit_or_next (unit_at m.tasks at) m.units.outcomes))
-      (alone (outcome_of n.units.outcomes) (unit_or_next (unit_at n.tasks at) n.units.outcomes))
-  kept_alone i u v at_u at_v =
-      gone (outcome_of m.units.outcomes u) (open_at m same.first i u at_u) (u == asker)
-      ∙ (ap not (same_test (u == asker) (v == asker_too) (same_asker m n same at i u v at_u at_v) (same_asker n m (turned same) at i v u at_v at_u))
-      ∙ sym (gone (outcome_of n.units.outcomes v) (open_at n same.second i v at_v) (v == asker_too)))
-    where
-      asker : ℕ
-      asker = unit_or_next (unit_at m.tasks at) m.units.outcomes
+-- an ending is as another if both treat the open units alike
+pub same_if_open : (m : Machine) → IsSteady m → (gone : Bytes → Bool) (more : Outcomes) →
+    ((u : ℕ) → u < length m.units.outcomes → is_open (outcome_of m.units.outcomes u) ≡ false → more u ≡ outcome_of m.units.outcomes u) →
+    ((u : ℕ) → is_live m.units u ≡ true → is_backed_out (if gone (label_of m.tasks u) then BackedOut else outcome_of m.units.outcomes u) ≡ is_backed_out (more u)) →
+    store_if m gone ≡ store_by m.units.opening more m.units.trace
+same_if_open m steady gone more shut same =
+    same_endings m.units (ending m gone) more steady.units.sound.known (λ u begun. elim (cases_Bool (is_open (outcome_of m.units.outcomes u))) [
+      | inl live ↦ rw live (same u (and_from _ _ (lt-ltb u (length m.units.outcomes) begun) live))
+      | inr closed ↦ rw closed (ap is_backed_out (sym (shut u begun closed)))
+    ])
 
-      asker_too : ℕ
-      asker_too = unit_or_next (unit_at n.tasks at) n.units.outcomes
+-- what a task may read of a queue is what the queue holds if all others are backed out
+others_gone : (m : Machine) (steady : IsSteady m) (t : Task) → AreMates m m t t →
+    store_if m (λ l. not (is_same l t.label))
+    ≡ store_by m.units.opening (alone (outcome_of m.units.outcomes) (unit_or_next t.unit m.units.outcomes)) m.units.trace
+others_gone m steady t mates =
+    same_if_open m steady (λ l. not (is_same l t.label)) (alone (outcome_of m.units.outcomes) (unit_or_next t.unit m.units.outcomes))
+    (λ u begun closed. rw closed refl)
+    (λ u live.
+    let begun : u < length m.units.outcomes = ltb-true u (length m.units.outcomes) (and_parts _ _ live).0 in
+    let stands : is_open (outcome_of m.units.outcomes u) ≡ true = (and_parts _ _ live).1 in
+    rw (stands, told_by_label m steady t mates.there u live, own t.unit u begun) refl)
+  where
+    own : (o : Option ℕ) (u : ℕ) → u < length m.units.outcomes → is_unit o u ≡ (u == unit_or_next o m.units.outcomes)
+    own None u below = sym (ne_eqb u (length m.units.outcomes) (λ e. omega (arith, below, e)))
+    own (Some w) u below = elim (cases_Bool (w == u)) [
+      | inl same ↦ rw same (sym (eq-eqb u w (sym (eqb-true w u same))))
+      | inr differ ↦ rw differ (sym (ne_eqb u w (λ e. eqb-false w u differ (sym e))))
+    ]
 
-      gone : (o : UnitState) → is_open o ≡ true → (mine : Bool) → is_backed_out (if is_open o && not mine then BackedOut else o) ≡ not mine
-      gone o live true = ap (λ b. is_backed_out (if b && false then BackedOut else o)) live ∙ open_kept o live
-      gone o live false = ap (λ b. is_backed_out (if b && true then BackedOut else o)) live
-
+module _ (m n : Machine) (same : HaveSameFuture m n) (t u : Task) (mates : AreMates m n t u) where
   -- a task may read the same records
-  same_committed : (q : Bytes) → queue_logical m.units.opening q ≡ true → committed_for m.units (unit_at m.tasks at) q ≡ committed_for n.units (unit_at n.tasks at) q
+  same_committed : (q : Bytes) → queue_logical m.units.opening q ≡ true → committed_for m.units t.unit q ≡ committed_for n.units u.unit q
   same_committed q logical =
-      committed-content m.units same.first.sound.known (unit_at m.tasks at) q logical
+      committed-content m.units same.first.units.sound.known t.unit q logical
       ∙ (ap (λ s. unwrap_or (content s (Td q)) [])
-      (same.alike.stores (alone (outcome_of m.units.outcomes) (unit_or_next (unit_at m.tasks at) m.units.outcomes))
-      (alone (outcome_of n.units.outcomes) (unit_or_next (unit_at n.tasks at) n.units.outcomes))
-      (alone-ended (outcome_of m.units.outcomes) (unit_or_next (unit_at m.tasks at) m.units.outcomes))
-      (alone-ended (outcome_of n.units.outcomes) (unit_or_next (unit_at n.tasks at) n.units.outcomes)) kept_alone)
-      ∙ sym (committed-content n.units same.second.sound.known (unit_at n.tasks at) q (ap (λ o. queue_logical o q) (sym same.alike.opening) ∙ logical)))
+      (sym (others_gone m same.first t (record { there = mates.there; too = mates.there; bare = refl }))
+      ∙ (same.alike.stores (λ l. not (is_same l t.label))
+      ∙ (ap (λ x. store_if n (λ l. not (is_same l x))) (same_label t u mates.bare)
+      ∙ others_gone n same.second u (record { there = mates.too; too = mates.too; bare = refl }))))
+      ∙ sym (committed-content n.units same.second.units.sound.known u.unit q (ap (λ o. queue_logical o q) (sym same.alike.opening) ∙ logical)))
 
-  same_writer : (q : Bytes) → AreSameBlockers m n (writer_awaited m.units (unit_at m.tasks at) (TdRead q)) (writer_awaited n.units (unit_at n.tasks at) (TdRead q))
-  same_writer q = by (queue_logical m.units.opening q) refl (ap (λ o. queue_logical o q) (sym same.alike.opening))
-    where
-      here : Bool → Option ℕ
-      here b = if b && is_nothing (committed_for m.units (unit_at m.tasks at) q) then blocker_at (owned m.units) (unit_at m.tasks at) (WritingEnd q) else None
-
-      there : Bool → Bool → Option ℕ
-      there b none = if b && none then blocker_at (owned n.units) (unit_at n.tasks at) (WritingEnd q) else None
-
-      found : (none : Bool) → AreSameBlockers m n (if none then blocker_at (owned m.units) (unit_at m.tasks at) (WritingEnd q) else None) (there true none)
-      found true = same_blocker m n same at (WritingEnd q)
-      found false = tt
-
-      by : (b : Bool) → queue_logical m.units.opening q ≡ b → queue_logical n.units.opening q ≡ queue_logical m.units.opening q →
-          AreSameBlockers m n (writer_awaited m.units (unit_at m.tasks at) (TdRead q)) (writer_awaited n.units (unit_at n.tasks at) (TdRead q))
-      by true is too =
-          subst (λ c. AreSameBlockers m n (here c) (there (queue_logical n.units.opening q) (is_nothing (committed_for n.units (unit_at n.tasks at) q)))) (sym is)
-          (subst (λ c. AreSameBlockers m n (here true) (there c (is_nothing (committed_for n.units (unit_at n.tasks at) q)))) (sym (too ∙ is))
-          (subst (λ rs. AreSameBlockers m n (here true) (there true (is_nothing rs))) (same_committed q is)
-          (found (is_nothing (committed_for m.units (unit_at m.tasks at) q)))))
-      by false is too =
-          subst (λ c. AreSameBlockers m n (here c) (there (queue_logical n.units.opening q) (is_nothing (committed_for n.units (unit_at n.tasks at) q)))) (sym is)
-          (subst (λ c. AreSameBlockers m n None (there c (is_nothing (committed_for n.units (unit_at n.tasks at) q)))) (sym (too ∙ is)) tt)
-
-  same_writers : (o : Op) → AreSameBlockers m n (writer_awaited m.units (unit_at m.tasks at) o) (writer_awaited n.units (unit_at n.tasks at) o)
-  same_writers (TdRead q) = same_writer q
-  same_writers (Write f k r) = tt
-  same_writers (Rewrite f k r) = tt
-  same_writers (Delete f k) = tt
-  same_writers (DeleteGeneric f p) = tt
-  same_writers (ReadUpdate f k) = tt
-  same_writers (TsWrite q d) = tt
-  same_writers (TsRewrite q i d) = tt
-  same_writers (TsDelete q) = tt
-  same_writers (TdWrite q d) = tt
-  same_writers (TdDelete q) = tt
+  same_writer : (o : Op) → told m (writer_awaited m.units t.unit o) ≡ told n (writer_awaited n.units u.unit o)
+  same_writer (TdRead q) = elim (cases_Bool (queue_logical m.units.opening q)) [
+    | inl is ↦
+        rw (is, ap (λ o. queue_logical o q) (sym same.alike.opening) ∙ is, same_committed q is)
+        (elim (is_nothing (committed_for n.units u.unit q)) as
+        (λ b. told m (if b then blocker_at (owned m.units) t.unit (WritingEnd q) else None) ≡ told n (if b then blocker_at (owned n.units) u.unit (WritingEnd q) else None)) [
+          | true ↦ same_blocker m n same t u mates (WritingEnd q)
+          | false ↦ refl
+        ])
+    | inr off ↦ rw (off, ap (λ o. queue_logical o q) (sym same.alike.opening) ∙ off) refl
+  ]
+  same_writer _ = refl
 
   -- ---- Whom a command waits for
 
-  pub same_awaited : (o : Op) → AreSameBlockers m n (awaited m.units (unit_at m.tasks at) o) (awaited n.units (unit_at n.tasks at) o)
+  pub same_awaited : (o : Op) → told m (awaited m.units t.unit o) ≡ told n (awaited n.units u.unit o)
   same_awaited o =
-      first_of_two m n same at (blocker_among (owned m.units) (unit_at m.tasks at) (uses_of m.units.opening o)) (writer_awaited m.units (unit_at m.tasks at) o)
-      (blocker_among (owned n.units) (unit_at n.tasks at) (uses_of n.units.opening o)) (writer_awaited n.units (unit_at n.tasks at) o)
-      (subst (λ p. AreSameBlockers m n (blocker_among (owned m.units) (unit_at m.tasks at) (uses_of m.units.opening o)) (blocker_among (owned n.units) (unit_at n.tasks at) (uses_of p o)))
-      same.alike.opening (same_among m n same at (uses_of m.units.opening o)))
-      (same_writers o)
+      first_of_two m n same t u mates (blocker_among (owned m.units) t.unit (uses_of m.units.opening o)) (writer_awaited m.units t.unit o)
+      (blocker_among (owned n.units) u.unit (uses_of n.units.opening o)) (writer_awaited n.units u.unit o)
+      (same_among m n same t u mates (uses_of m.units.opening o) ∙ ap (λ p. told n (blocker_among (owned n.units) u.unit (uses_of p o))) same.alike.opening)
+      (same_writer o)
 
-  pub same_value_holder : (value : Bytes) → AreSameBlockers m n (value_holder m.units (unit_at m.tasks at) value) (value_holder n.units (unit_at n.tasks at) value)
-  same_value_holder value = same_blocker m n same at (own_value value)
-
-  pub same_awaited_by : (verb : Verb) (o : Option Op) →
-      AreSameBlockers m n (awaited_by m.units (unit_at m.tasks at) verb o) (awaited_by n.units (unit_at n.tasks at) verb o)
+  pub same_awaited_by : (verb : Verb) (o : Option Op) → told m (awaited_by m.units t.unit verb o) ≡ told n (awaited_by n.units u.unit verb o)
   same_awaited_by verb (Some o) = same_awaited o
-  same_awaited_by (Enq value k nosuspend) None = same_value_holder (take k value)
-  same_awaited_by _ None = tt
-
--- whether there is one is the same
-pub same_is_none : (m n : Machine) (o p : Option ℕ) → AreSameBlockers m n o p → is_none o ≡ is_none p
-same_is_none m n None None both = refl
-same_is_none m n None (Some v) both = absurd both
-same_is_none m n (Some u) None both = absurd both
-same_is_none m n (Some u) (Some v) both = refl
-
--- and so is the label of its task
-pub same_owners : (m n : Machine) → HaveSameFuture m n → (o p : Option ℕ) → AreSameBlockers m n o p → option_map (label_of m.tasks) o ≡ option_map (label_of n.tasks) p
-same_owners m n same None None both = refl
-same_owners m n same None (Some v) both = absurd both
-same_owners m n same (Some u) None both = absurd both
-same_owners m n same (Some u) (Some v) both = ap Some (same_owner m n same u v both)
+  same_awaited_by (Enq value k nosuspend) None = same_blocker m n same t u mates (own_value (take k value))
+  same_awaited_by _ None = refl

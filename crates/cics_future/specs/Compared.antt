@@ -1,14 +1,15 @@
--- What is compared of two regions. It takes no before image: files and queues as they stand, as
--- they stand once every open unit is backed out, and what each open unit did.
+-- What is compared of two regions: files and queues as they stand once every open unit is backed
+-- out, and what each open unit did. No before image is compared, nor what stands now.
 use Rattle.std.specs.Prelude.{◌≡◌, ℕ, Option, Some, None, map, List, []}
+use Rattle.cics_names.specs.Keyed.{Bytes}
 use Rattle.cics_history.specs.State.{UnitsState, UpdateRead, EnqCount}
-use Rattle.cics_history.specs.Holding.{store_of}
 use Rattle.cics_history.specs.Serial.{done_by, store_without_others}
 use Rattle.cics_history.specs.declared.ops.Op.{Op}
 use Rattle.cics_machine.specs.Machine.{Machine}
-use Rattle.cics_future.specs.Futures.{rows_of, reader, any_read, counter, any_count, unit_at, unnumbered}
+use Rattle.cics_machine.specs.Blockers.{unit_of}
+use Rattle.cics_future.specs.Futures.{rows_of, reader, any_read, counter, any_count, unnumbered}
 
--- what a task's open unit did to recoverable files and queues, in its order
+-- what an open unit did to recoverable files and queues, in its order
 abbrev pub ops_done : UnitsState → Option ℕ → List Op
 ops_done s None = []
 ops_done s (Some u) = map (λ e. e.op) (done_by s.opening s.trace u)
@@ -23,14 +24,13 @@ abbrev pub counts_kept : UnitsState → Option ℕ → List EnqCount
 counts_kept s None = []
 counts_kept s (Some u) = rows_of counter any_count u s.counts
 
--- the regions look alike
+-- the regions look alike: nothing that is compared tells them apart
 pub record LookAlike (m n : Machine) : Type 0 where
   pub opening : m.units.opening ≡ n.units.opening
   pub tasks : map unnumbered m.tasks ≡ map unnumbered n.tasks
-  pub ops : (i : ℕ) → ops_done m.units (unit_at m.tasks i) ≡ ops_done n.units (unit_at n.tasks i)
-  pub reads : (i : ℕ) → reads_open m.units (unit_at m.tasks i) ≡ reads_open n.units (unit_at n.tasks i)
-  pub counts : (i : ℕ) → counts_kept m.units (unit_at m.tasks i) ≡ counts_kept n.units (unit_at n.tasks i)
-  pub now : store_of m.units ≡ store_of n.units
+  pub ops : (label : Bytes) → ops_done m.units (unit_of m label) ≡ ops_done n.units (unit_of n label)
+  pub reads : (label : Bytes) → reads_open m.units (unit_of m label) ≡ reads_open n.units (unit_of n label)
+  pub counts : (label : Bytes) → counts_kept m.units (unit_of m label) ≡ counts_kept n.units (unit_of n label)
   pub committed : store_without_others m.units [] ≡ store_without_others n.units []
   pub next : m.units.next ≡ n.units.next
   pub waiting : m.waiting ≡ n.waiting

@@ -1,19 +1,20 @@
 -- Two regions that have the same future: what the tasks of the one are told from now on, those of
 -- the other are told too, whatever the numbers of their units are, and however their files and
 -- queues came to hold what they hold.
-use Rattle.std.specs.Prelude.{◌≡◌, ℕ, ◌==◌, true, false, Option, Some, None, option_map, filter, map, flat_map, nat_lt, slice_get, List, [], ◌∷◌}
+use Rattle.std.specs.Prelude.{◌≡◌, ℕ, ◌==◌, Bool, true, false, ◌&&◌, if◌then◌else◌, Option, Some, None, option_map, filter, map, flat_map, nat_lt, List, [], ◌∷◌}
 use Rattle.std.specs.List.{list_any}
-use Rattle.cics_names.specs.Keyed.{is_below}
+use Rattle.cics_names.specs.Keyed.{Bytes, is_below}
 use Rattle.cics_history.specs.declared.resources.Resource.{Resource}
-use Rattle.cics_history.specs.State.{UnitsState, UpdateRead, EnqCount, initial_store}
-use Rattle.cics_history.specs.Headline.{outcome_of, is_backed_out}
+use Rattle.cics_history.specs.declared.ops.UnitState.TheVariants.{BackedOut}
+use Rattle.cics_history.specs.State.{UnitsState, UpdateRead, EnqCount, Store}
+use Rattle.cics_history.specs.Openings.{IsOpeningInOrder}
+use Rattle.cics_history.specs.Headline.{outcome_of, is_open}
 use Rattle.cics_history.specs.Holding.{held_by_entry}
-use Rattle.cics_history.specs.Events.{is_live}
-use Rattle.cics_history.specs.Cells.{IsCanonical}
-use Rattle.cics_history.specs.Isolation.{Outcomes, store_by, Extends, IsSound}
+use Rattle.cics_history.specs.Isolation.{Outcomes, store_by, IsSound}
 use Rattle.cics_history.specs.Serial.{IsInOrder}
-use Rattle.cics_machine.specs.Machine.{Machine, Task}
-use Rattle.cics_machine.specs.Tasks.{own_label, own_unit, had_at, IsOwn}
+use Rattle.cics_machine.specs.Machine.{Machine, Task, label_of, with_waiting}
+use Rattle.cics_machine.specs.Blockers.{unit_of}
+use Rattle.cics_machine.specs.KeptTasks.{AreTasksKept}
 use Rattle.cics_machine.specs.OwnedUnits.{AreUnitsOwned}
 use Rattle.cics_machine.specs.Steps.{Stepped}
 
@@ -43,38 +44,42 @@ pub record Own : Type 0 where
   pub reads : List UpdateRead
   pub counts : List EnqCount
 
--- what the unit of a task has; without a unit it has nothing
-abbrev pub own : UnitsState → Option ℕ → Own
-own s None = record { held = []; reads = []; counts = [] }
-own s (Some u) = record {
+-- what a unit has; without a unit there is nothing
+abbrev pub own_by : UnitsState → Option ℕ → Own
+own_by s None = record { held = []; reads = []; counts = [] }
+own_by s (Some u) = record {
   held = flat_map (held_by_entry s.opening u) s.trace;
   reads = rows_of reader any_read u s.reads;
   counts = rows_of counter any_count u s.counts;
 }
 
--- ---- Tasks and endings
+-- what the unit of a label's task has
+abbrev pub own : Machine → Bytes → Own
+own m label = own_by m.units (unit_of m label)
 
--- the unit of the task at a place
-abbrev pub unit_at : List Task → ℕ → Option ℕ
-unit_at ts i = had_at own_unit ts i
+-- ---- Tasks and endings
 
 -- a task without the number of its unit
 abbrev pub unnumbered : Task → Task
 unnumbered t = record t { unit = option_map (λ u. 0) t.unit }
 
--- two endings keep the units of the same tasks
-abbrev pub KeepSame : List Task → List Task → Outcomes → Outcomes → Type 0
-KeepSame ts us fin more = (i u v : ℕ) → unit_at ts i ≡ Some u → unit_at us i ≡ Some v → is_backed_out (fin u) ≡ is_backed_out (more v)
+-- the outcomes if of the open units those of these labels are backed out
+abbrev pub ending : Machine → (Bytes → Bool) → Outcomes
+ending m gone = λ u.
+    if is_open (outcome_of m.units.outcomes u) && gone (label_of m.tasks u) then BackedOut else outcome_of m.units.outcomes u
+
+-- and the files and queues then
+abbrev pub store_if : Machine → (Bytes → Bool) → Store
+store_if m gone = store_by m.units.opening (ending m gone) m.units.trace
 
 -- The regions are alike: their tasks but for the numbers of units, what the units of the same tasks
--- have, the waits, the clock, the NEXT places, and the files and queues, whichever tasks' units are
--- backed out in the end.
+-- have, the waits, the clock, the NEXT cursors, and the files and queues, whichever tasks' units are
+-- backed out.
 pub record AreAlike (m n : Machine) : Type 0 where
   pub opening : m.units.opening ≡ n.units.opening
   pub tasks : map unnumbered m.tasks ≡ map unnumbered n.tasks
-  pub own : (i : ℕ) → own m.units (unit_at m.tasks i) ≡ own n.units (unit_at n.tasks i)
-  pub stores : (fin more : Outcomes) → Extends (outcome_of m.units.outcomes) fin → Extends (outcome_of n.units.outcomes) more →
-      KeepSame m.tasks n.tasks fin more → store_by m.units.opening fin m.units.trace ≡ store_by n.units.opening more n.units.trace
+  pub own : (label : Bytes) → own m label ≡ own n label
+  pub stores : (gone : Bytes → Bool) → store_if m gone ≡ store_if n gone
   pub next : m.units.next ≡ n.units.next
   pub waiting : m.waiting ≡ n.waiting
   pub clock : m.clock ≡ n.clock
@@ -82,28 +87,32 @@ pub record AreAlike (m n : Machine) : Type 0 where
 
 -- ---- What every step of a region keeps
 
--- no update read stands behind one of a later unit
-abbrev pub AreByUnit : List UpdateRead → Type 0
-AreByUnit [] = Unit {0}
-AreByUnit (r ∷ rs) = (list_any (λ x. nat_lt x.unit r.unit) rs ≡ false) × AreByUnit rs
+-- no row stands behind one that it comes before
+abbrev pub AreRising : {X : Type 0} → (X → X → Bool) → List X → Type 0
+AreRising before [] = Unit {0}
+AreRising before (x ∷ xs) = (list_any (λ y. before y x) xs ≡ false) × AreRising before xs
 
--- no count stands behind one of a greater value
-abbrev pub AreByValue : List EnqCount → Type 0
-AreByValue [] = Unit {0}
-AreByValue (c ∷ cs) = (list_any (λ x. is_below x.value c.value) cs ≡ false) × AreByValue cs
+-- an update read is of an earlier unit
+abbrev pub is_earlier : UpdateRead → UpdateRead → Bool
+is_earlier r x = nat_lt r.unit x.unit
 
--- open units are kept apart, those that committed are in their order, and each open unit is that of
--- one task
+-- a count is of a smaller value
+abbrev pub is_lower : EnqCount → EnqCount → Bool
+is_lower c d = is_below c.value d.value
+
+-- open units are kept apart, those that committed are in their order, and so are the rows
+pub record AreUnitsSteady (s : UnitsState) : Type 0 where
+  pub opening : IsOpeningInOrder s.opening
+  pub sound : IsSound s
+  pub order : IsInOrder s
+  pub reads : AreRising is_earlier s.reads
+  pub counts : AreRising is_lower s.counts
+
+-- the units are steady, and each open unit is that of one task
 pub record IsSteady (m : Machine) : Type 0 where
-  pub canonical : IsCanonical (initial_store m.units.opening)
-  pub sound : IsSound m.units
-  pub order : IsInOrder m.units
-  pub labels : IsOwn own_label m.tasks
-  pub owners : IsOwn own_unit m.tasks
-  pub open_units : (i : ℕ) (t : Task) (u : ℕ) → slice_get m.tasks i ≡ Some t → t.unit ≡ Some u → is_live m.units u ≡ true
+  pub units : AreUnitsSteady m.units
+  pub tasks : AreTasksKept (with_waiting m [])
   pub owned : AreUnitsOwned m
-  pub reads : AreByUnit m.units.reads
-  pub counts : AreByValue m.units.counts
 
 -- ---- The same future
 

@@ -1,0 +1,248 @@
+-- The tasks of two regions that are alike go by their labels, and so do their units.
+use Rattle.std.proofs.Common.{◌≡◌, ℕ, zero, suc, ◌<◌, ◌==◌, Bool, true, false, not, ◌&&◌, cond, Option, Some, None, List, [], ◌∷◌, length, ◌⊎◌, inl, inr, refl, ap, sym, ◌∙◌}
+use Rattle.std.specs.Prelude.{option_map, map, slice_get}
+use Rattle.std.proofs.lemmas.Bool.{true≢false, false≢true, cases_Bool, and_parts, eqb-true, eq-eqb, false_from_ne_true}
+use Rattle.cics_names.specs.Keyed.{Bytes, is_same}
+use Rattle.cics_names.specs.KeyedLaws.{is_same-self, is_same-eq}
+use Rattle.cics_history.specs.Headline.{outcome_of, is_open}
+use Rattle.cics_history.specs.Holding.{held_by, is_other}
+use Rattle.cics_history.specs.Events.{is_live}
+use Rattle.cics_machine.specs.Machine.{Machine, Task, task_at, label_of, replaced}
+use Rattle.cics_machine.specs.Blockers.{unit_of}
+use Rattle.cics_waits.specs.Notes.{is_unit}
+use Rattle.cics_machine.specs.Tasks.{own_label, own_unit, had_by, HasNoOwner}
+use Rattle.cics_machine.proofs.TaskPlaces.{place_of_task, task_at-place}
+use Rattle.cics_future.specs.Futures.{own_by, unnumbered, IsSteady, HaveSameFuture}
+use Rattle.cics_future.proofs.Owning.{held_own, held_told}
+
+-- ---- The other way round
+
+pub turned : {m n : Machine} → HaveSameFuture m n → HaveSameFuture n m
+turned same = record {
+  first = same.second;
+  second = same.first;
+  alike = record {
+    opening = sym same.alike.opening;
+    tasks = sym same.alike.tasks;
+    own = λ label. sym (same.alike.own label);
+    stores = λ gone. sym (same.alike.stores gone);
+    next = sym same.alike.next;
+    waiting = sym same.alike.waiting;
+    clock = sym same.alike.clock;
+    down = sym same.alike.down;
+  };
+}
+
+-- ---- Two that are there, or neither
+
+pub none_there : {A : Type 0} (a : A) → None ≡ Some a → ⊥
+none_there a e = cc
+
+one_there : {A : Type 0} (a b : A) → Some a ≡ Some b → a ≡ b
+one_there a b e = cc
+
+-- what holds of none in both, and of two that show the same, holds of two that show the same if
+-- they are there
+pub both : {X Z : Type 0} (f g : X → Z) (P : Option X → Option X → Type 0) (o p : Option X) → option_map f o ≡ option_map g p →
+    (o ≡ None → p ≡ None → P None None) → ((x y : X) → o ≡ Some x → p ≡ Some y → f x ≡ g y → P (Some x) (Some y)) → P o p
+both f g P None None same none some = none refl refl
+both f g P (Some x) (Some y) same none some = some x y refl refl (one_there (f x) (g y) same)
+both f g P None (Some y) same none some = absurd (none_there (g y) same)
+both f g P (Some x) None same none some = absurd (none_there (f x) (sym same))
+
+-- ---- The task of a unit
+
+pub unit_is : (o : Option ℕ) (u : ℕ) → is_unit o u ≡ true → o ≡ Some u
+unit_is None u e = absurd (false≢true e)
+unit_is (Some w) u e = ap Some (eqb-true w u e)
+
+-- the first task that has a unit gives its label
+pub record HasTask (ts : List Task) (u : ℕ) : Type 0 where
+  pub task : Task
+  pub place : ℕ
+  pub placed : slice_get ts place ≡ Some task
+  pub unit : task.unit ≡ Some u
+  pub label : label_of ts u ≡ task.label
+
+task_or_none : (ts : List Task) (u : ℕ) → HasTask ts u ⊎ HasNoOwner ts u
+task_or_none [] u = inr (record { other = λ i t placed has. none i t placed })
+  where
+    none : (i : ℕ) (t : Task) → slice_get [] i ≡ Some t → ⊥
+    none i t placed = cc
+task_or_none (x ∷ xs) u = elim (cases_Bool (is_unit x.unit u)) [
+  | inl is ↦ inl (record { task = x; place = 0; placed = refl; unit = unit_is x.unit u is; label = rw is refl })
+  | inr other ↦ elim (task_or_none xs u) [
+    | inl there ↦ inl (record { task = there.task; place = suc there.place; placed = there.placed; unit = there.unit; label = rw other there.label })
+    | inr none ↦ inr (record { other = nobody other none })
+  ]
+]
+  where
+    nobody : is_unit x.unit u ≡ false → HasNoOwner xs u → (i : ℕ) (t : Task) → slice_get (x ∷ xs) i ≡ Some t → t.unit ≡ Some u → ⊥
+    nobody e rest zero t placed has =
+        let same : x ≡ t = cc in
+        true≢false (sym (ap (λ o. is_unit o u) (ap (λ (y : Task). y.unit) same ∙ has) ∙ eq-eqb u u refl) ∙ e)
+    nobody e rest (suc i) t placed has = rest.other i t placed has
+
+pub task_of : (m : Machine) → IsSteady m → (u : ℕ) → is_live m.units u ≡ true → HasTask m.tasks u
+task_of m steady u live = by (task_or_none m.tasks u)
+  where
+    by : HasTask m.tasks u ⊎ HasNoOwner m.tasks u → HasTask m.tasks u
+    by (inl there) = there
+    by (inr none) = absurd (steady.owned.owned u live none)
+
+-- ---- A task of one region
+
+-- an open unit is that of the task of a label exactly if it is told by that label
+pub told_by : (m : Machine) → IsSteady m → (label : Bytes) (u : ℕ) → is_live m.units u ≡ true → is_same (label_of m.tasks u) label ≡ is_unit (unit_of m label) u
+told_by m steady label u live = elim (cases_Bool (is_same (label_of m.tasks u) label)) [
+  | inl is ↦
+      let mine : found.task.label ≡ label = sym found.label ∙ is_same-eq (label_of m.tasks u) label is in
+      is ∙ sym (ap (λ l. is_unit (unit_of m l) u) (sym mine)
+      ∙ (ap (λ o. is_unit (had_by own_unit o) u) (task_at-place m.tasks found.place found.task steady.tasks.labels found.placed) ∙ rw found.unit (eq-eqb u u refl)))
+  | inr off ↦ off ∙ sym (false_from_ne_true (is_unit (unit_of m label) u) (λ has. other off (task_at m.tasks label) refl (unit_is (unit_of m label) u has)))
+]
+  where
+    found : HasTask m.tasks u
+    found = task_of m steady u live
+
+    other : is_same (label_of m.tasks u) label ≡ false → (o : Option Task) → task_at m.tasks label ≡ o → had_by own_unit (task_at m.tasks label) ≡ Some u → ⊥
+    other off None there has = none_there u (sym (ap (had_by own_unit) there) ∙ has)
+    other off (Some t) there has =
+        let place = place_of_task m.tasks label t there in
+        let unit = sym (ap (had_by own_unit) there) ∙ has in
+        let at : found.place ≡ place.0 = steady.tasks.owners.one found.place place.0 u (ap (had_by own_unit) found.placed ∙ found.unit) (ap (had_by own_unit) place.1 ∙ unit) in
+        let one : found.task ≡ t = one_there found.task t (sym found.placed ∙ (ap (slice_get m.tasks) at ∙ place.1)) in
+        true≢false (sym (ap (λ l. is_same l label) (found.label ∙ (ap (λ (x : Task). x.label) one ∙ place.2)) ∙ is_same-self label) ∙ off)
+
+module _ (m : Machine) (steady : IsSteady m) (t : Task) (there : task_at m.tasks t.label ≡ Some t) where
+  -- its unit is open
+  pub live_of : (u : ℕ) → t.unit ≡ Some u → is_live m.units u ≡ true
+  live_of u has = let place = place_of_task m.tasks t.label t there in steady.tasks.open_units place.0 t u place.1 has
+
+  pub open_of : (u : ℕ) → t.unit ≡ Some u → is_open (outcome_of m.units.outcomes u) ≡ true
+  open_of u has = (and_parts _ _ (live_of u has)).1
+
+  -- an open unit is its unit exactly if it is told by its label
+  pub told_by_label : (u : ℕ) → is_live m.units u ≡ true → is_same (label_of m.tasks u) t.label ≡ is_unit t.unit u
+  told_by_label u live = told_by m steady t.label u live ∙ ap (λ o. is_unit (had_by own_unit o) u) there
+
+  -- the label that tells its unit is its own
+  pub label_of_own : (u : ℕ) → t.unit ≡ Some u → label_of m.tasks u ≡ t.label
+  label_of_own u has = is_same-eq (label_of m.tasks u) t.label (told_by_label u (live_of u has) ∙ (ap (λ o. is_unit o u) has ∙ eq-eqb u u refl))
+
+  -- a unit is another's exactly if another label tells it
+  pub other_by_label : (u : ℕ) → is_live m.units u ≡ true → is_other t.unit u ≡ not (is_same (label_of m.tasks u) t.label)
+  other_by_label u live = by t.unit ∙ ap not (sym (told_by_label u live))
+    where
+      by : (o : Option ℕ) → is_other o u ≡ not (is_unit o u)
+      by None = refl
+      by (Some w) = ap not (turn (u == w) refl)
+        where
+          turn : (b : Bool) → (u == w) ≡ b → b ≡ (w == u)
+          turn true e = sym (eq-eqb w u (sym (eqb-true u w e)))
+          turn false e = sym (false_from_ne_true (w == u) (λ k. true≢false (sym (eq-eqb u w (sym (eqb-true w u k))) ∙ e)))
+
+-- with a task in the place of the one of its label, a unit that it has as the other had it keeps
+-- its label
+pub label_kept : (ts : List Task) (t v : Task) (u : ℕ) → task_at ts t.label ≡ Some t → v.label ≡ t.label → is_unit v.unit u ≡ is_unit t.unit u →
+    label_of (replaced ts v) u ≡ label_of ts u
+label_kept [] t v u there label same = refl
+label_kept (x ∷ xs) t v u there label same = elim (cases_Bool (is_same x.label v.label)) [
+  | inl is ↦
+      let first : Some x ≡ Some t = rw (ap (is_same x.label) (sym label) ∙ is) at there in
+      let here : x ≡ t = cc in
+      rw (is, same, label) (ap (λ (y : Task). cond (is_unit y.unit u) y.label (label_of xs u)) (sym here))
+  | inr differs ↦
+      rw differs (ap (λ l. cond (is_unit x.unit u) x.label l)
+      (label_kept xs t v u (rw (ap (is_same x.label) (sym label) ∙ differs) at there) label same))
+]
+
+-- ---- A task of both regions
+
+-- two tasks of one label, the same but for the numbers of their units
+pub record AreMates (m n : Machine) (t u : Task) : Type 0 where
+  pub there : task_at m.tasks t.label ≡ Some t
+  pub too : task_at n.tasks u.label ≡ Some u
+  pub bare : unnumbered t ≡ unnumbered u
+
+pub same_label : (t u : Task) → unnumbered t ≡ unnumbered u → t.label ≡ u.label
+same_label t u bare = ap (λ (x : Task). x.label) bare
+
+-- a label is found without the numbers of units
+bare-task_at : (ts : List Task) (label : Bytes) → option_map unnumbered (task_at ts label) ≡ task_at (map unnumbered ts) label
+bare-task_at [] label = refl
+bare-task_at (t ∷ ts) label = elim (cases_Bool (is_same t.label label)) [
+  | inl is ↦ rw is refl
+  | inr other ↦ rw other (bare-task_at ts label)
+]
+
+-- what holds of no task in both, and of mates, holds of the tasks of a label
+pub both_tasks : (m n : Machine) → HaveSameFuture m n → (label : Bytes) (P : Option Task → Option Task → Type 0) →
+    (task_at m.tasks label ≡ None → task_at n.tasks label ≡ None → P None None) →
+    ((t u : Task) → AreMates m n t u → t.label ≡ label → P (Some t) (Some u)) → P (task_at m.tasks label) (task_at n.tasks label)
+both_tasks m n same label P none some =
+    both unnumbered unnumbered P (task_at m.tasks label) (task_at n.tasks label)
+    (bare-task_at m.tasks label ∙ (ap (λ ts. task_at ts label) same.alike.tasks ∙ sym (bare-task_at n.tasks label))) none
+    (λ t u there too bare.
+    let mine = (place_of_task m.tasks label t there).2 in
+    some t u (record { there = ap (task_at m.tasks) mine ∙ there; too = ap (task_at n.tasks) (sym (same_label t u bare) ∙ mine) ∙ too; bare = bare }) mine)
+
+-- ---- What mates hold
+
+-- whether a task has a unit
+abbrev pub zeroed : Option ℕ → Option ℕ
+zeroed o = option_map (λ u. 0) o
+
+module _ (m n : Machine) (same : HaveSameFuture m n) (t u : Task) (mates : AreMates m n t u) where
+  -- their units have the same
+  pub own_mates : own_by m.units t.unit ≡ own_by n.units u.unit
+  own_mates =
+      ap (λ o. own_by m.units (had_by own_unit o)) (sym mates.there)
+      ∙ (same.alike.own t.label
+      ∙ (ap (λ l. own_by n.units (unit_of n l)) (same_label t u mates.bare) ∙ ap (λ o. own_by n.units (had_by own_unit o)) mates.too))
+
+  -- so they hold the same, and are told by one label
+  pub record HasMate (x : ℕ) : Type 0 where
+    pub unit : ℕ
+    pub of_task : u.unit ≡ Some unit
+    pub held : held_by m.units x ≡ held_by n.units unit
+    pub label : label_of m.tasks x ≡ label_of n.tasks unit
+
+  pub mate_of : (x : ℕ) → t.unit ≡ Some x → HasMate x
+  mate_of x has = by u.unit refl (sym (ap zeroed has) ∙ ap (λ (y : Task). y.unit) mates.bare)
+    where
+      by : (o : Option ℕ) → u.unit ≡ o → Some 0 ≡ zeroed u.unit → HasMate x
+      by None too is = absurd (never (is ∙ ap zeroed too))
+        where
+          never : Some 0 ≡ zeroed None → ⊥
+          never e = cc
+      by (Some y) too is = record {
+        unit = y;
+        of_task = too;
+        held =
+            held_told m.units x (open_of m same.first t mates.there x has)
+            ∙ (ap (λ o. held_own o (own_by m.units (Some x))) same.alike.opening
+            ∙ (ap (held_own n.units.opening) (ap (own_by m.units) (sym has) ∙ (own_mates ∙ ap (own_by n.units) too))
+            ∙ sym (held_told n.units y (open_of n same.second u mates.too y too))));
+        label = label_of_own m same.first t mates.there x has ∙ (same_label t u mates.bare ∙ sym (label_of_own n same.second u mates.too y too));
+      }
+
+-- an open unit has a mate: it holds the same and is told by the same label
+pub record HasPartner (m n : Machine) (x : ℕ) : Type 0 where
+  pub unit : ℕ
+  pub live : is_live n.units unit ≡ true
+  pub held : held_by m.units x ≡ held_by n.units unit
+  pub label : label_of m.tasks x ≡ label_of n.tasks unit
+
+pub partner : (m n : Machine) → HaveSameFuture m n → (x : ℕ) → is_live m.units x ≡ true → HasPartner m n x
+partner m n same x live =
+    let found = task_of m same.first x live in
+    let there = task_at-place m.tasks found.place found.task same.first.tasks.labels found.placed in
+    both_tasks m n same found.task.label (λ o p. o ≡ Some found.task → HasPartner m n x) (λ here too is. absurd (never is))
+    (λ t u mates label is.
+    let one : t ≡ found.task = cc in
+    let mate = mate_of m n same t u mates x (ap (λ (y : Task). y.unit) one ∙ found.unit) in
+    record { unit = mate.unit; live = live_of n same.second u mates.too mate.unit mate.of_task; held = mate.held; label = mate.label }) there
+  where
+    never : {t : Task} → None ≡ Some t → ⊥
+    never e = cc
