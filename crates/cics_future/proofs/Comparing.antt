@@ -27,25 +27,10 @@ use Rattle.cics_machine.specs.Machine.{Machine, Task, task_at, label_of}
 use Rattle.cics_machine.specs.Blockers.{unit_of}
 use Rattle.cics_machine.specs.Tasks.{own_unit, had_by}
 use Rattle.cics_machine.proofs.TaskPlaces.{place_of_task}
-use Rattle.cics_future.specs.Futures.{own, own_by, unnumbered, ending, store_if, IsSteady, HaveSameFuture}
-use Rattle.cics_future.specs.Compared.{ops_done, reads_open, counts_kept, LookAlike}
-use Rattle.cics_future.proofs.Owning.{own_of}
-use Rattle.cics_future.proofs.Labels.{none_there, HasTask, task_of, told_by, live_of}
+use Rattle.cics_future.specs.Futures.{Own, own, own_by, unnumbered, ending, store_if, IsSteady, HaveSameFuture}
+use Rattle.cics_future.specs.Compared.{LookAlike}
+use Rattle.cics_future.proofs.Labels.{task_of, told_by, live_at, label_at}
 use Rattle.cics_future.proofs.Blocking.{same_if_open}
-
--- ---- What a unit has
-
--- what it holds by its commands is what these use
-held_done : (o : OpeningState) (u : ℕ) (es : List Entry) → flat_map (held_by_entry o u) es ≡ flat_map (uses_of o) (map (λ e. e.op) (done_by o es u))
-held_done o u [] = refl
-held_done o u (e ∷ es) = elim (cases_Bool ((e.unit == u) && (is_normal e.answer.condition && is_recoverable o e.op))) [
-  | inl mine ↦ rw mine (ap (λ l. uses_of o e.op ++ l) (held_done o u es))
-  | inr other ↦ rw other (held_done o u es)
-]
-
-own_done : (s : UnitsState) (o : Option ℕ) → own_by s o ≡ own_of (flat_map (uses_of s.opening) (ops_done s o)) (reads_open s o) (counts_kept s o)
-own_done s None = refl
-own_done s (Some u) = ap (λ l. own_of l (reads_open s (Some u)) (counts_kept s (Some u))) (held_done s.opening u s.trace)
 
 -- ---- One cell, by the commands on it
 
@@ -97,25 +82,17 @@ module _ (m : Machine) (steady : IsSteady m) (gone : Bytes → Bool) (kept : Lis
             rw (off, other, stands) refl
       ])
 
-  live_at : (w : ℕ) → unit_of m l ≡ Some w → is_live m.units w ≡ true
-  live_at w has = by (task_at m.tasks l) refl
-    where
-      by : (o : Option Task) → task_at m.tasks l ≡ o → is_live m.units w ≡ true
-      by None there = absurd (none_there w (sym (ap (had_by own_unit) there) ∙ has))
-      by (Some t) there =
-          live_of m steady t (ap (task_at m.tasks) (place_of_task m.tasks l t there).2 ∙ there) w (sym (ap (had_by own_unit) there) ∙ has)
-
   -- gives what the ending without it gives, and then what the unit did
   one_more : (x : Cell) → recovers m.units.opening x ≡ true →
-      content (store_if m (but gone (l ∷ kept))) x ≡ after_ops x (content (store_if m (but gone kept)) x) (ops_done m.units (unit_of m l))
+      content (store_if m (but gone (l ∷ kept))) x ≡ after_ops x (content (store_if m (but gone kept)) x) (own m l).ops
   one_more x rec = ap (λ s. content s x) is_ending ∙ by (unit_of m l) refl
     where
       by : (o : Option ℕ) → unit_of m l ≡ o →
-          content (store_by m.units.opening (kept_too o) m.units.trace) x ≡ after_ops x (content (store_if m (but gone kept)) x) (ops_done m.units o)
+          content (store_by m.units.opening (kept_too o) m.units.trace) x ≡ after_ops x (content (store_if m (but gone kept)) x) (own_by m.units o).ops
       by None has = refl
       by (Some w) has =
-          let stands : is_open (outcome_of m.units.outcomes w) ≡ true = (and_parts _ _ (live_at w has)).1 in
-          let here : label_of m.tasks w ≡ l = is_same-eq (label_of m.tasks w) l (told_by m steady l w (live_at w has) ∙ rw has (eq-eqb w w refl)) in
+          let stands : is_open (outcome_of m.units.outcomes w) ≡ true = (and_parts _ _ (live_at m steady l w has)).1 in
+          let here = label_at m steady l w has in
           let last = steady.units.order.last w stands (ending m (but gone kept)) (kept_too (Some w))
           (λ u shut. rw shut refl)
           (λ u shut. elim (cases_Bool (w == u)) [ | inl is ↦ rw is refl | inr off ↦ rw (off, shut) refl ])
@@ -171,8 +148,8 @@ module _ (m n : Machine) (first : IsSteady m) (second : IsSteady n) (look : Look
       | inr there ↦ same (cells_kept gone kept x rec) (stays ∙ sym there)
       | inl new ↦
           one_more m first gone kept l stays new x rec
-          ∙ (ap (λ c. after_ops x c (ops_done m.units (unit_of m l))) (cells_kept gone kept x rec)
-          ∙ (ap (after_ops x (content (store_if n (but gone kept)) x)) (look.ops l)
+          ∙ (ap (λ c. after_ops x c (own m l).ops) (cells_kept gone kept x rec)
+          ∙ (ap (λ (y : Own). after_ops x (content (store_if n (but gone kept)) x) y.ops) (look.own l)
           ∙ sym (one_more n second gone kept l stays new x (ap (λ o. recovers o x) (sym look.opening) ∙ rec))))
     ]
   ]
@@ -195,13 +172,6 @@ module _ (m n : Machine) (first : IsSteady m) (second : IsSteady n) (look : Look
         ∙ unrecovered n.units.opening x (ap (λ o. recovers o x) (sym look.opening) ∙ un) (ending n (λ l. true)) (ending n gone) n.units.trace)
   ]
 
-  own_alike : (label : Bytes) → own m label ≡ own n label
-  own_alike l =
-      own_done m.units (unit_of m l)
-      ∙ (ap (λ o. own_of (flat_map (uses_of o) (ops_done m.units (unit_of m l))) (reads_open m.units (unit_of m l)) (counts_kept m.units (unit_of m l))) look.opening
-      ∙ (rw (look.ops l, look.reads l, look.counts l) refl
-      ∙ sym (own_done n.units (unit_of n l))))
-
   pub looks_same : HaveSameFuture m n
   looks_same = record {
     first = first;
@@ -209,7 +179,7 @@ module _ (m n : Machine) (first : IsSteady m) (second : IsSteady n) (look : Look
     alike = record {
       opening = look.opening;
       tasks = look.tasks;
-      own = own_alike;
+      own = look.own;
       stores = λ gone.
           same_store (store_if m gone) (store_if n gone)
           (replay-canonical (initial_store m.units.opening) (left_by m.units.opening (ending m gone) m.units.trace) (initial-canonical m.units.opening first.units.opening))

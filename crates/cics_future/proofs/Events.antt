@@ -11,6 +11,8 @@ use Rattle.cics_history.specs.Openings.{IsOpeningInOrder}
 use Rattle.cics_history.specs.Isolation.{store_by}
 use Rattle.cics_history.specs.declared.ops.UnitState.TheVariants.{BackedOut}
 use Rattle.cics_history.proofs.Outcomes.{same_function}
+use Rattle.cics_history.proofs.States.{beginning-IsSound}
+use Rattle.cics_history.proofs.SerialRuns.{beginning-IsInOrder}
 use Rattle.cics_machine.specs.Machine.{Machine, Task, Suspended, beginning_region, task_at, label_of, is_waiting, not_waiting, with_waiting, unit_closed, timed_out}
 use Rattle.cics_machine.specs.Tasks.{own_label, own_unit, had_by, IsOwn}
 use Rattle.cics_machine.specs.Steps.{Stepped, by_op, checked, issue_refusal, refused_or, issued_by, issued, new_task, with_new_task, attached}
@@ -23,9 +25,10 @@ use Rattle.cics_machine.specs.declared.outcomes.Outcome.{Outcome}
 use Rattle.cics_machine.specs.declared.outcomes.Woken.{Woken}
 use Rattle.cics_machine.specs.declared.outcomes.Refused.{Refused}
 use Rattle.cics_machine.specs.declared.outcomes.Refused.TheVariants.{TaskWaiting, TaskEnded, DuplicateLabel, RegionDown, ClockBack}
+use Rattle.cics_machine.proofs.KeptTasks.{kept_begins, kept_attached}
+use Rattle.cics_machine.proofs.OwnedUnits.{owned_begins, owned_attached}
 use Rattle.cics_machine.proofs.TaskPlaces.{IsOwn-tail, first_other, task_at-place, task_at-replaced}
 use Rattle.cics_future.specs.Futures.{own, own_by, unnumbered, ending, store_if, IsSteady, HaveSameFuture, AreSameSteps}
-use Rattle.cics_future.proofs.Steady.{steady_begins, steady_attached}
 use Rattle.cics_future.proofs.Labels.{both, zeroed, AreMates, same_label, both_tasks}
 use Rattle.cics_future.proofs.Blocking.{told, same_awaited_by}
 use Rattle.cics_future.proofs.Acting.{AreActing, same_beside, same_waits, same_closed, same_abended}
@@ -40,7 +43,13 @@ same_itself m steady = record {
 }
 
 pub same_begins : (o : OpeningState) → IsOpeningInOrder o → HaveSameFuture (beginning_region o) (beginning_region o)
-same_begins o order = same_itself (beginning_region o) (steady_begins o order)
+same_begins o order =
+    same_itself (beginning_region o)
+    (record {
+      units = record { opening = order; sound = beginning-IsSound o order; order = beginning-IsInOrder o order; reads = tt; counts = tt };
+      tasks = kept_begins o;
+      owned = owned_begins o;
+    })
 
 module _ (m n : Machine) (same : HaveSameFuture m n) where
   -- ---- Refusals
@@ -87,8 +96,8 @@ module _ (m n : Machine) (same : HaveSameFuture m n) where
 
   same_attached : (label : Bytes) (dtimout : ℕ) → task_at m.tasks label ≡ None → task_at n.tasks label ≡ None → HaveSameFuture (with_new_task m label dtimout) (with_new_task n label dtimout)
   same_attached label dtimout none none_too = record {
-    first = steady_attached m label dtimout same.first none;
-    second = steady_attached n label dtimout same.second none_too;
+    first = steady m same.first none;
+    second = steady n same.second none_too;
     alike = record {
       opening = same.alike.opening;
       tasks = map_push unnumbered m.tasks (new_task label dtimout) ∙ (ap (λ ts. ts ++ unnumbered (new_task label dtimout) ∷ []) same.alike.tasks ∙ sym (map_push unnumbered n.tasks (new_task label dtimout)));
@@ -101,6 +110,13 @@ module _ (m n : Machine) (same : HaveSameFuture m n) where
     };
   }
     where
+      steady : (k : Machine) → IsSteady k → task_at k.tasks label ≡ None → IsSteady (with_new_task k label dtimout)
+      steady k s free = record {
+        units = s.units;
+        tasks = kept_attached (with_waiting k []) label dtimout s.tasks free;
+        owned = owned_attached k label dtimout s.owned;
+      }
+
       kept : (k : Machine) (gone : Bytes → Bool) → store_if (with_new_task k label dtimout) gone ≡ store_if k gone
       kept k gone =
           ap (λ out. store_by k.units.opening out k.units.trace)

@@ -114,21 +114,31 @@ told_by m steady label u live = elim (cases_Bool (is_same (label_of m.tasks u) l
         let one : found.task ≡ t = one_there found.task t (sym found.placed ∙ (ap (slice_get m.tasks) at ∙ place.1)) in
         true≢false (sym (ap (λ l. is_same l label) (found.label ∙ (ap (λ (x : Task). x.label) one ∙ place.2)) ∙ is_same-self label) ∙ off)
 
+module _ (m : Machine) (steady : IsSteady m) where
+  -- the unit of a label's task is open
+  pub live_at : (label : Bytes) (u : ℕ) → unit_of m label ≡ Some u → is_live m.units u ≡ true
+  live_at label u has = by (task_at m.tasks label) refl has
+    where
+      by : (o : Option Task) → task_at m.tasks label ≡ o → had_by own_unit o ≡ Some u → is_live m.units u ≡ true
+      by None there has = absurd (none_there u has)
+      by (Some t) there has = let place = place_of_task m.tasks label t there in steady.tasks.open_units place.0 t u place.1 has
+
+  -- and told by that label
+  pub label_at : (label : Bytes) (u : ℕ) → unit_of m label ≡ Some u → label_of m.tasks u ≡ label
+  label_at label u has = is_same-eq (label_of m.tasks u) label (told_by m steady label u (live_at label u has) ∙ rw has (eq-eqb u u refl))
+
 module _ (m : Machine) (steady : IsSteady m) (t : Task) (there : task_at m.tasks t.label ≡ Some t) where
-  -- its unit is open
   pub live_of : (u : ℕ) → t.unit ≡ Some u → is_live m.units u ≡ true
-  live_of u has = let place = place_of_task m.tasks t.label t there in steady.tasks.open_units place.0 t u place.1 has
+  live_of u has = live_at m steady t.label u (ap (had_by own_unit) there ∙ has)
 
   pub open_of : (u : ℕ) → t.unit ≡ Some u → is_open (outcome_of m.units.outcomes u) ≡ true
   open_of u has = (and_parts _ _ (live_of u has)).1
 
-  -- an open unit is its unit exactly if it is told by its label
+  pub label_of_own : (u : ℕ) → t.unit ≡ Some u → label_of m.tasks u ≡ t.label
+  label_of_own u has = label_at m steady t.label u (ap (had_by own_unit) there ∙ has)
+
   pub told_by_label : (u : ℕ) → is_live m.units u ≡ true → is_same (label_of m.tasks u) t.label ≡ is_unit t.unit u
   told_by_label u live = told_by m steady t.label u live ∙ ap (λ o. is_unit (had_by own_unit o) u) there
-
-  -- the label that tells its unit is its own
-  pub label_of_own : (u : ℕ) → t.unit ≡ Some u → label_of m.tasks u ≡ t.label
-  label_of_own u has = is_same-eq (label_of m.tasks u) t.label (told_by_label u (live_of u has) ∙ (ap (λ o. is_unit o u) has ∙ eq-eqb u u refl))
 
   -- a unit is another's exactly if another label tells it
   pub other_by_label : (u : ℕ) → is_live m.units u ≡ true → is_other t.unit u ≡ not (is_same (label_of m.tasks u) t.label)

@@ -1,6 +1,5 @@
 pub mod Rows
 pub mod Owning
-pub mod Steady
 pub mod Labels
 pub mod Blocking
 pub mod Acting

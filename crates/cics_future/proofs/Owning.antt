@@ -1,7 +1,7 @@
 -- What an open unit has after each step of the units: the unit that acts has what the step gives
 -- it, the others what they had.
 use Rattle.std.proofs.Common.{◌≡◌, ◌≢◌, ℕ, ◌<◌, ◌≤◌, ◌+◌, ◌-◌, ◌==◌, Bool, true, false, not, ◌&&◌, ◌||◌, cond, Option, Some, None, List, [], ◌∷◌, ◌++◌, length, ◌⊎◌, inl, inr, refl, ap, sym, ◌∙◌, arith}
-use Rattle.std.specs.Prelude.{if◌then◌else◌, filter, flat_map, nat_lt}
+use Rattle.std.specs.Prelude.{if◌then◌else◌, filter, map, flat_map, nat_lt}
 use Rattle.std.specs.List.{list_any}
 use Rattle.std.specs.Ordering.{is_lt, ordering_reverse}
 use Rattle.std.specs.declared.cmp.Ordering.{Ordering}
@@ -9,7 +9,6 @@ use Rattle.std.specs.declared.cmp.Ordering.TheVariants.{Less, Equal, Greater}
 use Rattle.std.specs.Cmp.Lexicographic.{nat_list_cmp_total}
 use Rattle.std.proofs.lemmas.Bool.{true≢false, false≢true, cases_Bool, false_from_ne_true, true_from_ne_false, eqb-true, eqb-false, eq-eqb, ne_eqb, ltb-true, ltb-false, le-ltb, or_cases, or_parts, and_parts}
 use Rattle.std.proofs.lemmas.List.{append-nil}
-use Rattle.std.proofs.lemmas.List.Concat.{flat_map-append}
 use Rattle.cics_names.specs.Keyed.{Bytes, bytes_cmp, is_same, is_below}
 use Rattle.cics_names.specs.KeyedLaws.{is_same-eq}
 use Rattle.cics_names.specs.declared.conditions.Condition.{Condition}
@@ -22,6 +21,7 @@ use Rattle.cics_history.specs.Holding.{uses_of, held_by_entry, held_by_read, hel
 use Rattle.cics_history.specs.Execution.{unit_or_next, is_read_of, read_at, has_read, is_read_before, with_read, covers, opened, reads_after, entered, is_count, count_at, counted, uncounted, with_counts, after_dequeue, after_unlock, after_end, after_ts_reading}
 use Rattle.cics_history.proofs.Holders.{any_uncounted}
 use Rattle.cics_history.specs.Isolation.{Each, IsSound}
+use Rattle.cics_history.specs.Serial.{is_done_by, done_by}
 use Rattle.cics_history.specs.declared.ops.Op.{Op}
 use Rattle.cics_history.specs.declared.ops.Op.TheVariants.{Rewrite, Delete, DeleteGeneric, ReadUpdate}
 use Rattle.cics_history.specs.declared.ops.Answer.{Answer}
@@ -268,16 +268,28 @@ count-own u v (c ∷ cs) = elim (cases_Bool (c.unit == u)) [
 
 -- ---- What is told of a unit by what it has
 
--- these held resources, update reads and counts
-abbrev pub own_of : List Resource → List UpdateRead → List EnqCount → Own
-own_of held reads counts = record { held = held; reads = reads; counts = counts }
+-- these commands, update reads and counts
+abbrev own_of : List Op → List UpdateRead → List EnqCount → Own
+own_of ops reads counts = record { ops = ops; reads = reads; counts = counts }
 
-same_parts : (h k : List Resource) (r q : List UpdateRead) (c d : List EnqCount) → h ≡ k → r ≡ q → c ≡ d → own_of h r c ≡ own_of k q d
-same_parts h k r q c d a b e = λ i. record { held = a i; reads = b i; counts = e i }
+-- what a unit did
+abbrev done : OpeningState → ℕ → List Entry → List Op
+done o u es = map (λ e. e.op) (done_by o es u)
 
--- what a unit holds by its commands
-abbrev holds : OpeningState → ℕ → List Entry → List Resource
-holds o u es = flat_map (held_by_entry o u) es
+done-push : (o : OpeningState) (u : ℕ) (es : List Entry) (e : Entry) → done o u (es ++ e ∷ []) ≡ done o u es ++ (if is_done_by o u e then e.op ∷ [] else [])
+done-push o u [] e = elim (cases_Bool (is_done_by o u e)) [ | inl is ↦ rw is refl | inr off ↦ rw off refl ]
+done-push o u (d ∷ es) e = elim (cases_Bool (is_done_by o u d)) [
+  | inl is ↦ rw is (ap (λ l. d.op ∷ l) (done-push o u es e))
+  | inr off ↦ rw off (done-push o u es e)
+]
+
+-- what it holds by its commands is what these use
+held_done : (o : OpeningState) (u : ℕ) (es : List Entry) → flat_map (held_by_entry o u) es ≡ flat_map (uses_of o) (done o u es)
+held_done o u [] = refl
+held_done o u (e ∷ es) = elim (cases_Bool (is_done_by o u e)) [
+  | inl mine ↦ rw mine (ap (λ l. uses_of o e.op ++ l) (held_done o u es))
+  | inr other ↦ rw other (held_done o u es)
+]
 
 -- the key of its update read of a file
 pub read_told : (s : UnitsState) (o : Option ℕ) (f : Bytes) → has_read s o f ≡ read_at (own_by s o).reads 0 f
@@ -286,33 +298,37 @@ read_told s (Some u) f = read-own u f s.reads
 
 -- all that it holds
 abbrev pub held_own : OpeningState → Own → List Resource
-held_own o x = x.held ++ flat_map (held_by_read o 0) x.reads ++ flat_map (held_by_count 0) x.counts
+held_own o x = flat_map (uses_of o) x.ops ++ flat_map (held_by_read o 0) x.reads ++ flat_map (held_by_count 0) x.counts
 
 pub held_told : (s : UnitsState) (u : ℕ) → is_open (outcome_of s.outcomes u) ≡ true → held_by s u ≡ held_own s.opening (own_by s (Some u))
-held_told s u live =
-    ap (λ b. cond b (holds s.opening u s.trace ++ flat_map (held_by_read s.opening u) s.reads ++ flat_map (held_by_count u) s.counts) []) live
-    ∙ (ap (λ l. holds s.opening u s.trace ++ l ++ flat_map (held_by_count u) s.counts)
-    (rows-flat_map reader any_read u (held_by_read s.opening u) (held_by_read s.opening 0) (λ x own. rw own refl) (λ x other. rw other refl) s.reads)
-    ∙ ap (λ l. holds s.opening u s.trace ++ flat_map (held_by_read s.opening 0) (reads_of u s.reads) ++ l)
-    (rows-flat_map counter any_count u (held_by_count u) (held_by_count 0) (λ c own. rw own refl) (λ c other. rw other refl) s.counts))
+held_told s u live = rw live (λ i. by_ops i ++ by_reads i ++ by_counts i)
+  where
+    by_ops : flat_map (held_by_entry s.opening u) s.trace ≡ flat_map (uses_of s.opening) (done s.opening u s.trace)
+    by_ops = held_done s.opening u s.trace
+
+    by_reads : flat_map (held_by_read s.opening u) s.reads ≡ flat_map (held_by_read s.opening 0) (reads_of u s.reads)
+    by_reads = rows-flat_map reader any_read u (held_by_read s.opening u) (held_by_read s.opening 0) (λ x own. rw own refl) (λ x other. rw other refl) s.reads
+
+    by_counts : flat_map (held_by_count u) s.counts ≡ flat_map (held_by_count 0) (counts_of u s.counts)
+    by_counts = rows-flat_map counter any_count u (held_by_count u) (held_by_count 0) (λ c own. rw own refl) (λ c other. rw other refl) s.counts
 
 -- ---- A unit that begins
 
--- a unit that no command is of holds nothing by commands
-none_held : (o : OpeningState) (n : ℕ) (es : List Entry) → Each (λ e. e.unit < n) es → holds o n es ≡ []
-none_held o n [] known = refl
-none_held o n (e ∷ es) known =
+none_done : (o : OpeningState) (n : ℕ) (es : List Entry) → Each (λ e. e.unit < n) es → done o n es ≡ []
+none_done o n [] known = refl
+none_done o n (e ∷ es) known =
     let below : e.unit < n = known.0 in
-    rw (ne_eqb e.unit n (λ same. omega (arith, below, same))) (none_held o n es known.1)
+    rw (ne_eqb e.unit n (λ same. omega (arith, below, same))) (none_done o n es known.1)
 
 -- the unit that acts has what its task's unit has, if it has one, or nothing
 pub acting_own : (s : UnitsState) (o : Option ℕ) → IsSound s → own_by s (Some (unit_or_next o s.outcomes)) ≡ own_by s o
 acting_own s (Some u) sound = refl
 acting_own s None sound =
-    same_parts (holds s.opening next s.trace) [] (reads_of next s.reads) [] (counts_of next s.counts) []
-    (none_held s.opening next s.trace sound.known)
-    (no_rows reader any_read next s.reads (false_from_ne_true (list_any (λ r. r.unit == next) s.reads) (λ t. above (sound.begun.readers next t))))
-    (no_rows counter any_count next s.counts (false_from_ne_true (list_any (λ c. c.unit == next) s.counts) (λ t. above (sound.begun.counters next t))))
+    λ i. record {
+      ops = none_done s.opening next s.trace sound.known i;
+      reads = no_rows reader any_read next s.reads (false_from_ne_true (list_any (λ r. r.unit == next) s.reads) (λ t. above (sound.begun.readers next t))) i;
+      counts = no_rows counter any_count next s.counts (false_from_ne_true (list_any (λ c. c.unit == next) s.counts) (λ t. above (sound.begun.counters next t))) i;
+    }
   where
     next : ℕ
     next = length s.outcomes
@@ -329,98 +345,75 @@ count_told s o v sound = count-own (unit_or_next o s.outcomes) v s.counts ∙ ap
 -- what a unit has after a command, by what it had
 abbrev pub own_entered : OpeningState → Op → Answer → Own → Own
 own_entered o op a x =
-    own_of (x.held ++ (if is_normal a.condition && is_recoverable o op then uses_of o op else [])) (reads_after 0 op a.condition x.reads) x.counts
+    own_of (x.ops ++ (if is_normal a.condition && is_recoverable o op then op ∷ [] else [])) (reads_after 0 op a.condition x.reads) x.counts
+
+-- the entry of a command
+abbrev entry : UnitsState → Option ℕ → Op → Answer → Entry
+entry s o op a = record { unit = unit_or_next o s.outcomes; op = op; answer = a }
 
 pub entered_own : (s : UnitsState) (o : Option ℕ) (op : Op) (a : Answer) → IsSound s → AreRising is_earlier s.reads →
     own_by (entered s o op a) (Some (unit_or_next o s.outcomes)) ≡ own_entered s.opening op a (own_by s o)
 entered_own s o op a sound rising =
-    same_parts
-    (holds s.opening u (s.trace ++ e ∷ [])) (holds s.opening u s.trace ++ (if is_normal a.condition && is_recoverable s.opening op then uses_of s.opening op else []))
-    (reads_of u (reads_after u op a.condition s.reads)) (reads_after 0 op a.condition (reads_of u s.reads))
-    (counts_of u s.counts) (counts_of u s.counts)
-    (flat_map-append (held_by_entry s.opening u) s.trace (e ∷ []) ∙ ap (λ l. holds s.opening u s.trace ++ l) (append-nil (held_by_entry s.opening u e) ∙ rw (eq-eqb u u refl) refl))
-    (reads_after-own u op a.condition s.reads rising) refl
-    ∙ ap (own_entered s.opening op a) (acting_own s o sound)
+    (λ i. own_of (grown i) (reads_after-own u op a.condition s.reads rising i) (counts_of u s.counts)) ∙ ap (own_entered s.opening op a) (acting_own s o sound)
   where
     u : ℕ
     u = unit_or_next o s.outcomes
 
-    e : Entry
-    e = record { unit = unit_or_next o s.outcomes; op = op; answer = a }
+    grown : done s.opening u (s.trace ++ entry s o op a ∷ []) ≡ done s.opening u s.trace ++ (if is_normal a.condition && is_recoverable s.opening op then op ∷ [] else [])
+    grown = done-push s.opening u s.trace (entry s o op a) ∙ rw (eq-eqb u u refl) refl
 
 pub entered_other : (s : UnitsState) (o : Option ℕ) (op : Op) (a : Answer) (w : ℕ) → unit_or_next o s.outcomes ≢ w → own_by (entered s o op a) (Some w) ≡ own_by s (Some w)
 entered_other s o op a w other =
-    same_parts
-    (holds s.opening w (s.trace ++ e ∷ [])) (holds s.opening w s.trace)
-    (reads_of w (reads_after u op a.condition s.reads)) (reads_of w s.reads)
-    (counts_of w s.counts) (counts_of w s.counts)
-    (flat_map-append (held_by_entry s.opening w) s.trace (e ∷ []) ∙ rw (ne_eqb u w other) (append-nil (holds s.opening w s.trace)))
-    (reads_after-other u w op a.condition other s.reads) refl
+    λ i. own_of (same i) (reads_after-other (unit_or_next o s.outcomes) w op a.condition other s.reads i) (counts_of w s.counts)
   where
-    u : ℕ
-    u = unit_or_next o s.outcomes
-
-    e : Entry
-    e = record { unit = unit_or_next o s.outcomes; op = op; answer = a }
+    same : done s.opening w (s.trace ++ entry s o op a ∷ []) ≡ done s.opening w s.trace
+    same = done-push s.opening w s.trace (entry s o op a) ∙ rw (ne_eqb (unit_or_next o s.outcomes) w other) (append-nil (done s.opening w s.trace))
 
 -- ---- ENQ and DEQ
 
 abbrev pub own_counted : Bytes → Own → Own
-own_counted v x = own_of x.held x.reads (counted x.counts 0 v)
+own_counted v x = own_of x.ops x.reads (counted x.counts 0 v)
 
 pub counted_own : (s : UnitsState) (o : Option ℕ) (v : Bytes) (outcomes : List UnitState) → IsSound s → AreRising is_lower s.counts →
     own_by (with_counts s outcomes (counted s.counts (unit_or_next o s.outcomes) v)) (Some (unit_or_next o s.outcomes)) ≡ own_counted v (own_by s o)
 counted_own s o v outcomes sound rising =
-    ap (own_of (holds s.opening (unit_or_next o s.outcomes) s.trace) (reads_of (unit_or_next o s.outcomes) s.reads)) (counted-own (unit_or_next o s.outcomes) v s.counts rising)
+    ap (own_of (done s.opening (unit_or_next o s.outcomes) s.trace) (reads_of (unit_or_next o s.outcomes) s.reads)) (counted-own (unit_or_next o s.outcomes) v s.counts rising)
     ∙ ap (own_counted v) (acting_own s o sound)
 
 pub counted_other : (s : UnitsState) (u : ℕ) (v : Bytes) (outcomes : List UnitState) (w : ℕ) → u ≢ w →
     own_by (with_counts s outcomes (counted s.counts u v)) (Some w) ≡ own_by s (Some w)
-counted_other s u v outcomes w other = ap (own_of (holds s.opening w s.trace) (reads_of w s.reads)) (counted-other u w v other s.counts)
+counted_other s u v outcomes w other = ap (own_of (done s.opening w s.trace) (reads_of w s.reads)) (counted-other u w v other s.counts)
 
 abbrev pub own_uncounted : Bytes → Own → Own
-own_uncounted v x = own_of x.held x.reads (uncounted x.counts 0 v)
+own_uncounted v x = own_of x.ops x.reads (uncounted x.counts 0 v)
 
-pub dequeued_own : (s : UnitsState) (o : Option ℕ) (v : Bytes) → AreRising is_lower s.counts → own_by (units_dequeued s o v) o ≡ own_uncounted v (own_by s o)
-dequeued_own s None v rising = refl
-dequeued_own s (Some u) v rising = ap (own_of (holds s.opening u s.trace) (reads_of u s.reads)) (uncounted-own u v s.counts rising)
+pub dequeued_own : (s : UnitsState) (u : ℕ) (v : Bytes) → AreRising is_lower s.counts → own_by (after_dequeue s u v) (Some u) ≡ own_uncounted v (own_by s (Some u))
+dequeued_own s u v rising = ap (own_of (done s.opening u s.trace) (reads_of u s.reads)) (uncounted-own u v s.counts rising)
 
-pub dequeued_other : (s : UnitsState) (o : Option ℕ) (v : Bytes) (w : ℕ) → (o ≡ Some w → ⊥) → own_by (units_dequeued s o v) (Some w) ≡ own_by s (Some w)
-dequeued_other s None v w other = refl
-dequeued_other s (Some u) v w other = ap (own_of (holds s.opening w s.trace) (reads_of w s.reads)) (uncounted-other u w v (λ e. other (ap Some e)) s.counts)
+pub dequeued_other : (s : UnitsState) (u : ℕ) (v : Bytes) (w : ℕ) → u ≢ w → own_by (after_dequeue s u v) (Some w) ≡ own_by s (Some w)
+dequeued_other s u v w other = ap (own_of (done s.opening w s.trace) (reads_of w s.reads)) (uncounted-other u w v other s.counts)
 
 -- ---- UNLOCK, the end of a unit, READQ TS
 
--- the units after an UNLOCK of a task
-abbrev pub units_unlocked : UnitsState → Option ℕ → Bytes → UnitsState
-units_unlocked s None f = s
-units_unlocked s (Some u) f = after_unlock s u f
-
 abbrev pub own_unlocked : Bytes → Own → Own
-own_unlocked f x = own_of x.held (filter (λ r. not (is_read_of 0 f r)) x.reads) x.counts
+own_unlocked f x = own_of x.ops (filter (λ r. not (is_read_of 0 f r)) x.reads) x.counts
 
-pub unlocked_own : (s : UnitsState) (o : Option ℕ) (f : Bytes) → own_by (units_unlocked s o f) o ≡ own_unlocked f (own_by s o)
-unlocked_own s None f = refl
-unlocked_own s (Some u) f =
-    ap (λ l. own_of (holds s.opening u s.trace) l (counts_of u s.counts))
+pub unlocked_own : (s : UnitsState) (u : ℕ) (f : Bytes) → own_by (after_unlock s u f) (Some u) ≡ own_unlocked f (own_by s (Some u))
+unlocked_own s u f =
+    ap (λ l. own_of (done s.opening u s.trace) l (counts_of u s.counts))
     (rows-filter reader any_read u (λ r. not (is_read_of u f r)) (λ r. not (is_read_of 0 f r)) (λ x own. rw own refl) s.reads)
 
-pub unlocked_other : (s : UnitsState) (o : Option ℕ) (f : Bytes) (w : ℕ) → (o ≡ Some w → ⊥) → own_by (units_unlocked s o f) (Some w) ≡ own_by s (Some w)
-unlocked_other s None f w other = refl
-unlocked_other s (Some u) f w other =
-    ap (λ l. own_of (holds s.opening w s.trace) l (counts_of w s.counts))
-    (rows-kept reader any_read w (λ r. not (is_read_of u f r)) (λ x own. rw (apart u w x.unit (λ e. other (ap Some e)) own) refl) s.reads)
+pub unlocked_other : (s : UnitsState) (u : ℕ) (f : Bytes) (w : ℕ) → u ≢ w → own_by (after_unlock s u f) (Some w) ≡ own_by s (Some w)
+unlocked_other s u f w other =
+    ap (λ l. own_of (done s.opening w s.trace) l (counts_of w s.counts))
+    (rows-kept reader any_read w (λ r. not (is_read_of u f r)) (λ x own. rw (apart u w x.unit other own) refl) s.reads)
 
 pub ended_other : (s : UnitsState) (o : Option ℕ) (outcome : UnitState) (w : ℕ) → (o ≡ Some w → ⊥) → own_by (units_after s o outcome) (Some w) ≡ own_by s (Some w)
 ended_other s None outcome w other = refl
 ended_other s (Some u) outcome w other =
-    let differ : u ≢ w = λ e. other (ap Some e) in
-    same_parts
-    (holds s.opening w s.trace) (holds s.opening w s.trace)
-    (reads_of w (filter (λ r. not (r.unit == u)) s.reads)) (reads_of w s.reads)
-    (counts_of w (filter (λ c. not (c.unit == u)) s.counts)) (counts_of w s.counts) refl
-    (rows-kept reader any_read w (λ r. not (r.unit == u)) (λ x own. ap not (apart u w x.unit differ own)) s.reads)
-    (rows-kept counter any_count w (λ c. not (c.unit == u)) (λ c own. ap not (apart u w c.unit differ own)) s.counts)
+    λ i. own_of (done s.opening w s.trace)
+    (rows-kept reader any_read w (λ r. not (r.unit == u)) (λ x own. ap not (apart u w x.unit (λ e. other (ap Some e)) own)) s.reads i)
+    (rows-kept counter any_count w (λ c. not (c.unit == u)) (λ c own. ap not (apart u w c.unit (λ e. other (ap Some e)) own)) s.counts i)
 
 pub item_read_own : (s : UnitsState) (q : Bytes) (item : ℕ) (o : Option ℕ) → own_by (after_ts_reading s q item) o ≡ own_by s o
 item_read_own s q item None = refl

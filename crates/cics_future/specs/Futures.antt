@@ -1,17 +1,16 @@
 -- Two regions that have the same future: what the tasks of the one are told from now on, those of
 -- the other are told too, whatever the numbers of their units are, and however their files and
 -- queues came to hold what they hold.
-use Rattle.std.specs.Prelude.{◌≡◌, ℕ, ◌==◌, Bool, true, false, ◌&&◌, if◌then◌else◌, Option, Some, None, option_map, filter, map, flat_map, nat_lt, List, [], ◌∷◌}
+use Rattle.std.specs.Prelude.{◌≡◌, ℕ, ◌==◌, Bool, true, false, ◌&&◌, if◌then◌else◌, Option, Some, None, option_map, filter, map, nat_lt, List, [], ◌∷◌}
 use Rattle.std.specs.List.{list_any}
 use Rattle.cics_names.specs.Keyed.{Bytes, is_below}
-use Rattle.cics_history.specs.declared.resources.Resource.{Resource}
+use Rattle.cics_history.specs.declared.ops.Op.{Op}
 use Rattle.cics_history.specs.declared.ops.UnitState.TheVariants.{BackedOut}
 use Rattle.cics_history.specs.State.{UnitsState, UpdateRead, EnqCount, Store}
 use Rattle.cics_history.specs.Openings.{IsOpeningInOrder}
 use Rattle.cics_history.specs.Headline.{outcome_of, is_open}
-use Rattle.cics_history.specs.Holding.{held_by_entry}
 use Rattle.cics_history.specs.Isolation.{Outcomes, store_by, IsSound}
-use Rattle.cics_history.specs.Serial.{IsInOrder}
+use Rattle.cics_history.specs.Serial.{done_by, IsInOrder}
 use Rattle.cics_machine.specs.Machine.{Machine, Task, label_of, with_waiting}
 use Rattle.cics_machine.specs.Blockers.{unit_of}
 use Rattle.cics_machine.specs.KeptTasks.{AreTasksKept}
@@ -38,17 +37,18 @@ counter c = c.unit
 abbrev pub any_count : EnqCount → EnqCount
 any_count c = record { value = c.value; unit = 0; count = c.count }
 
--- what an open unit has: what its commands hold, its update reads, and its counts
+-- what an open unit has: what it did to recoverable files and queues, in its order, its update reads,
+-- and its counts
 pub record Own : Type 0 where
-  pub held : List Resource
+  pub ops : List Op
   pub reads : List UpdateRead
   pub counts : List EnqCount
 
 -- what a unit has; without a unit there is nothing
 abbrev pub own_by : UnitsState → Option ℕ → Own
-own_by s None = record { held = []; reads = []; counts = [] }
+own_by s None = record { ops = []; reads = []; counts = [] }
 own_by s (Some u) = record {
-  held = flat_map (held_by_entry s.opening u) s.trace;
+  ops = map (λ e. e.op) (done_by s.opening s.trace u);
   reads = rows_of reader any_read u s.reads;
   counts = rows_of counter any_count u s.counts;
 }
