@@ -42,8 +42,8 @@ use Rattle.cics_machine.proofs.OwnedUnits.{owned_executed, owned_enqueued, owned
 use Rattle.cics_machine.proofs.OtherUnits.{begun, acting_other, item_read_is}
 use Rattle.cics_machine.proofs.TaskPlaces.{place_of_task, task_at-replaced, replaced-set, set_same}
 use Rattle.cics_future.specs.Futures.{Own, own, own_by, unnumbered, ending, store_if, AreRising, is_earlier, is_lower, AreUnitsSteady, IsSteady, HaveSameFuture}
-use Rattle.cics_future.proofs.Rows.{rising-filter}
-use Rattle.cics_future.proofs.Owning.{own_entered, entered_own, entered_other, own_counted, counted_own, counted_other, own_uncounted, dequeued_own, dequeued_other, own_unlocked, unlocked_own, unlocked_other, ended_other, item_read_own, reads_after-rising, counted-rising, uncounted-rising}
+use Rattle.cics_future.proofs.Rows.{rising-filter, reads_after-rising, counted-rising, uncounted-rising}
+use Rattle.cics_future.proofs.Owning.{own_entered, entered_own, entered_other, own_counted, counted_own, counted_other, own_uncounted, dequeued_own, dequeued_other, own_unlocked, unlocked_own, unlocked_other, ended_other, item_read_own}
 use Rattle.cics_future.proofs.Labels.{both, unit_is, AreMates, own_mates, open_of, live_at, live_of, label_at, label_of_own, told_by_label, label_kept}
 use Rattle.cics_future.proofs.Blocking.{same_endings, same_if_open}
 
@@ -492,7 +492,7 @@ module _ (m n : Machine) (t u : Task) (acting : AreActing m n t u) where
             counts = uncounted-rising x value k.units.counts steady.units.counts;
           })
           (rw has at (kept_dequeued (with_waiting k []) at.0 z steady.tasks at.1 refl value)) (owned_dequeued k (Some x) value steady.owned) refl refl refl
-          (λ w other. dequeued_other k.units x value w (λ e. other (has ∙ ap Some e))) (rw has (dequeued_own k.units x value steady.units.counts)) refl
+          (λ w other. dequeued_other k.units x value w (λ e. other (has ∙ ap Some e))) (rw has (dequeued_own k.units x value)) refl
 
   pub acting_item_read : (q : Bytes) (item : ℕ) → AreActing (with_units m (after_ts_reading m.units q item)) (with_units n (after_ts_reading n.units q item)) t u
   acting_item_read q item =

@@ -1,270 +1,27 @@
 -- What an open unit has after each step of the units: the unit that acts has what the step gives
 -- it, the others what they had.
-use Rattle.std.proofs.Common.{◌≡◌, ◌≢◌, ℕ, ◌<◌, ◌≤◌, ◌+◌, ◌-◌, ◌==◌, Bool, true, false, not, ◌&&◌, ◌||◌, cond, Option, Some, None, List, [], ◌∷◌, ◌++◌, length, ◌⊎◌, inl, inr, refl, ap, sym, ◌∙◌, arith}
-use Rattle.std.specs.Prelude.{if◌then◌else◌, filter, map, flat_map, nat_lt}
+use Rattle.std.proofs.Common.{◌≡◌, ◌≢◌, ℕ, ◌<◌, ◌==◌, true, not, ◌&&◌, Option, Some, None, List, [], ◌∷◌, ◌++◌, length, inl, inr, refl, ap, ◌∙◌, arith}
+use Rattle.std.specs.Prelude.{if◌then◌else◌, filter, map, flat_map}
 use Rattle.std.specs.List.{list_any}
-use Rattle.std.specs.Ordering.{is_lt, ordering_reverse}
-use Rattle.std.specs.declared.cmp.Ordering.{Ordering}
-use Rattle.std.specs.declared.cmp.Ordering.TheVariants.{Less, Equal, Greater}
-use Rattle.std.specs.Cmp.Lexicographic.{nat_list_cmp_total}
-use Rattle.std.proofs.lemmas.Bool.{true≢false, false≢true, cases_Bool, false_from_ne_true, true_from_ne_false, eqb-true, eqb-false, eq-eqb, ne_eqb, ltb-true, ltb-false, le-ltb, or_cases, or_parts, and_parts}
+use Rattle.std.proofs.lemmas.Bool.{cases_Bool, false_from_ne_true, eq-eqb, ne_eqb}
 use Rattle.std.proofs.lemmas.List.{append-nil}
-use Rattle.cics_names.specs.Keyed.{Bytes, bytes_cmp, is_same, is_below}
-use Rattle.cics_names.specs.KeyedLaws.{is_same-eq}
-use Rattle.cics_names.specs.declared.conditions.Condition.{Condition}
-use Rattle.cics_ksds.specs.Prefixes.{has_prefix}
+use Rattle.cics_names.specs.Keyed.{Bytes}
 use Rattle.cics_history.specs.declared.resources.Resource.{Resource}
-use Rattle.cics_history.specs.State.{OpeningState, UnitsState, UpdateRead, EnqCount, file_recoverable}
+use Rattle.cics_history.specs.State.{OpeningState, UnitsState, UpdateRead, EnqCount}
 use Rattle.cics_history.specs.Store.{is_normal, is_recoverable}
 use Rattle.cics_history.specs.Headline.{outcome_of, is_open}
-use Rattle.cics_history.specs.Holding.{uses_of, held_by_entry, held_by_read, held_by_count, held_by, record_at, own_value}
-use Rattle.cics_history.specs.Execution.{unit_or_next, is_read_of, read_at, has_read, is_read_before, with_read, covers, opened, reads_after, entered, is_count, count_at, counted, uncounted, with_counts, after_dequeue, after_unlock, after_end, after_ts_reading}
-use Rattle.cics_history.proofs.Holders.{any_uncounted}
+use Rattle.cics_history.specs.Holding.{uses_of, held_by_entry, held_by_read, held_by_count, held_by}
+use Rattle.cics_history.specs.Execution.{unit_or_next, is_read_of, read_at, has_read, reads_after, entered, count_at, counted, uncounted, with_counts, after_dequeue, after_unlock, after_ts_reading}
 use Rattle.cics_history.specs.Isolation.{Each, IsSound}
 use Rattle.cics_history.specs.Serial.{is_done_by, done_by}
 use Rattle.cics_history.specs.declared.ops.Op.{Op}
-use Rattle.cics_history.specs.declared.ops.Op.TheVariants.{Rewrite, Delete, DeleteGeneric, ReadUpdate}
 use Rattle.cics_history.specs.declared.ops.Answer.{Answer}
 use Rattle.cics_history.specs.declared.ops.Entry.{Entry}
 use Rattle.cics_history.specs.declared.ops.UnitState.{UnitState}
 use Rattle.cics_machine.specs.Machine.{units_after}
-use Rattle.cics_machine.specs.Steps.{units_dequeued}
 use Rattle.cics_machine.proofs.OtherUnits.{item_read_is}
-use Rattle.cics_future.specs.Futures.{rows_of, reader, any_read, counter, any_count, Own, own_by, AreRising, is_earlier, is_lower}
-use Rattle.cics_future.proofs.Rows.{edited, rows-filter, rows-kept, rows-flat_map, none_begun as no_rows, edited-own, edited-other, rising-filter, rising-edited}
-
--- what is of a unit is of no other
-apart : (u v w : ℕ) → u ≢ v → (w == v) ≡ true → (w == u) ≡ false
-apart u v w other own = let same : w ≡ v = eqb-true w v own in ne_eqb w u (λ e. other (sym e ∙ same))
-
--- ---- Update reads
-
-abbrev reads_of : ℕ → List UpdateRead → List UpdateRead
-reads_of u xs = rows_of reader any_read u xs
-
--- an update read more is an edit that hits nothing
-with_read-edited : (r : UpdateRead) (xs : List UpdateRead) → with_read r xs ≡ edited (λ x. false) (λ x. []) (is_read_before r) (r ∷ []) xs
-with_read-edited r [] = refl
-with_read-edited r (x ∷ xs) = ap (λ l. cond (is_read_before r x) (r ∷ x ∷ xs) (x ∷ l)) (with_read-edited r xs)
-
--- a read that comes before one of another unit is of an earlier unit
-before_other : (r x : UpdateRead) → (x.unit == r.unit) ≡ false → is_read_before r x ≡ true → r.unit < x.unit
-before_other r x other is = elim (or_cases (nat_lt r.unit x.unit) ((r.unit == x.unit) && is_below r.file x.file) is) [
-  | inl less ↦ ltb-true r.unit x.unit less
-  | inr same ↦ absurd (eqb-false x.unit r.unit other (sym (eqb-true r.unit x.unit (and_parts (r.unit == x.unit) (is_below r.file x.file) same).0)))
-]
-
--- and behind none of a later unit
-before_not_later : (r x : UpdateRead) → is_read_before r x ≡ true → r.unit ≤ x.unit
-before_not_later r x is = elim (or_cases (nat_lt r.unit x.unit) ((r.unit == x.unit) && is_below r.file x.file) is) [
-  | inl less ↦ let lower : r.unit < x.unit = ltb-true r.unit x.unit less in omega arith
-  | inr same ↦ let equal : r.unit ≡ x.unit = eqb-true r.unit x.unit (and_parts (r.unit == x.unit) (is_below r.file x.file) same).0 in omega arith
-]
-
-with_read-own : (r : UpdateRead) (xs : List UpdateRead) → AreRising is_earlier xs → reads_of r.unit (with_read r xs) ≡ with_read (any_read r) (reads_of r.unit xs)
-with_read-own r xs rising =
-    ap (reads_of r.unit) (with_read-edited r xs)
-    ∙ (edited-own reader any_read r.unit is_earlier (λ x. false) (λ x. []) (is_read_before r) (r ∷ []) (λ x. false) (λ x. []) (is_read_before (any_read r)) (any_read r ∷ [])
-    (record {
-      hits = λ x own. refl;
-      changes = λ x. refl;
-      stops = λ x own. let same : x.unit ≡ r.unit = eqb-true x.unit r.unit own in rw (same, le-ltb r.unit r.unit (omega arith), eq-eqb r.unit r.unit refl) refl;
-      news = rw (eq-eqb r.unit r.unit refl) refl;
-      misses = λ x other. refl;
-      passed = λ x y other here own behind.
-          let less : r.unit < x.unit = before_other r x other here in
-          let same : y.unit ≡ r.unit = eqb-true y.unit r.unit own in
-          let off : x.unit ≤ y.unit = ltb-false y.unit x.unit behind in absurd (omega (arith, less, same, off));
-    }) xs rising
-    ∙ sym (with_read-edited (any_read r) (reads_of r.unit xs)))
-
-with_read-rising : (r : UpdateRead) (xs : List UpdateRead) → AreRising is_earlier xs → AreRising is_earlier (with_read r xs)
-with_read-rising r xs rising =
-    rw (with_read-edited r xs) (rising-edited is_earlier (λ x. false) (λ x. []) (is_read_before r) r
-    (record {
-      changed = λ x ys hit order. absurd (false≢true hit);
-      lower = λ x z above. refl;
-      ahead = λ x here. let low : r.unit ≤ x.unit = before_not_later r x here in le-ltb x.unit r.unit low;
-      behind = λ x on. (or_parts (nat_lt r.unit x.unit) ((r.unit == x.unit) && is_below r.file x.file) on).0;
-      further = λ x y here above.
-          let low : r.unit ≤ x.unit = before_not_later r x here in
-          let high : x.unit ≤ y.unit = ltb-false y.unit x.unit above in le-ltb y.unit r.unit (omega (arith, low, high));
-    }) xs rising)
-
--- whether a command covers an update read, by whether that is its unit's
-abbrev covers_if : Op → UpdateRead → Bool → Bool
-covers_if (Rewrite f k d) x mine = (mine && is_same x.file f) && is_same x.key k
-covers_if (Delete f k) x mine = (mine && is_same x.file f) && is_same x.key k
-covers_if (DeleteGeneric f p) x mine = (mine && is_same x.file f) && has_prefix p x.key
-covers_if _ x mine = false
-
-covers_is : (u : ℕ) (op : Op) (x : UpdateRead) → (covers u op x ≡ covers_if op x (x.unit == u)) × ((covers_if op x false ≡ false) × (covers_if op x true ≡ covers 0 op (any_read x)))
-covers_is u (Rewrite f k d) x = (refl, (refl, refl))
-covers_is u (Delete f k) x = (refl, (refl, refl))
-covers_is u (DeleteGeneric f p) x = (refl, (refl, refl))
-covers_is u _ x = (refl, (refl, refl))
-
-opened-own : (u : ℕ) (op : Op) (xs : List UpdateRead) → AreRising is_earlier xs → reads_of u (opened u op xs) ≡ opened 0 op (reads_of u xs)
-opened-own u (ReadUpdate f k) xs rising = with_read-own (record { unit = u; file = f; key = k }) xs rising
-opened-own u _ xs rising = refl
-
-opened-other : (u v : ℕ) (op : Op) → u ≢ v → (xs : List UpdateRead) → reads_of v (opened u op xs) ≡ reads_of v xs
-opened-other u v (ReadUpdate f k) other xs =
-    let r : UpdateRead = record { unit = u; file = f; key = k } in
-    ap (reads_of v) (with_read-edited r xs)
-    ∙ edited-other reader any_read v (λ x. false) (λ x. []) (is_read_before r) (r ∷ []) (λ x hit. absurd (false≢true hit)) (rw (ne_eqb u v other) refl) xs
-opened-other u v _ other xs = refl
-
-opened-rising : (u : ℕ) (op : Op) (xs : List UpdateRead) → AreRising is_earlier xs → AreRising is_earlier (opened u op xs)
-opened-rising u (ReadUpdate f k) xs rising = with_read-rising (record { unit = u; file = f; key = k }) xs rising
-opened-rising u _ xs rising = rising
-
-reads_after-own : (u : ℕ) (op : Op) (c : Condition) (xs : List UpdateRead) → AreRising is_earlier xs → reads_of u (reads_after u op c xs) ≡ reads_after 0 op c (reads_of u xs)
-reads_after-own u op c xs rising = elim (cases_Bool (is_normal c)) [
-  | inl is ↦ rw is (opened-own u op (filter (λ r. not (covers u op r)) xs) (rising-filter is_earlier (λ r. not (covers u op r)) xs rising)
-      ∙ ap (opened 0 op) (rows-filter reader any_read u (λ r. not (covers u op r)) (λ r. not (covers 0 op r))
-      (λ x own. let is = covers_is u op x in ap not (is.0 ∙ (ap (covers_if op x) own ∙ is.1.1))) xs))
-  | inr off ↦ rw off refl
-]
-
-reads_after-other : (u v : ℕ) (op : Op) (c : Condition) → u ≢ v → (xs : List UpdateRead) → reads_of v (reads_after u op c xs) ≡ reads_of v xs
-reads_after-other u v op c other xs = elim (cases_Bool (is_normal c)) [
-  | inl is ↦ rw is (opened-other u v op other (filter (λ r. not (covers u op r)) xs)
-      ∙ rows-kept reader any_read v (λ r. not (covers u op r))
-      (λ x own. let is = covers_is u op x in ap not (is.0 ∙ (ap (covers_if op x) (apart u v x.unit other own) ∙ is.1.0))) xs)
-  | inr off ↦ rw off refl
-]
-
-pub reads_after-rising : (u : ℕ) (op : Op) (c : Condition) (xs : List UpdateRead) → AreRising is_earlier xs → AreRising is_earlier (reads_after u op c xs)
-reads_after-rising u op c xs rising = elim (cases_Bool (is_normal c)) [
-  | inl is ↦ rw is (opened-rising u op (filter (λ r. not (covers u op r)) xs) (rising-filter is_earlier (λ r. not (covers u op r)) xs rising))
-  | inr off ↦ rw off rising
-]
-
--- the key that a unit has read for update in a file
-read-own : (u : ℕ) (f : Bytes) (xs : List UpdateRead) → read_at xs u f ≡ read_at (reads_of u xs) 0 f
-read-own u f [] = refl
-read-own u f (x ∷ xs) = elim (cases_Bool (x.unit == u)) [
-  | inl own ↦ rw own (ap (cond (is_same x.file f) (Some x.key)) (read-own u f xs))
-  | inr other ↦ rw other (read-own u f xs)
-]
-
--- ---- Counts
-
-abbrev counts_of : ℕ → List EnqCount → List EnqCount
-counts_of u cs = rows_of counter any_count u cs
-
--- a value that is enqueued once more
-abbrev begun : ℕ → Bytes → EnqCount
-begun u v = record { value = v; unit = u; count = 1 }
-
-abbrev once_more : ℕ → EnqCount → List EnqCount
-once_more u c = record { value = c.value; unit = u; count = c.count + 1 } ∷ []
-
--- and once less
-abbrev once_less : ℕ → EnqCount → List EnqCount
-once_less u c = if nat_lt 1 c.count then record { value = c.value; unit = u; count = c.count - 1 } ∷ [] else []
-
-counted-edited : (u : ℕ) (v : Bytes) (cs : List EnqCount) → counted cs u v ≡ edited (is_count u v) (once_more u) (λ c. is_below v c.value) (begun u v ∷ []) cs
-counted-edited u v [] = refl
-counted-edited u v (c ∷ cs) =
-    ap (λ l. cond (is_count u v c) (record { value = c.value; unit = u; count = c.count + 1 } ∷ cs) (cond (is_below v c.value) (begun u v ∷ c ∷ cs) (c ∷ l))) (counted-edited u v cs)
-
-uncounted-edited : (u : ℕ) (v : Bytes) (cs : List EnqCount) → uncounted cs u v ≡ edited (is_count u v) (once_less u) (λ c. false) [] cs
-uncounted-edited u v [] = refl
-uncounted-edited u v (c ∷ cs) = elim (cases_Bool (nat_lt 1 c.count)) [
-  | inl more ↦ rw (more, uncounted-edited u v cs) refl
-  | inr last ↦ rw (last, uncounted-edited u v cs) refl
-]
-
-below_less : (o : Ordering) → is_lt o ≡ true → o ≡ Less
-below_less Less h = refl
-below_less Equal h = absurd (false≢true h)
-below_less Greater h = absurd (false≢true h)
-
--- what isn't below a second that isn't below a third isn't below the third
-not_below : (a b c : Bytes) → is_below a b ≡ false → is_below b c ≡ false → is_below a c ≡ false
-not_below a b c h k = false_from_ne_true (is_below a c) (λ t. by t (bytes_cmp a b) refl)
-  where
-    by : is_below a c ≡ true → (o : Ordering) → bytes_cmp a b ≡ o → ⊥
-    by t Less e = true≢false (sym (ap is_lt e) ∙ h)
-    by t Equal e = true≢false (sym t ∙ (ap is_lt (nat_list_cmp_total.congr a b c e) ∙ k))
-    by t Greater e =
-        let turned : bytes_cmp b a ≡ Less = nat_list_cmp_total.antisymm b a ∙ ap ordering_reverse e in
-        true≢false (sym (ap is_lt (nat_list_cmp_total.trans b a c turned (below_less (bytes_cmp a c) t))) ∙ k)
-
--- what is below another isn't above it
-not_above : (a b : Bytes) → is_below a b ≡ true → is_below b a ≡ false
-not_above a b h = ap is_lt (nat_list_cmp_total.antisymm b a) ∙ ap (λ o. is_lt (ordering_reverse o)) (below_less (bytes_cmp a b) h)
-
-counted-own : (u : ℕ) (v : Bytes) (cs : List EnqCount) → AreRising is_lower cs → counts_of u (counted cs u v) ≡ counted (counts_of u cs) 0 v
-counted-own u v cs rising =
-    ap (counts_of u) (counted-edited u v cs)
-    ∙ (edited-own counter any_count u is_lower (is_count u v) (once_more u) (λ c. is_below v c.value) (begun u v ∷ []) (is_count 0 v) (once_more 0) (λ c. is_below v c.value) (begun 0 v ∷ [])
-    (record {
-      hits = λ c own. rw own refl;
-      changes = λ c. rw (eq-eqb u u refl) refl;
-      stops = λ c own. refl;
-      news = rw (eq-eqb u u refl) refl;
-      misses = λ c other. rw other refl;
-      passed = λ c d other here own behind.
-          let less : is_below v d.value ≡ true = true_from_ne_false (is_below v d.value) (λ off. true≢false (sym here ∙ not_below v d.value c.value off behind)) in
-          (false_from_ne_true (is_same d.value v) (λ same. true≢false (sym here ∙ (ap (λ x. is_below x c.value) (sym (is_same-eq d.value v same)) ∙ behind))), less);
-    }) cs rising
-    ∙ sym (counted-edited 0 v (counts_of u cs)))
-
-counted-other : (u w : ℕ) (v : Bytes) → u ≢ w → (cs : List EnqCount) → counts_of w (counted cs u v) ≡ counts_of w cs
-counted-other u w v other cs =
-    let differ = ne_eqb u w other in
-    ap (counts_of w) (counted-edited u v cs)
-    ∙ edited-other counter any_count w (is_count u v) (once_more u) (λ c. is_below v c.value) (begun u v ∷ [])
-    (λ c hit. (apart w u c.unit (λ e. other (sym e)) (and_parts (c.unit == u) (is_same c.value v) hit).0, rw differ refl)) (rw differ refl) cs
-
-pub counted-rising : (u : ℕ) (v : Bytes) (cs : List EnqCount) → AreRising is_lower cs → AreRising is_lower (counted cs u v)
-counted-rising u v cs rising =
-    rw (counted-edited u v cs) (rising-edited is_lower (is_count u v) (once_more u) (λ c. is_below v c.value) (begun u v)
-    (record {
-      changed = λ c ds hit order. order;
-      lower = λ c d above. rw above refl;
-      ahead = λ c here. not_above v c.value here;
-      behind = λ c on. on;
-      further = λ c d here above. not_below d.value c.value v above (not_above v c.value here);
-    }) cs rising)
-
-uncounted-own : (u : ℕ) (v : Bytes) (cs : List EnqCount) → AreRising is_lower cs → counts_of u (uncounted cs u v) ≡ uncounted (counts_of u cs) 0 v
-uncounted-own u v cs rising =
-    ap (counts_of u) (uncounted-edited u v cs)
-    ∙ (edited-own counter any_count u is_lower (is_count u v) (once_less u) (λ c. false) [] (is_count 0 v) (once_less 0) (λ c. false) []
-    (record {
-      hits = λ c own. rw own refl;
-      changes = λ c. elim (cases_Bool (nat_lt 1 c.count)) [ | inl more ↦ rw (more, eq-eqb u u refl) refl | inr last ↦ rw last refl ];
-      stops = λ c own. refl;
-      news = refl;
-      misses = λ c other. rw other refl;
-      passed = λ c d other here own behind. absurd (false≢true here);
-    }) cs rising
-    ∙ sym (uncounted-edited 0 v (counts_of u cs)))
-
-uncounted-other : (u w : ℕ) (v : Bytes) → u ≢ w → (cs : List EnqCount) → counts_of w (uncounted cs u v) ≡ counts_of w cs
-uncounted-other u w v other cs =
-    ap (counts_of w) (uncounted-edited u v cs)
-    ∙ edited-other counter any_count w (is_count u v) (once_less u) (λ c. false) []
-    (λ c hit. (apart w u c.unit (λ e. other (sym e)) (and_parts (c.unit == u) (is_same c.value v) hit).0,
-      elim (cases_Bool (nat_lt 1 c.count)) [ | inl more ↦ rw (more, ne_eqb u w other) refl | inr last ↦ rw last refl ])) refl cs
-
-pub uncounted-rising : (u : ℕ) (v : Bytes) (cs : List EnqCount) → AreRising is_lower cs → AreRising is_lower (uncounted cs u v)
-uncounted-rising u v [] rising = tt
-uncounted-rising u v (c ∷ cs) rising = elim (cases_Bool (is_count u v c)) [
-  | inl is ↦ elim (cases_Bool (nat_lt 1 c.count)) [ | inl more ↦ rw (is, more) rising | inr last ↦ rw (is, last) rising.1 ]
-  | inr off ↦ rw off (false_from_ne_true (list_any (λ d. is_lower d c) (uncounted cs u v)) (λ t. true≢false (sym (any_uncounted (λ n value. is_below value c.value) u v cs t) ∙ rising.0)), uncounted-rising u v cs rising.1)
-]
-
-count-own : (u : ℕ) (v : Bytes) (cs : List EnqCount) → count_at cs u v ≡ count_at (counts_of u cs) 0 v
-count-own u v [] = refl
-count-own u v (c ∷ cs) = elim (cases_Bool (c.unit == u)) [
-  | inl own ↦ rw own (ap (cond (is_same c.value v) c.count) (count-own u v cs))
-  | inr other ↦ rw other (count-own u v cs)
-]
+use Rattle.cics_future.specs.Futures.{reader, any_read, counter, any_count, Own, own_by, AreRising, is_earlier, is_lower}
+use Rattle.cics_future.proofs.Rows.{rows-filter, rows-kept, rows-flat_map, none_begun, apart, reads_of, reads_after-own, reads_after-other, read-own, counts_of, counted-own, counted-other, uncounted-own, uncounted-other, count-own}
 
 -- ---- What is told of a unit by what it has
 
@@ -326,8 +83,8 @@ acting_own s (Some u) sound = refl
 acting_own s None sound =
     λ i. record {
       ops = none_done s.opening next s.trace sound.known i;
-      reads = no_rows reader any_read next s.reads (false_from_ne_true (list_any (λ r. r.unit == next) s.reads) (λ t. above (sound.begun.readers next t))) i;
-      counts = no_rows counter any_count next s.counts (false_from_ne_true (list_any (λ c. c.unit == next) s.counts) (λ t. above (sound.begun.counters next t))) i;
+      reads = none_begun reader any_read next s.reads (false_from_ne_true (list_any (λ r. r.unit == next) s.reads) (λ t. above (sound.begun.readers next t))) i;
+      counts = none_begun counter any_count next s.counts (false_from_ne_true (list_any (λ c. c.unit == next) s.counts) (λ t. above (sound.begun.counters next t))) i;
     }
   where
     next : ℕ
@@ -387,8 +144,8 @@ counted_other s u v outcomes w other = ap (own_of (done s.opening w s.trace) (re
 abbrev pub own_uncounted : Bytes → Own → Own
 own_uncounted v x = own_of x.ops x.reads (uncounted x.counts 0 v)
 
-pub dequeued_own : (s : UnitsState) (u : ℕ) (v : Bytes) → AreRising is_lower s.counts → own_by (after_dequeue s u v) (Some u) ≡ own_uncounted v (own_by s (Some u))
-dequeued_own s u v rising = ap (own_of (done s.opening u s.trace) (reads_of u s.reads)) (uncounted-own u v s.counts rising)
+pub dequeued_own : (s : UnitsState) (u : ℕ) (v : Bytes) → own_by (after_dequeue s u v) (Some u) ≡ own_uncounted v (own_by s (Some u))
+dequeued_own s u v = ap (own_of (done s.opening u s.trace) (reads_of u s.reads)) (uncounted-own u v s.counts)
 
 pub dequeued_other : (s : UnitsState) (u : ℕ) (v : Bytes) (w : ℕ) → u ≢ w → own_by (after_dequeue s u v) (Some w) ≡ own_by s (Some w)
 dequeued_other s u v w other = ap (own_of (done s.opening w s.trace) (reads_of w s.reads)) (uncounted-other u w v other s.counts)

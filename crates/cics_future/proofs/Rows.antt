@@ -1,25 +1,29 @@
--- The rows of one unit among those of all: what filters and edits of all do to them.
-use Rattle.std.proofs.Common.{◌≡◌, ℕ, ◌==◌, Bool, true, false, ◌&&◌, List, [], ◌∷◌, ◌++◌, inl, inr, refl, ap, sym, ◌∙◌}
-use Rattle.std.specs.Prelude.{if◌then◌else◌, filter, map, flat_map}
+-- The rows of one unit among those of all: what filters do to them, and what a step does to update
+-- reads and counts.
+use Rattle.std.proofs.Common.{◌≡◌, ◌≢◌, ℕ, ◌<◌, ◌≤◌, ◌-◌, ◌==◌, Bool, true, false, not, ◌&&◌, cond, Option, Some, List, [], ◌∷◌, ◌++◌, inl, inr, refl, ap, sym, ◌∙◌, arith}
+use Rattle.std.specs.Prelude.{filter, map, flat_map, nat_lt}
 use Rattle.std.specs.List.{list_any}
-use Rattle.std.proofs.lemmas.Bool.{cases_Bool, or_parts, or_from}
-use Rattle.std.proofs.lemmas.List.{append-nil}
-use Rattle.cics_future.specs.Futures.{rows_of, AreRising}
-
--- The first row that is hit is changed. If a row stops the search before, or none is hit, a new one
--- is put there.
-abbrev pub edited : {X : Type 0} → (X → Bool) → (X → List X) → (X → Bool) → List X → List X → List X
-edited hit change stop new [] = new
-edited hit change stop new (x ∷ xs) =
-    if hit x then change x ++ xs else if stop x then new ++ x ∷ xs else x ∷ edited hit change stop new xs
+use Rattle.std.specs.Ordering.{is_lt, ordering_reverse}
+use Rattle.std.specs.declared.cmp.Ordering.{Ordering}
+use Rattle.std.specs.declared.cmp.Ordering.TheVariants.{Less, Equal, Greater}
+use Rattle.std.specs.Cmp.Lexicographic.{nat_list_cmp_total}
+use Rattle.std.proofs.lemmas.Bool.{true≢false, false≢true, cases_Bool, false_from_ne_true, true_from_ne_false, eqb-true, eqb-false, eq-eqb, ne_eqb, ltb-true, ltb-false, le-ltb, or_cases, or_parts, or_from, and_parts}
+use Rattle.cics_names.specs.Keyed.{Bytes, bytes_cmp, is_same, is_below}
+use Rattle.cics_names.specs.KeyedLaws.{is_same-eq}
+use Rattle.cics_names.specs.declared.conditions.Condition.{Condition}
+use Rattle.cics_ksds.specs.Prefixes.{has_prefix}
+use Rattle.cics_history.specs.State.{UpdateRead, EnqCount}
+use Rattle.cics_history.specs.Store.{is_normal}
+use Rattle.cics_history.specs.Execution.{read_at, is_read_before, with_read, covers, opened, reads_after, is_count, count_at, counted, uncounted}
+use Rattle.cics_history.specs.declared.ops.Op.{Op}
+use Rattle.cics_history.specs.declared.ops.Op.TheVariants.{Rewrite, Delete, DeleteGeneric, ReadUpdate}
+use Rattle.cics_history.proofs.Holders.{any_counted, any_uncounted}
+use Rattle.cics_future.specs.Futures.{rows_of, reader, any_read, counter, any_count, AreRising, is_earlier, is_lower}
 
 module _ {X : Type 0} (unit : X → ℕ) (bare : X → X) where
-  rows-append : (u : ℕ) (xs ys : List X) → rows_of unit bare u (xs ++ ys) ≡ rows_of unit bare u xs ++ rows_of unit bare u ys
-  rows-append u [] ys = refl
-  rows-append u (x ∷ xs) ys = elim (cases_Bool (unit x == u)) [
-    | inl own ↦ rw own (ap (λ l. bare x ∷ l) (rows-append u xs ys))
-    | inr other ↦ rw other (rows-append u xs ys)
-  ]
+  -- rows that are the same stay so behind one more
+  pub rows-ahead : (u : ℕ) (x : X) (xs ys : List X) → rows_of unit bare u xs ≡ rows_of unit bare u ys → rows_of unit bare u (x ∷ xs) ≡ rows_of unit bare u (x ∷ ys)
+  rows-ahead u x xs ys same = elim (cases_Bool (unit x == u)) [ | inl own ↦ rw own (ap (λ l. bare x ∷ l) same) | inr other ↦ rw other same ]
 
   -- a test that knows the unit's rows without its number filters them as well
   pub rows-filter : (u : ℕ) (p q : X → Bool) → ((x : X) → (unit x == u) ≡ true → p x ≡ q (bare x)) → (xs : List X) →
@@ -61,67 +65,6 @@ module _ {X : Type 0} (unit : X → ℕ) (bare : X → X) where
       let parts = or_parts (unit x == u) (list_any (λ r. unit r == u) xs) none in
       rw parts.0 (none_begun u xs parts.1)
 
-  -- an edit that hits no row of the unit, and puts none there, leaves its rows
-  pub edited-other : (u : ℕ) (hit : X → Bool) (change : X → List X) (stop : X → Bool) (new : List X) →
-      ((x : X) → hit x ≡ true → ((unit x == u) ≡ false) × (rows_of unit bare u (change x) ≡ [])) → rows_of unit bare u new ≡ [] →
-      (xs : List X) → rows_of unit bare u (edited hit change stop new xs) ≡ rows_of unit bare u xs
-  edited-other u hit change stop new hits none [] = none
-  edited-other u hit change stop new hits none (x ∷ xs) = elim (cases_Bool (hit x)) [
-    | inl is ↦ rw (is, (hits x is).0) (rows-append u (change x) xs ∙ ap (λ l. l ++ rows_of unit bare u xs) (hits x is).1)
-    | inr off ↦ elim (cases_Bool (stop x)) [
-      | inl here ↦ rw (off, here) (rows-append u new (x ∷ xs) ∙ ap (λ l. l ++ rows_of unit bare u (x ∷ xs)) none)
-      | inr on ↦ rw (off, on) (rows-append u (x ∷ []) (edited hit change stop new xs)
-          ∙ (ap (λ l. rows_of unit bare u (x ∷ []) ++ l) (edited-other u hit change stop new hits none xs)
-          ∙ sym (rows-append u (x ∷ []) xs)))
-    ]
-  ]
-
-  -- ---- An edit of the unit's own rows
-
-  -- an edit of all rows is one of the unit's rows: it hits, changes and stops at these as the other
-  -- does, it hits no others, and if another stops it, so does each of the unit's behind that one
-  pub record IsOwnEdit (u : ℕ) (before : X → X → Bool) (hit : X → Bool) (change : X → List X) (stop : X → Bool) (new : List X)
-      (hit' : X → Bool) (change' : X → List X) (stop' : X → Bool) (new' : List X) : Type 0 where
-    pub hits : (x : X) → (unit x == u) ≡ true → hit x ≡ hit' (bare x)
-    pub changes : (x : X) → rows_of unit bare u (change x) ≡ change' (bare x)
-    pub stops : (x : X) → (unit x == u) ≡ true → stop x ≡ stop' (bare x)
-    pub news : rows_of unit bare u new ≡ new'
-    pub misses : (x : X) → (unit x == u) ≡ false → hit x ≡ false
-    pub passed : (x y : X) → (unit x == u) ≡ false → stop x ≡ true → (unit y == u) ≡ true → before y x ≡ false →
-        (hit' (bare y) ≡ false) × (stop' (bare y) ≡ true)
-
-  module _ (u : ℕ) (before : X → X → Bool) (hit : X → Bool) (change : X → List X) (stop : X → Bool) (new : List X)
-      (hit' : X → Bool) (change' : X → List X) (stop' : X → Bool) (new' : List X)
-      (is : IsOwnEdit u before hit change stop new hit' change' stop' new') where
-    put_first : (x : X) → (unit x == u) ≡ false → stop x ≡ true → (ys : List X) → list_any (λ y. before y x) ys ≡ false →
-        new' ++ rows_of unit bare u ys ≡ edited hit' change' stop' new' (rows_of unit bare u ys)
-    put_first x other here [] behind = append-nil new'
-    put_first x other here (y ∷ ys) behind =
-        let parts = or_parts (before y x) (list_any (λ z. before z x) ys) behind in
-        elim (cases_Bool (unit y == u)) [
-          | inl own ↦ let stopped = is.passed x y other here own parts.0 in rw (own, stopped.0, stopped.1) refl
-          | inr differs ↦ rw differs (put_first x other here ys parts.1)
-        ]
-
-    pub edited-own : (xs : List X) → AreRising before xs →
-        rows_of unit bare u (edited hit change stop new xs) ≡ edited hit' change' stop' new' (rows_of unit bare u xs)
-    edited-own [] rising = is.news
-    edited-own (x ∷ xs) rising = elim (cases_Bool (unit x == u)) [
-      | inl own ↦ elim (cases_Bool (hit x)) [
-        | inl h ↦ rw (h, own, sym (is.hits x own) ∙ h)
-            (rows-append u (change x) xs ∙ ap (λ l. l ++ rows_of unit bare u xs) (is.changes x))
-        | inr h ↦ elim (cases_Bool (stop x)) [
-          | inl s ↦ rw (h, s) (rows-append u new (x ∷ xs) ∙ rw (own, is.news, sym (is.hits x own) ∙ h, sym (is.stops x own) ∙ s) refl)
-          | inr s ↦ rw (h, s, own, sym (is.hits x own) ∙ h, sym (is.stops x own) ∙ s) (ap (λ l. bare x ∷ l) (edited-own xs rising.1))
-        ]
-      ]
-      | inr other ↦ elim (cases_Bool (stop x)) [
-        | inl s ↦ rw (is.misses x other, s)
-            (rows-append u new (x ∷ xs) ∙ rw (other, is.news) (put_first x other s xs rising.0))
-        | inr s ↦ rw (is.misses x other, s, other) (edited-own xs rising.1)
-      ]
-    ]
-
 -- ---- The order of rows
 
 module _ {X : Type 0} (before : X → X → Bool) where
@@ -141,46 +84,247 @@ module _ {X : Type 0} (before : X → X → Bool) where
             | inr off ↦ rw off (fewer x ys parts.1)
           ]
 
-  -- an edit keeps the order if it changes no row's place, and puts the new one where it belongs
-  pub record KeepsOrder (hit : X → Bool) (change : X → List X) (stop : X → Bool) (n : X) : Type 0 where
-    pub changed : (x : X) (xs : List X) → hit x ≡ true → AreRising before (x ∷ xs) → AreRising before (change x ++ xs)
-    pub lower : (x z : X) → before x z ≡ false → list_any (λ y. before y z) (change x) ≡ false
-    pub ahead : (x : X) → stop x ≡ true → before x n ≡ false
-    pub behind : (x : X) → stop x ≡ false → before n x ≡ false
-    pub further : (x y : X) → stop x ≡ true → before y x ≡ false → before y n ≡ false
+-- what is of a unit is of no other
+pub apart : (u v w : ℕ) → u ≢ v → (w == v) ≡ true → (w == u) ≡ false
+apart u v w other own = let same : w ≡ v = eqb-true w v own in ne_eqb w u (λ e. other (sym e ∙ same))
 
-  module _ (hit : X → Bool) (change : X → List X) (stop : X → Bool) (n : X) (keeps : KeepsOrder hit change stop n) where
-    all_further : (x : X) → stop x ≡ true → (ys : List X) → list_any (λ y. before y x) ys ≡ false → list_any (λ y. before y n) ys ≡ false
-    all_further x here [] none = refl
-    all_further x here (y ∷ ys) none =
-        let parts = or_parts (before y x) (list_any (λ z. before z x) ys) none in
-        or_from _ _ (keeps.further x y here parts.0) (all_further x here ys parts.1)
+-- ---- Update reads
 
-    joined : (z : X) (xs ys : List X) → list_any (λ y. before y z) xs ≡ false → list_any (λ y. before y z) ys ≡ false →
-        list_any (λ y. before y z) (xs ++ ys) ≡ false
-    joined z [] ys none rest = rest
-    joined z (x ∷ xs) ys none rest =
-        let parts = or_parts (before x z) (list_any (λ y. before y z) xs) none in or_from _ _ parts.0 (joined z xs ys parts.1 rest)
+abbrev pub reads_of : ℕ → List UpdateRead → List UpdateRead
+reads_of u xs = rows_of reader any_read u xs
 
-    none_lower : (z : X) → before n z ≡ false → (xs : List X) → list_any (λ y. before y z) xs ≡ false →
-        list_any (λ y. before y z) (edited hit change stop (n ∷ []) xs) ≡ false
-    none_lower z above [] none = or_from _ _ above refl
-    none_lower z above (x ∷ xs) none =
-        let parts = or_parts (before x z) (list_any (λ y. before y z) xs) none in
-        elim (cases_Bool (hit x)) [
-          | inl h ↦ rw h (joined z (change x) xs (keeps.lower x z parts.0) parts.1)
-          | inr h ↦ elim (cases_Bool (stop x)) [
-            | inl s ↦ rw (h, s) (or_from _ _ above none)
-            | inr s ↦ rw (h, s) (or_from _ _ parts.0 (none_lower z above xs parts.1))
-          ]
-        ]
+-- a read is put before none of an earlier unit, and behind none of a later one
+before_unit : (r x : UpdateRead) → is_read_before r x ≡ true → r.unit ≤ x.unit
+before_unit r x is = elim (or_cases (nat_lt r.unit x.unit) ((r.unit == x.unit) && is_below r.file x.file) is) [
+  | inl less ↦ let lower : r.unit < x.unit = ltb-true r.unit x.unit less in omega arith
+  | inr same ↦ let equal : r.unit ≡ x.unit = eqb-true r.unit x.unit (and_parts (r.unit == x.unit) (is_below r.file x.file) same).0 in omega arith
+]
 
-    pub rising-edited : (xs : List X) → AreRising before xs → AreRising before (edited hit change stop (n ∷ []) xs)
-    rising-edited [] rising = (refl, tt)
-    rising-edited (x ∷ xs) rising = elim (cases_Bool (hit x)) [
-      | inl h ↦ rw h (keeps.changed x xs h rising)
-      | inr h ↦ elim (cases_Bool (stop x)) [
-        | inl s ↦ rw (h, s) ((or_from _ _ (keeps.ahead x s) (all_further x s xs rising.0), rising))
-        | inr s ↦ rw (h, s) ((none_lower x (keeps.behind x s) xs rising.0, rising-edited xs rising.1))
+behind_unit : (r x : UpdateRead) → is_read_before r x ≡ false → nat_lt r.unit x.unit ≡ false
+behind_unit r x off = (or_parts (nat_lt r.unit x.unit) ((r.unit == x.unit) && is_below r.file x.file) off).0
+
+-- a lower unit has no reads where none of the other is lower
+none_lower : (n : ℕ) (x : UpdateRead) (xs : List UpdateRead) → n ≤ x.unit → list_any (λ y. is_earlier y x) xs ≡ false → list_any (λ y. nat_lt y.unit n) xs ≡ false
+none_lower n x [] lower none = refl
+none_lower n x (y ∷ ys) lower none =
+    let parts = or_parts (nat_lt y.unit x.unit) (list_any (λ z. is_earlier z x) ys) none in
+    let above : x.unit ≤ y.unit = ltb-false y.unit x.unit parts.0 in
+    or_from _ _ (le-ltb y.unit n (omega (arith, lower, above))) (none_lower n x ys lower parts.1)
+
+none_own : (u : ℕ) (x : UpdateRead) (xs : List UpdateRead) → u < x.unit → list_any (λ y. is_earlier y x) xs ≡ false → reads_of u xs ≡ []
+none_own u x [] less none = refl
+none_own u x (y ∷ ys) less none =
+    let parts = or_parts (nat_lt y.unit x.unit) (list_any (λ z. is_earlier z x) ys) none in
+    let above : x.unit ≤ y.unit = ltb-false y.unit x.unit parts.0 in
+    rw (ne_eqb y.unit u (λ e. omega (arith, less, above, e))) (none_own u x ys less parts.1)
+
+with_read-own : (r : UpdateRead) (xs : List UpdateRead) → AreRising is_earlier xs → reads_of r.unit (with_read r xs) ≡ with_read (any_read r) (reads_of r.unit xs)
+with_read-own r [] rising = rw (eq-eqb r.unit r.unit refl) refl
+with_read-own r (x ∷ xs) rising = elim (cases_Bool (x.unit == r.unit)) [
+  | inl own ↦
+      let by_file : is_read_before r x ≡ is_below r.file x.file = let same : x.unit ≡ r.unit = eqb-true x.unit r.unit own in
+      rw (same, le-ltb r.unit r.unit (omega arith), eq-eqb r.unit r.unit refl) refl in
+      elim (cases_Bool (is_below r.file x.file)) [
+        | inl here ↦ rw (by_file ∙ here, own, here, eq-eqb r.unit r.unit refl) refl
+        | inr on ↦ rw (by_file ∙ on, own, on) (ap (λ l. any_read x ∷ l) (with_read-own r xs rising.1))
       ]
+  | inr other ↦ elim (cases_Bool (is_read_before r x)) [
+    | inl here ↦
+        let low : r.unit ≤ x.unit = before_unit r x here in
+        let differs : x.unit ≢ r.unit = eqb-false x.unit r.unit other in
+        let none : reads_of r.unit xs ≡ [] = none_own r.unit x xs (omega (arith, low, differs)) rising.0 in
+        rw (here, other, eq-eqb r.unit r.unit refl, none) refl
+    | inr on ↦ rw (on, other) (with_read-own r xs rising.1)
+  ]
+]
+
+with_read-other : (v : ℕ) (r : UpdateRead) → (r.unit == v) ≡ false → (xs : List UpdateRead) → reads_of v (with_read r xs) ≡ reads_of v xs
+with_read-other v r other [] = rw other refl
+with_read-other v r other (x ∷ xs) = elim (cases_Bool (is_read_before r x)) [
+  | inl here ↦ rw (here, other) refl
+  | inr on ↦ rw on (rows-ahead reader any_read v x (with_read r xs) xs (with_read-other v r other xs))
+]
+
+with_read-rising : (r : UpdateRead) (xs : List UpdateRead) → AreRising is_earlier xs → AreRising is_earlier (with_read r xs)
+with_read-rising r [] rising = (refl, tt)
+with_read-rising r (x ∷ xs) rising = elim (cases_Bool (is_read_before r x)) [
+  | inl here ↦
+      let low : r.unit ≤ x.unit = before_unit r x here in
+      rw here ((or_from _ _ (le-ltb x.unit r.unit low) (none_lower r.unit x xs low rising.0), rising))
+  | inr on ↦ rw on ((none_with x.unit xs (behind_unit r x on) rising.0, with_read-rising r xs rising.1))
+]
+  where
+    none_with : (n : ℕ) (ys : List UpdateRead) → nat_lt r.unit n ≡ false → list_any (λ y. nat_lt y.unit n) ys ≡ false → list_any (λ y. nat_lt y.unit n) (with_read r ys) ≡ false
+    none_with n [] above none = or_from _ _ above refl
+    none_with n (y ∷ ys) above none =
+        let parts = or_parts (nat_lt y.unit n) (list_any (λ z. nat_lt z.unit n) ys) none in
+        elim (cases_Bool (is_read_before r y)) [ | inl here ↦ rw here (or_from _ _ above none) | inr on ↦ rw on (or_from _ _ parts.0 (none_with n ys above parts.1)) ]
+
+-- whether a command covers an update read, by whether that is its unit's
+abbrev covers_if : Op → UpdateRead → Bool → Bool
+covers_if (Rewrite f k d) x mine = (mine && is_same x.file f) && is_same x.key k
+covers_if (Delete f k) x mine = (mine && is_same x.file f) && is_same x.key k
+covers_if (DeleteGeneric f p) x mine = (mine && is_same x.file f) && has_prefix p x.key
+covers_if _ x mine = false
+
+covers_is : (u : ℕ) (op : Op) (x : UpdateRead) → (covers u op x ≡ covers_if op x (x.unit == u)) × ((covers_if op x false ≡ false) × (covers_if op x true ≡ covers 0 op (any_read x)))
+covers_is u (Rewrite f k d) x = (refl, (refl, refl))
+covers_is u (Delete f k) x = (refl, (refl, refl))
+covers_is u (DeleteGeneric f p) x = (refl, (refl, refl))
+covers_is u _ x = (refl, (refl, refl))
+
+opened-own : (u : ℕ) (op : Op) (xs : List UpdateRead) → AreRising is_earlier xs → reads_of u (opened u op xs) ≡ opened 0 op (reads_of u xs)
+opened-own u (ReadUpdate f k) xs rising = with_read-own (record { unit = u; file = f; key = k }) xs rising
+opened-own u _ xs rising = refl
+
+opened-other : (u v : ℕ) (op : Op) → u ≢ v → (xs : List UpdateRead) → reads_of v (opened u op xs) ≡ reads_of v xs
+opened-other u v (ReadUpdate f k) other xs =
+    with_read-other v (record { unit = u; file = f; key = k }) (ne_eqb u v other) xs
+opened-other u v _ other xs = refl
+
+opened-rising : (u : ℕ) (op : Op) (xs : List UpdateRead) → AreRising is_earlier xs → AreRising is_earlier (opened u op xs)
+opened-rising u (ReadUpdate f k) xs rising = with_read-rising (record { unit = u; file = f; key = k }) xs rising
+opened-rising u _ xs rising = rising
+
+pub reads_after-own : (u : ℕ) (op : Op) (c : Condition) (xs : List UpdateRead) → AreRising is_earlier xs → reads_of u (reads_after u op c xs) ≡ reads_after 0 op c (reads_of u xs)
+reads_after-own u op c xs rising = elim (cases_Bool (is_normal c)) [
+  | inl is ↦ rw is (opened-own u op (filter (λ r. not (covers u op r)) xs) (rising-filter is_earlier (λ r. not (covers u op r)) xs rising)
+      ∙ ap (opened 0 op) (rows-filter reader any_read u (λ r. not (covers u op r)) (λ r. not (covers 0 op r))
+      (λ x own. let is = covers_is u op x in ap not (is.0 ∙ (ap (covers_if op x) own ∙ is.1.1))) xs))
+  | inr off ↦ rw off refl
+]
+
+pub reads_after-other : (u v : ℕ) (op : Op) (c : Condition) → u ≢ v → (xs : List UpdateRead) → reads_of v (reads_after u op c xs) ≡ reads_of v xs
+reads_after-other u v op c other xs = elim (cases_Bool (is_normal c)) [
+  | inl is ↦ rw is (opened-other u v op other (filter (λ r. not (covers u op r)) xs)
+      ∙ rows-kept reader any_read v (λ r. not (covers u op r))
+      (λ x own. let is = covers_is u op x in ap not (is.0 ∙ (ap (covers_if op x) (apart u v x.unit other own) ∙ is.1.0))) xs)
+  | inr off ↦ rw off refl
+]
+
+pub reads_after-rising : (u : ℕ) (op : Op) (c : Condition) (xs : List UpdateRead) → AreRising is_earlier xs → AreRising is_earlier (reads_after u op c xs)
+reads_after-rising u op c xs rising = elim (cases_Bool (is_normal c)) [
+  | inl is ↦ rw is (opened-rising u op (filter (λ r. not (covers u op r)) xs) (rising-filter is_earlier (λ r. not (covers u op r)) xs rising))
+  | inr off ↦ rw off rising
+]
+
+-- the key that a unit has read for update in a file
+pub read-own : (u : ℕ) (f : Bytes) (xs : List UpdateRead) → read_at xs u f ≡ read_at (reads_of u xs) 0 f
+read-own u f [] = refl
+read-own u f (x ∷ xs) = elim (cases_Bool (x.unit == u)) [
+  | inl own ↦ rw own (ap (cond (is_same x.file f) (Some x.key)) (read-own u f xs))
+  | inr other ↦ rw other (read-own u f xs)
+]
+
+-- ---- Counts
+
+abbrev pub counts_of : ℕ → List EnqCount → List EnqCount
+counts_of u cs = rows_of counter any_count u cs
+
+below_less : (o : Ordering) → is_lt o ≡ true → o ≡ Less
+below_less Less h = refl
+below_less Equal h = absurd (false≢true h)
+below_less Greater h = absurd (false≢true h)
+
+-- what isn't below a second that isn't below a third isn't below the third
+not_below : (a b c : Bytes) → is_below a b ≡ false → is_below b c ≡ false → is_below a c ≡ false
+not_below a b c h k = false_from_ne_true (is_below a c) (λ t. by t (bytes_cmp a b) refl)
+  where
+    by : is_below a c ≡ true → (o : Ordering) → bytes_cmp a b ≡ o → ⊥
+    by t Less e = true≢false (sym (ap is_lt e) ∙ h)
+    by t Equal e = true≢false (sym t ∙ (ap is_lt (nat_list_cmp_total.congr a b c e) ∙ k))
+    by t Greater e =
+        let turned : bytes_cmp b a ≡ Less = nat_list_cmp_total.antisymm b a ∙ ap ordering_reverse e in
+        true≢false (sym (ap is_lt (nat_list_cmp_total.trans b a c turned (below_less (bytes_cmp a c) t))) ∙ k)
+
+-- what is below another isn't above it
+not_above : (a b : Bytes) → is_below a b ≡ true → is_below b a ≡ false
+not_above a b h = ap is_lt (nat_list_cmp_total.antisymm b a) ∙ ap (λ o. is_lt (ordering_reverse o)) (below_less (bytes_cmp a b) h)
+
+-- a value that is below all others is counted first
+comes_first : (u : ℕ) (v : Bytes) (c : EnqCount) (cs : List EnqCount) → is_below v c.value ≡ true → list_any (λ d. is_lower d c) cs ≡ false →
+    record { value = v; unit = 0; count = 1 } ∷ counts_of u cs ≡ counted (counts_of u cs) 0 v
+comes_first u v c [] here behind = refl
+comes_first u v c (d ∷ ds) here behind =
+    let parts = or_parts (is_below d.value c.value) (list_any (λ e. is_lower e c) ds) behind in
+    let less : is_below v d.value ≡ true = true_from_ne_false (is_below v d.value) (λ off. true≢false (sym here ∙ not_below v d.value c.value off parts.0)) in
+    let other : is_same d.value v ≡ false = false_from_ne_true (is_same d.value v) (λ same. true≢false (sym here ∙ (ap (λ x. is_below x c.value) (sym (is_same-eq d.value v same)) ∙ parts.0))) in
+    elim (cases_Bool (d.unit == u)) [ | inl own ↦ rw (own, other, less) refl | inr differs ↦ rw differs (comes_first u v c ds here parts.1) ]
+
+pub counted-own : (u : ℕ) (v : Bytes) (cs : List EnqCount) → AreRising is_lower cs → counts_of u (counted cs u v) ≡ counted (counts_of u cs) 0 v
+counted-own u v [] rising = rw (eq-eqb u u refl) refl
+counted-own u v (c ∷ cs) rising = elim (cases_Bool (c.unit == u)) [
+  | inl own ↦ elim (cases_Bool (is_same c.value v)) [
+    | inl is ↦ rw (own, is, eq-eqb u u refl) refl
+    | inr off ↦ elim (cases_Bool (is_below v c.value)) [
+      | inl here ↦ rw (own, off, here, eq-eqb u u refl) (rw own refl)
+      | inr on ↦ rw (own, off, on) (rw own (ap (λ l. any_count c ∷ l) (counted-own u v cs rising.1)))
     ]
+  ]
+  | inr other ↦ elim (cases_Bool (is_below v c.value)) [
+    | inl here ↦ rw (other, here, eq-eqb u u refl) (rw other (comes_first u v c cs here rising.0))
+    | inr on ↦ rw (other, on) (rw other (counted-own u v cs rising.1))
+  ]
+]
+
+pub counted-other : (u w : ℕ) (v : Bytes) → u ≢ w → (cs : List EnqCount) → counts_of w (counted cs u v) ≡ counts_of w cs
+counted-other u w v other [] = rw (ne_eqb u w other) refl
+counted-other u w v other (c ∷ cs) = elim (cases_Bool (is_count u v c)) [
+  | inl is ↦ rw (is, ne_eqb u w other, apart w u c.unit (λ e. other (sym e)) (and_parts (c.unit == u) (is_same c.value v) is).0) refl
+  | inr off ↦ elim (cases_Bool (is_below v c.value)) [
+    | inl here ↦ rw (off, here, ne_eqb u w other) refl
+    | inr on ↦ rw (off, on) (rows-ahead counter any_count w c (counted cs u v) cs (counted-other u w v other cs))
+  ]
+]
+
+pub counted-rising : (u : ℕ) (v : Bytes) (cs : List EnqCount) → AreRising is_lower cs → AreRising is_lower (counted cs u v)
+counted-rising u v [] rising = (refl, tt)
+counted-rising u v (c ∷ cs) rising = elim (cases_Bool (is_count u v c)) [
+  | inl is ↦ rw is rising
+  | inr off ↦ elim (cases_Bool (is_below v c.value)) [
+    | inl here ↦ rw (off, here) ((or_from _ _ (not_above v c.value here) (further cs rising.0 here), rising))
+    | inr on ↦ rw (off, on) ((false_from_ne_true (list_any (λ d. is_lower d c) (counted cs u v)) (λ t. elim (any_counted (λ n value. is_below value c.value) u v cs t) [
+        | inl old ↦ true≢false (sym old ∙ rising.0)
+        | inr new ↦ true≢false (sym new ∙ on)
+      ]), counted-rising u v cs rising.1))
+  ]
+]
+  where
+    further : (ds : List EnqCount) → list_any (λ d. is_lower d c) ds ≡ false → is_below v c.value ≡ true → list_any (λ d. is_below d.value v) ds ≡ false
+    further [] none here = refl
+    further (d ∷ ds) none here =
+        let parts = or_parts (is_below d.value c.value) (list_any (λ e. is_lower e c) ds) none in
+        or_from _ _ (not_below d.value c.value v parts.0 (not_above v c.value here)) (further ds parts.1 here)
+
+pub uncounted-own : (u : ℕ) (v : Bytes) (cs : List EnqCount) → counts_of u (uncounted cs u v) ≡ uncounted (counts_of u cs) 0 v
+uncounted-own u v [] = refl
+uncounted-own u v (c ∷ cs) = elim (cases_Bool (c.unit == u)) [
+  | inr other ↦ rw other (rw other (uncounted-own u v cs))
+  | inl own ↦ elim (cases_Bool (is_same c.value v)) [
+    | inr off ↦ rw (own, off) (rw own (ap (λ l. any_count c ∷ l) (uncounted-own u v cs)))
+    | inl is ↦ elim (cases_Bool (nat_lt 1 c.count)) [ | inl more ↦ rw (own, is, more, eq-eqb u u refl) refl | inr last ↦ rw (own, is, last) refl ]
+  ]
+]
+
+pub uncounted-other : (u w : ℕ) (v : Bytes) → u ≢ w → (cs : List EnqCount) → counts_of w (uncounted cs u v) ≡ counts_of w cs
+uncounted-other u w v other [] = refl
+uncounted-other u w v other (c ∷ cs) = elim (cases_Bool (is_count u v c)) [
+  | inr off ↦ rw off (rows-ahead counter any_count w c (uncounted cs u v) cs (uncounted-other u w v other cs))
+  | inl is ↦
+      let theirs = apart w u c.unit (λ e. other (sym e)) (and_parts (c.unit == u) (is_same c.value v) is).0 in
+      elim (cases_Bool (nat_lt 1 c.count)) [ | inl more ↦ rw (is, more, ne_eqb u w other, theirs) refl | inr last ↦ rw (is, last, theirs) refl ]
+]
+
+pub uncounted-rising : (u : ℕ) (v : Bytes) (cs : List EnqCount) → AreRising is_lower cs → AreRising is_lower (uncounted cs u v)
+uncounted-rising u v [] rising = tt
+uncounted-rising u v (c ∷ cs) rising = elim (cases_Bool (is_count u v c)) [
+  | inl is ↦ elim (cases_Bool (nat_lt 1 c.count)) [ | inl more ↦ rw (is, more) rising | inr last ↦ rw (is, last) rising.1 ]
+  | inr off ↦ rw off (false_from_ne_true (list_any (λ d. is_lower d c) (uncounted cs u v)) (λ t. true≢false (sym (any_uncounted (λ n value. is_below value c.value) u v cs t) ∙ rising.0)), uncounted-rising u v cs rising.1)
+]
+
+pub count-own : (u : ℕ) (v : Bytes) (cs : List EnqCount) → count_at cs u v ≡ count_at (counts_of u cs) 0 v
+count-own u v [] = refl
+count-own u v (c ∷ cs) = elim (cases_Bool (c.unit == u)) [
+  | inl own ↦ rw own (ap (cond (is_same c.value v) c.count) (count-own u v cs))
+  | inr other ↦ rw other (count-own u v cs)
+]
