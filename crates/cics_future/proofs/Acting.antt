@@ -44,7 +44,7 @@ use Rattle.cics_machine.proofs.TaskPlaces.{place_of_task, task_at-replaced, repl
 use Rattle.cics_future.specs.Futures.{Own, own, own_by, unnumbered, ending, store_if, AreRising, is_earlier, is_lower, AreUnitsSteady, IsSteady, HaveSameFuture}
 use Rattle.cics_future.proofs.Rows.{rising-filter, reads_after-rising, counted-rising, uncounted-rising}
 use Rattle.cics_future.proofs.Owning.{own_entered, entered_own, entered_other, own_counted, counted_own, counted_other, own_uncounted, dequeued_own, dequeued_other, own_unlocked, unlocked_own, unlocked_other, ended_other, item_read_own}
-use Rattle.cics_future.proofs.Labels.{both, unit_is, AreMates, own_mates, open_of, live_at, live_of, label_at, label_of_own, told_by_label, label_kept}
+use Rattle.cics_future.proofs.Labels.{both, live_open, unit_is, AreMates, own_mates, open_of, live_at, live_of, label_at, label_of_own, told_by_label, label_kept}
 use Rattle.cics_future.proofs.Blocking.{same_endings, same_if_open}
 
 -- ---- The store as it stands
@@ -392,8 +392,7 @@ module _ (m : Machine) (steady : IsSteady m) (t : Task) (there : task_at m.tasks
         (λ u live. rw (told_by_label m steady t there u live, outcome_after t.unit u (begun m.units u live)) (elim (cases_Bool (is_unit t.unit u)) [
           | inl is ↦ rw (is, closed) (known outcome closed (outcome_of m.units.outcomes u) (open_of m steady t there u (unit_is t.unit u is)))
           | inr off ↦
-              let stands : is_open (outcome_of m.units.outcomes u) ≡ true = (and_parts _ _ live).1 in
-              rw (off, stands, label_kept m.tasks t (closed_task has_ended) u there refl (sym off)) refl
+              rw (off, live_open m.units u live, label_kept m.tasks t (closed_task has_ended) u there refl (sym off)) refl
         ]))))
       where
         known : (outcome : UnitState) → is_open outcome ≡ false → (o : UnitState) → is_open o ≡ true → is_backed_out (if is_backed_out outcome then BackedOut else o) ≡ is_backed_out outcome

@@ -40,7 +40,7 @@ use Rattle.cics_waits.specs.Notes.{is_unit}
 use Rattle.cics_machine.specs.Machine.{Machine, Task, label_of}
 use Rattle.cics_machine.specs.Waking.{awaited_by}
 use Rattle.cics_future.specs.Futures.{store_if, ending, IsSteady, HaveSameFuture}
-use Rattle.cics_future.proofs.Labels.{turned, AreMates, same_label, HasPartner, partner, told_by_label, other_by_label, open_of}
+use Rattle.cics_future.proofs.Labels.{turned, live_open, AreMates, same_label, HasPartner, partner, told_by_label, other_by_label, open_of}
 
 -- ---- The least of what conflicts
 
@@ -199,8 +199,7 @@ others_gone m steady t mates =
     (λ u begun closed. rw closed refl)
     (λ u live.
     let begun : u < length m.units.outcomes = ltb-true u (length m.units.outcomes) (and_parts _ _ live).0 in
-    let stands : is_open (outcome_of m.units.outcomes u) ≡ true = (and_parts _ _ live).1 in
-    rw (stands, told_by_label m steady t mates.there u live, own t.unit u begun) refl)
+    rw (live_open m.units u live, told_by_label m steady t mates.there u live, own t.unit u begun) refl)
   where
     own : (o : Option ℕ) (u : ℕ) → u < length m.units.outcomes → is_unit o u ≡ (u == unit_or_next o m.units.outcomes)
     own None u below = sym (ne_eqb u (length m.units.outcomes) (λ e. omega (arith, below, e)))

@@ -29,7 +29,7 @@ use Rattle.cics_machine.specs.Tasks.{own_unit, had_by}
 use Rattle.cics_machine.proofs.TaskPlaces.{place_of_task}
 use Rattle.cics_future.specs.Futures.{Own, own, own_by, unnumbered, ending, store_if, IsSteady, HaveSameFuture}
 use Rattle.cics_future.specs.Compared.{LookAlike}
-use Rattle.cics_future.proofs.Labels.{task_of, told_by, live_at, label_at}
+use Rattle.cics_future.proofs.Labels.{live_open, task_of, told_by, live_at, label_at}
 use Rattle.cics_future.proofs.Blocking.{same_if_open}
 
 -- ---- One cell, by the commands on it
@@ -78,8 +78,7 @@ module _ (m : Machine) (steady : IsSteady m) (gone : Bytes → Bool) (kept : Lis
             rw (is, here, is_same-eq (label_of m.tasks u) l here, stays) refl
         | inr off ↦
             let other : is_same (label_of m.tasks u) l ≡ false = told_by m steady l u live ∙ off in
-            let stands : is_open (outcome_of m.units.outcomes u) ≡ true = (and_parts _ _ live).1 in
-            rw (off, other, stands) refl
+            rw (off, other, live_open m.units u live) refl
       ])
 
   -- gives what the ending without it gives, and then what the unit did
@@ -91,7 +90,7 @@ module _ (m : Machine) (steady : IsSteady m) (gone : Bytes → Bool) (kept : Lis
           content (store_by m.units.opening (kept_too o) m.units.trace) x ≡ after_ops x (content (store_if m (but gone kept)) x) (own_by m.units o).ops
       by None has = refl
       by (Some w) has =
-          let stands : is_open (outcome_of m.units.outcomes w) ≡ true = (and_parts _ _ (live_at m steady l w has)).1 in
+          let stands = live_open m.units w (live_at m steady l w has) in
           let here = label_at m steady l w has in
           let last = steady.units.order.last w stands (ending m (but gone kept)) (kept_too (Some w))
           (λ u shut. rw shut refl)
@@ -128,8 +127,7 @@ all_labels m steady gone =
     (λ u live.
     let found = task_of m steady u live in
     let there : list_any (λ k. is_same (label_of m.tasks u) k) (labels m.tasks) ≡ true = rw found.label (in_labels m.tasks found.place found.task found.placed) in
-    let stands : is_open (outcome_of m.units.outcomes u) ≡ true = (and_parts _ _ live).1 in
-    rw (stands, there) (elim (gone (label_of m.tasks u)) as
+    rw (live_open m.units u live, there) (elim (gone (label_of m.tasks u)) as
     (λ b. is_backed_out (if b then BackedOut else outcome_of m.units.outcomes u) ≡ is_backed_out (if b || false then BackedOut else outcome_of m.units.outcomes u)) [ true ↦ refl | false ↦ refl ]))
 
 module _ (m n : Machine) (first : IsSteady m) (second : IsSteady n) (look : LookAlike m n) where

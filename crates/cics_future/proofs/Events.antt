@@ -29,7 +29,7 @@ use Rattle.cics_machine.proofs.KeptTasks.{kept_begins, kept_attached}
 use Rattle.cics_machine.proofs.OwnedUnits.{owned_begins, owned_attached}
 use Rattle.cics_machine.proofs.TaskPlaces.{IsOwn-tail, first_other, task_at-place, task_at-replaced}
 use Rattle.cics_future.specs.Futures.{own, own_by, unnumbered, ending, store_if, IsSteady, HaveSameFuture, AreSameSteps}
-use Rattle.cics_future.proofs.Labels.{both, zeroed, AreMates, same_label, both_tasks}
+use Rattle.cics_future.proofs.Labels.{both, AreMates, same_label, both_tasks}
 use Rattle.cics_future.proofs.Blocking.{told, same_awaited_by}
 use Rattle.cics_future.proofs.Acting.{AreActing, same_beside, same_waits, same_closed, same_abended}
 use Rattle.cics_future.proofs.Answering.{same_by_op, same_checked}
@@ -212,7 +212,7 @@ units_bare : (ts : List Task) → units_of ts ≡ units_of (map unnumbered ts)
 units_bare [] = refl
 units_bare (t ∷ ts) = rw (units_bare ts) (by t.unit)
   where
-    by : (o : Option ℕ) → one_if o (units_of (map unnumbered ts)) ≡ one_if (zeroed o) (units_of (map unnumbered ts))
+    by : (o : Option ℕ) → one_if o (units_of (map unnumbered ts)) ≡ one_if (option_map (λ (u : ℕ). 0) o) (units_of (map unnumbered ts))
     by None = refl
     by (Some u) = refl
 

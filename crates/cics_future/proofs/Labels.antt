@@ -5,6 +5,7 @@ use Rattle.std.proofs.lemmas.Bool.{true≢false, false≢true, cases_Bool, and_p
 use Rattle.cics_names.specs.Keyed.{Bytes, is_same}
 use Rattle.cics_names.specs.KeyedLaws.{is_same-self, is_same-eq}
 use Rattle.cics_history.specs.Headline.{outcome_of, is_open}
+use Rattle.cics_history.specs.State.{UnitsState}
 use Rattle.cics_history.specs.Holding.{held_by, is_other}
 use Rattle.cics_history.specs.Events.{is_live}
 use Rattle.cics_machine.specs.Machine.{Machine, Task, task_at, label_of, replaced}
@@ -51,6 +52,9 @@ both f g P None (Some y) same none some = absurd (none_there (g y) same)
 both f g P (Some x) None same none some = absurd (none_there (f x) (sym same))
 
 -- ---- The task of a unit
+
+pub live_open : (s : UnitsState) (u : ℕ) → is_live s u ≡ true → is_open (outcome_of s.outcomes u) ≡ true
+live_open s u live = (and_parts _ _ live).1
 
 pub unit_is : (o : Option ℕ) (u : ℕ) → is_unit o u ≡ true → o ≡ Some u
 unit_is None u e = absurd (false≢true e)
@@ -132,7 +136,7 @@ module _ (m : Machine) (steady : IsSteady m) (t : Task) (there : task_at m.tasks
   live_of u has = live_at m steady t.label u (ap (had_by own_unit) there ∙ has)
 
   pub open_of : (u : ℕ) → t.unit ≡ Some u → is_open (outcome_of m.units.outcomes u) ≡ true
-  open_of u has = (and_parts _ _ (live_of u has)).1
+  open_of u has = live_open m.units u (live_of u has)
 
   pub label_of_own : (u : ℕ) → t.unit ≡ Some u → label_of m.tasks u ≡ t.label
   label_of_own u has = label_at m steady t.label u (ap (had_by own_unit) there ∙ has)
@@ -197,47 +201,24 @@ both_tasks m n same label P none some =
     let mine = (place_of_task m.tasks label t there).2 in
     some t u (record { there = ap (task_at m.tasks) mine ∙ there; too = ap (task_at n.tasks) (sym (same_label t u bare) ∙ mine) ∙ too; bare = bare }) mine)
 
--- ---- What mates hold
+-- ---- What the units of both have
 
--- whether a task has a unit
-abbrev pub zeroed : Option ℕ → Option ℕ
-zeroed o = option_map (λ u. 0) o
+-- a label's task has a unit in both, or in neither
+unit_bare : (ts : List Task) (label : Bytes) → option_map (λ (u : ℕ). 0) (had_by own_unit (task_at ts label)) ≡ had_by own_unit (task_at (map unnumbered ts) label)
+unit_bare ts label = of_task (task_at ts label) ∙ ap (had_by own_unit) (bare-task_at ts label)
+  where
+    of_task : (o : Option Task) → option_map (λ (u : ℕ). 0) (had_by own_unit o) ≡ had_by own_unit (option_map unnumbered o)
+    of_task None = refl
+    of_task (Some t) = refl
 
-module _ (m n : Machine) (same : HaveSameFuture m n) (t u : Task) (mates : AreMates m n t u) where
-  -- their units have the same
-  pub own_mates : own_by m.units t.unit ≡ own_by n.units u.unit
-  own_mates =
-      ap (λ o. own_by m.units (had_by own_unit o)) (sym mates.there)
-      ∙ (same.alike.own t.label
-      ∙ (ap (λ l. own_by n.units (unit_of n l)) (same_label t u mates.bare) ∙ ap (λ o. own_by n.units (had_by own_unit o)) mates.too))
+-- the units of mates have the same
+pub own_mates : (m n : Machine) → HaveSameFuture m n → (t u : Task) → AreMates m n t u → own_by m.units t.unit ≡ own_by n.units u.unit
+own_mates m n same t u mates =
+    ap (λ o. own_by m.units (had_by own_unit o)) (sym mates.there)
+    ∙ (same.alike.own t.label
+    ∙ (ap (λ l. own_by n.units (unit_of n l)) (same_label t u mates.bare) ∙ ap (λ o. own_by n.units (had_by own_unit o)) mates.too))
 
-  -- so they hold the same, and are told by one label
-  pub record HasMate (x : ℕ) : Type 0 where
-    pub unit : ℕ
-    pub of_task : u.unit ≡ Some unit
-    pub held : held_by m.units x ≡ held_by n.units unit
-    pub label : label_of m.tasks x ≡ label_of n.tasks unit
-
-  pub mate_of : (x : ℕ) → t.unit ≡ Some x → HasMate x
-  mate_of x has = by u.unit refl (sym (ap zeroed has) ∙ ap (λ (y : Task). y.unit) mates.bare)
-    where
-      by : (o : Option ℕ) → u.unit ≡ o → Some 0 ≡ zeroed u.unit → HasMate x
-      by None too is = absurd (never (is ∙ ap zeroed too))
-        where
-          never : Some 0 ≡ zeroed None → ⊥
-          never e = cc
-      by (Some y) too is = record {
-        unit = y;
-        of_task = too;
-        held =
-            held_told m.units x (open_of m same.first t mates.there x has)
-            ∙ (ap (λ o. held_own o (own_by m.units (Some x))) same.alike.opening
-            ∙ (ap (held_own n.units.opening) (ap (own_by m.units) (sym has) ∙ (own_mates ∙ ap (own_by n.units) too))
-            ∙ sym (held_told n.units y (open_of n same.second u mates.too y too))));
-        label = label_of_own m same.first t mates.there x has ∙ (same_label t u mates.bare ∙ sym (label_of_own n same.second u mates.too y too));
-      }
-
--- an open unit has a mate: it holds the same and is told by the same label
+-- an open unit has a partner: it holds the same and is told by the same label
 pub record HasPartner (m n : Machine) (x : ℕ) : Type 0 where
   pub unit : ℕ
   pub live : is_live n.units unit ≡ true
@@ -246,13 +227,25 @@ pub record HasPartner (m n : Machine) (x : ℕ) : Type 0 where
 
 pub partner : (m n : Machine) → HaveSameFuture m n → (x : ℕ) → is_live m.units x ≡ true → HasPartner m n x
 partner m n same x live =
-    let found = task_of m same.first x live in
-    let there = task_at-place m.tasks found.place found.task same.first.tasks.labels found.placed in
-    both_tasks m n same found.task.label (λ o p. o ≡ Some found.task → HasPartner m n x) (λ here too is. absurd (never is))
-    (λ t u mates label is.
-    let one : t ≡ found.task = cc in
-    let mate = mate_of m n same t u mates x (ap (λ (y : Task). y.unit) one ∙ found.unit) in
-    record { unit = mate.unit; live = live_of n same.second u mates.too mate.unit mate.of_task; held = mate.held; label = mate.label }) there
+    both (λ u. 0) (λ u. 0) (λ o p. o ≡ Some x → HasPartner m n x) (unit_of m l) (unit_of n l)
+    (unit_bare m.tasks l ∙ (ap (λ ts. had_by own_unit (task_at ts l)) same.alike.tasks ∙ sym (unit_bare n.tasks l)))
+    (λ none none_too e. absurd (none_there x e)) (λ v w here too zero e. found w too) has
   where
-    never : {t : Task} → None ≡ Some t → ⊥
-    never e = cc
+    l : Bytes
+    l = label_of m.tasks x
+
+    has : unit_of m l ≡ Some x
+    has = unit_is (unit_of m l) x (sym (told_by m same.first l x live) ∙ is_same-self l)
+
+    found : (w : ℕ) → unit_of n l ≡ Some w → HasPartner m n x
+    found w too = record {
+      unit = w;
+      live = live_at n same.second l w too;
+      held =
+          held_told m.units x (live_open m.units x live)
+          ∙ ((λ i. held_own (same.alike.opening i) (owned i)) ∙ sym (held_told n.units w (live_open n.units w (live_at n same.second l w too))));
+      label = sym (label_at n same.second l w too);
+    }
+      where
+        owned : own_by m.units (Some x) ≡ own_by n.units (Some w)
+        owned = ap (own_by m.units) (sym has) ∙ (same.alike.own l ∙ ap (own_by n.units) too)

@@ -6,3 +6,4 @@ pub mod Acting
 pub mod Answering
 pub mod Events
 pub mod Comparing
+mod Examples
