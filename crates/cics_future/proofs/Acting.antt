@@ -42,7 +42,7 @@ use Rattle.cics_machine.proofs.OwnedUnits.{owned_executed, owned_enqueued, owned
 use Rattle.cics_machine.proofs.OtherUnits.{begun, acting_other, item_read_is}
 use Rattle.cics_machine.proofs.TaskPlaces.{place_of_task, task_at-replaced, replaced-set, set_same}
 use Rattle.cics_future.specs.Futures.{Own, own, own_by, unnumbered, ending, store_if, AreRising, is_earlier, is_lower, AreUnitsSteady, IsSteady, HaveSameFuture}
-use Rattle.cics_future.proofs.Rows.{rising-filter, reads_after-rising, counted-rising, uncounted-rising}
+use Rattle.cics_future.proofs.Rows.{rising-filter, reads_after-step, counted-step, uncounted-step}
 use Rattle.cics_future.proofs.Owning.{own_entered, entered_own, entered_other, own_counted, counted_own, counted_other, own_uncounted, dequeued_own, dequeued_other, own_unlocked, unlocked_own, unlocked_other, ended_other, item_read_own}
 use Rattle.cics_future.proofs.Labels.{both, live_open, unit_is, AreMates, own_mates, open_of, live_at, live_of, label_at, label_of_own, told_by_label, label_kept}
 use Rattle.cics_future.proofs.Blocking.{same_endings, same_if_open}
@@ -245,7 +245,7 @@ module _ (m : Machine) (steady : IsSteady m) (t : Task) (there : task_at m.tasks
         opening = rw free steady.units.opening;
         sound = execution-IsSound m.units t.unit o steady.units.sound task_acts;
         order = execution-IsInOrder m.units t.unit o steady.units.sound steady.units.order task_acts;
-        reads = rw free (reads_after-rising actor o answer.condition m.units.reads steady.units.reads);
+        reads = rw free ((reads_after-step actor o answer.condition m.units.reads steady.units.reads).rising);
         counts = rw free steady.units.counts;
       };
       tasks = kept_executed (with_waiting m []) place.0 t steady.tasks place.1 refl o actor answer (ap (done_of m.units t.unit o) free);
@@ -269,7 +269,7 @@ module _ (m : Machine) (steady : IsSteady m) (t : Task) (there : task_at m.tasks
     step_executed = record {
       label = refl;
       opening = rw free refl;
-      others = λ w live other. rw free (entered_other m.units t.unit o answer w (acting_other m.units t.unit w other live));
+      others = λ w live other. rw free (entered_other m.units t.unit o answer w steady.units.reads (acting_other m.units t.unit w other live));
       steady = steady_executed;
       own = rw free (entered_own m.units t.unit o answer steady.units.sound steady.units.reads);
       next = rw free refl;
@@ -290,14 +290,14 @@ module _ (m : Machine) (steady : IsSteady m) (t : Task) (there : task_at m.tasks
   step_enqueued value taken = record {
     label = refl;
     opening = rw taken refl;
-    others = λ w live other. rw taken (counted_other m.units actor value (outcomes_with t.unit m.units.outcomes) w (acting_other m.units t.unit w other live));
+    others = λ w live other. rw taken (counted_other m.units actor value (outcomes_with t.unit m.units.outcomes) w steady.units.counts (acting_other m.units t.unit w other live));
     steady = record {
       units = record {
         opening = rw taken steady.units.opening;
         sound = enqueue-IsSound m.units t.unit value steady.units.sound task_acts;
         order = enqueue-IsInOrder m.units steady.units.order t.unit value;
         reads = rw taken steady.units.reads;
-        counts = rw taken (counted-rising actor value m.units.counts steady.units.counts);
+        counts = rw taken ((counted-step actor value m.units.counts steady.units.counts).rising);
       };
       tasks = kept_enqueued (with_waiting m []) place.0 t steady.tasks place.1 refl value actor taken;
       owned = owned_enqueued m t place.0 place.1 steady.tasks.labels steady.owned value actor taken;
@@ -488,10 +488,10 @@ module _ (m n : Machine) (t u : Task) (acting : AreActing m n t u) where
             sound = dequeue-IsSound k.units x value steady.units.sound;
             order = dequeue-IsInOrder k.units steady.units.order x value;
             reads = steady.units.reads;
-            counts = uncounted-rising x value k.units.counts steady.units.counts;
+            counts = (uncounted-step x value k.units.counts steady.units.counts).rising;
           })
           (rw has at (kept_dequeued (with_waiting k []) at.0 z steady.tasks at.1 refl value)) (owned_dequeued k (Some x) value steady.owned) refl refl refl
-          (λ w other. dequeued_other k.units x value w (λ e. other (has ∙ ap Some e))) (rw has (dequeued_own k.units x value)) refl
+          (λ w other. dequeued_other k.units x value w steady.units.counts (λ e. other (has ∙ ap Some e))) (rw has (dequeued_own k.units x value steady.units.counts)) refl
 
   pub acting_item_read : (q : Bytes) (item : ℕ) → AreActing (with_units m (after_ts_reading m.units q item)) (with_units n (after_ts_reading n.units q item)) t u
   acting_item_read q item =

@@ -21,7 +21,7 @@ use Rattle.cics_history.specs.declared.ops.UnitState.{UnitState}
 use Rattle.cics_machine.specs.Machine.{units_after}
 use Rattle.cics_machine.proofs.OtherUnits.{item_read_is}
 use Rattle.cics_future.specs.Futures.{reader, any_read, counter, any_count, Own, own_by, AreRising, is_earlier, is_lower}
-use Rattle.cics_future.proofs.Rows.{rows-filter, rows-kept, rows-flat_map, none_begun, apart, reads_of, reads_after-own, reads_after-other, read-own, counts_of, counted-own, counted-other, uncounted-own, uncounted-other, count-own}
+use Rattle.cics_future.proofs.Rows.{rows-filter, rows-kept, rows-flat_map, none_begun, apart, reads_of, reads_after-step, read-own, counts_of, counted-step, uncounted-step, count-own}
 
 -- ---- What is told of a unit by what it has
 
@@ -111,7 +111,7 @@ entry s o op a = record { unit = unit_or_next o s.outcomes; op = op; answer = a 
 pub entered_own : (s : UnitsState) (o : Option ℕ) (op : Op) (a : Answer) → IsSound s → AreRising is_earlier s.reads →
     own_by (entered s o op a) (Some (unit_or_next o s.outcomes)) ≡ own_entered s.opening op a (own_by s o)
 entered_own s o op a sound rising =
-    (λ i. own_of (grown i) (reads_after-own u op a.condition s.reads rising i) (counts_of u s.counts)) ∙ ap (own_entered s.opening op a) (acting_own s o sound)
+    (λ i. own_of (grown i) ((reads_after-step u op a.condition s.reads rising).own i) (counts_of u s.counts)) ∙ ap (own_entered s.opening op a) (acting_own s o sound)
   where
     u : ℕ
     u = unit_or_next o s.outcomes
@@ -119,9 +119,9 @@ entered_own s o op a sound rising =
     grown : done s.opening u (s.trace ++ entry s o op a ∷ []) ≡ done s.opening u s.trace ++ (if is_normal a.condition && is_recoverable s.opening op then op ∷ [] else [])
     grown = done-push s.opening u s.trace (entry s o op a) ∙ rw (eq-eqb u u refl) refl
 
-pub entered_other : (s : UnitsState) (o : Option ℕ) (op : Op) (a : Answer) (w : ℕ) → unit_or_next o s.outcomes ≢ w → own_by (entered s o op a) (Some w) ≡ own_by s (Some w)
-entered_other s o op a w other =
-    λ i. own_of (same i) (reads_after-other (unit_or_next o s.outcomes) w op a.condition other s.reads i) (counts_of w s.counts)
+pub entered_other : (s : UnitsState) (o : Option ℕ) (op : Op) (a : Answer) (w : ℕ) → AreRising is_earlier s.reads → unit_or_next o s.outcomes ≢ w → own_by (entered s o op a) (Some w) ≡ own_by s (Some w)
+entered_other s o op a w rising other =
+    λ i. own_of (same i) ((reads_after-step (unit_or_next o s.outcomes) op a.condition s.reads rising).others w other i) (counts_of w s.counts)
   where
     same : done s.opening w (s.trace ++ entry s o op a ∷ []) ≡ done s.opening w s.trace
     same = done-push s.opening w s.trace (entry s o op a) ∙ rw (ne_eqb (unit_or_next o s.outcomes) w other) (append-nil (done s.opening w s.trace))
@@ -134,21 +134,21 @@ own_counted v x = own_of x.ops x.reads (counted x.counts 0 v)
 pub counted_own : (s : UnitsState) (o : Option ℕ) (v : Bytes) (outcomes : List UnitState) → IsSound s → AreRising is_lower s.counts →
     own_by (with_counts s outcomes (counted s.counts (unit_or_next o s.outcomes) v)) (Some (unit_or_next o s.outcomes)) ≡ own_counted v (own_by s o)
 counted_own s o v outcomes sound rising =
-    ap (own_of (done s.opening (unit_or_next o s.outcomes) s.trace) (reads_of (unit_or_next o s.outcomes) s.reads)) (counted-own (unit_or_next o s.outcomes) v s.counts rising)
+    ap (own_of (done s.opening (unit_or_next o s.outcomes) s.trace) (reads_of (unit_or_next o s.outcomes) s.reads)) (counted-step (unit_or_next o s.outcomes) v s.counts rising).own
     ∙ ap (own_counted v) (acting_own s o sound)
 
-pub counted_other : (s : UnitsState) (u : ℕ) (v : Bytes) (outcomes : List UnitState) (w : ℕ) → u ≢ w →
+pub counted_other : (s : UnitsState) (u : ℕ) (v : Bytes) (outcomes : List UnitState) (w : ℕ) → AreRising is_lower s.counts → u ≢ w →
     own_by (with_counts s outcomes (counted s.counts u v)) (Some w) ≡ own_by s (Some w)
-counted_other s u v outcomes w other = ap (own_of (done s.opening w s.trace) (reads_of w s.reads)) (counted-other u w v other s.counts)
+counted_other s u v outcomes w rising other = ap (own_of (done s.opening w s.trace) (reads_of w s.reads)) ((counted-step u v s.counts rising).others w other)
 
 abbrev pub own_uncounted : Bytes → Own → Own
 own_uncounted v x = own_of x.ops x.reads (uncounted x.counts 0 v)
 
-pub dequeued_own : (s : UnitsState) (u : ℕ) (v : Bytes) → own_by (after_dequeue s u v) (Some u) ≡ own_uncounted v (own_by s (Some u))
-dequeued_own s u v = ap (own_of (done s.opening u s.trace) (reads_of u s.reads)) (uncounted-own u v s.counts)
+pub dequeued_own : (s : UnitsState) (u : ℕ) (v : Bytes) → AreRising is_lower s.counts → own_by (after_dequeue s u v) (Some u) ≡ own_uncounted v (own_by s (Some u))
+dequeued_own s u v rising = ap (own_of (done s.opening u s.trace) (reads_of u s.reads)) (uncounted-step u v s.counts rising).own
 
-pub dequeued_other : (s : UnitsState) (u : ℕ) (v : Bytes) (w : ℕ) → u ≢ w → own_by (after_dequeue s u v) (Some w) ≡ own_by s (Some w)
-dequeued_other s u v w other = ap (own_of (done s.opening w s.trace) (reads_of w s.reads)) (uncounted-other u w v other s.counts)
+pub dequeued_other : (s : UnitsState) (u : ℕ) (v : Bytes) (w : ℕ) → AreRising is_lower s.counts → u ≢ w → own_by (after_dequeue s u v) (Some w) ≡ own_by s (Some w)
+dequeued_other s u v w rising other = ap (own_of (done s.opening w s.trace) (reads_of w s.reads)) ((uncounted-step u v s.counts rising).others w other)
 
 -- ---- UNLOCK, the end of a unit, READQ TS
 

@@ -118,42 +118,46 @@ none_own u x (y ∷ ys) less none =
     let above : x.unit ≤ y.unit = ltb-false y.unit x.unit parts.0 in
     rw (ne_eqb y.unit u (λ e. omega (arith, less, above, e))) (none_own u x ys less parts.1)
 
-with_read-own : (r : UpdateRead) (xs : List UpdateRead) → AreRising is_earlier xs → reads_of r.unit (with_read r xs) ≡ with_read (any_read r) (reads_of r.unit xs)
-with_read-own r [] rising = rw (eq-eqb r.unit r.unit refl) refl
-with_read-own r (x ∷ xs) rising = elim (cases_Bool (x.unit == r.unit)) [
-  | inl own ↦
-      let by_file : is_read_before r x ≡ is_below r.file x.file = let same : x.unit ≡ r.unit = eqb-true x.unit r.unit own in
-      rw (same, le-ltb r.unit r.unit (omega arith), eq-eqb r.unit r.unit refl) refl in
-      elim (cases_Bool (is_below r.file x.file)) [
-        | inl here ↦ rw (by_file ∙ here, own, here, eq-eqb r.unit r.unit refl) refl
-        | inr on ↦ rw (by_file ∙ on, own, on) (ap (λ l. any_read x ∷ l) (with_read-own r xs rising.1))
-      ]
-  | inr other ↦ elim (cases_Bool (is_read_before r x)) [
-    | inl here ↦
-        let low : r.unit ≤ x.unit = before_unit r x here in
-        let differs : x.unit ≢ r.unit = eqb-false x.unit r.unit other in
-        let none : reads_of r.unit xs ≡ [] = none_own r.unit x xs (omega (arith, low, differs)) rising.0 in
-        rw (here, other, eq-eqb r.unit r.unit refl, none) refl
-    | inr on ↦ rw (on, other) (with_read-own r xs rising.1)
-  ]
-]
+-- What a step of a unit does to all rows: the unit then has these, the others have what they had,
+-- and all are in order.
+pub record IsRowStep {X : Type 0} (unit : X → ℕ) (bare : X → X) (before : X → X → Bool) (u : ℕ) (xs ys zs : List X) : Type 0 where
+  pub own : rows_of unit bare u ys ≡ zs
+  pub others : (w : ℕ) → u ≢ w → rows_of unit bare w ys ≡ rows_of unit bare w xs
+  pub rising : AreRising before ys
 
-with_read-other : (v : ℕ) (r : UpdateRead) → (r.unit == v) ≡ false → (xs : List UpdateRead) → reads_of v (with_read r xs) ≡ reads_of v xs
-with_read-other v r other [] = rw other refl
-with_read-other v r other (x ∷ xs) = elim (cases_Bool (is_read_before r x)) [
-  | inl here ↦ rw (here, other) refl
-  | inr on ↦ rw on (rows-ahead reader any_read v x (with_read r xs) xs (with_read-other v r other xs))
-]
+abbrev pub IsReadStep : ℕ → List UpdateRead → List UpdateRead → List UpdateRead → Type 0
+IsReadStep u xs ys zs = IsRowStep reader any_read is_earlier u xs ys zs
 
-with_read-rising : (r : UpdateRead) (xs : List UpdateRead) → AreRising is_earlier xs → AreRising is_earlier (with_read r xs)
-with_read-rising r [] rising = (refl, tt)
-with_read-rising r (x ∷ xs) rising = elim (cases_Bool (is_read_before r x)) [
+with_read-step : (r : UpdateRead) (xs : List UpdateRead) → AreRising is_earlier xs → IsReadStep r.unit xs (with_read r xs) (with_read (any_read r) (reads_of r.unit xs))
+with_read-step r [] rising = record { own = rw (eq-eqb r.unit r.unit refl) refl; others = λ w other. rw (ne_eqb r.unit w other) refl; rising = (refl, tt) }
+with_read-step r (x ∷ xs) rising = elim (cases_Bool (is_read_before r x)) [
   | inl here ↦
       let low : r.unit ≤ x.unit = before_unit r x here in
-      rw here ((or_from _ _ (le-ltb x.unit r.unit low) (none_lower r.unit x xs low rising.0), rising))
-  | inr on ↦ rw on ((none_with x.unit xs (behind_unit r x on) rising.0, with_read-rising r xs rising.1))
+      record {
+        own = elim (cases_Bool (x.unit == r.unit)) [
+          | inl own ↦ rw (here, own, sym (by_file x own) ∙ here, eq-eqb r.unit r.unit refl) refl
+          | inr other ↦
+              let differs : x.unit ≢ r.unit = eqb-false x.unit r.unit other in
+              rw (here, other, eq-eqb r.unit r.unit refl, none_own r.unit x xs (omega (arith, low, differs)) rising.0) refl
+        ];
+        others = λ w other. rw (here, ne_eqb r.unit w other) refl;
+        rising = rw here ((or_from _ _ (le-ltb x.unit r.unit low) (none_lower r.unit x xs low rising.0), rising));
+      }
+  | inr on ↦
+      let rest = with_read-step r xs rising.1 in
+      record {
+        own = elim (cases_Bool (x.unit == r.unit)) [
+          | inl own ↦ rw (on, own, sym (by_file x own) ∙ on) (ap (λ l. any_read x ∷ l) rest.own)
+          | inr other ↦ rw (on, other) rest.own
+        ];
+        others = λ w other. rw on (rows-ahead reader any_read w x (with_read r xs) xs (rest.others w other));
+        rising = rw on ((none_with x.unit xs (behind_unit r x on) rising.0, rest.rising));
+      }
 ]
   where
+    by_file : (x : UpdateRead) → (x.unit == r.unit) ≡ true → is_read_before r x ≡ is_below r.file x.file
+    by_file x own = let same : x.unit ≡ r.unit = eqb-true x.unit r.unit own in rw (same, le-ltb r.unit r.unit (omega arith), eq-eqb r.unit r.unit refl) refl
+
     none_with : (n : ℕ) (ys : List UpdateRead) → nat_lt r.unit n ≡ false → list_any (λ y. nat_lt y.unit n) ys ≡ false → list_any (λ y. nat_lt y.unit n) (with_read r ys) ≡ false
     none_with n [] above none = or_from _ _ above refl
     none_with n (y ∷ ys) above none =
@@ -173,40 +177,27 @@ covers_is u (Delete f k) x = (refl, (refl, refl))
 covers_is u (DeleteGeneric f p) x = (refl, (refl, refl))
 covers_is u _ x = (refl, (refl, refl))
 
-opened-own : (u : ℕ) (op : Op) (xs : List UpdateRead) → AreRising is_earlier xs → reads_of u (opened u op xs) ≡ opened 0 op (reads_of u xs)
-opened-own u (ReadUpdate f k) xs rising = with_read-own (record { unit = u; file = f; key = k }) xs rising
-opened-own u _ xs rising = refl
+opened-step : (u : ℕ) (op : Op) (xs : List UpdateRead) → AreRising is_earlier xs → IsReadStep u xs (opened u op xs) (opened 0 op (reads_of u xs))
+opened-step u (ReadUpdate f k) xs rising = with_read-step (record { unit = u; file = f; key = k }) xs rising
+opened-step u _ xs rising = record { own = refl; others = λ w other. refl; rising = rising }
 
-opened-other : (u v : ℕ) (op : Op) → u ≢ v → (xs : List UpdateRead) → reads_of v (opened u op xs) ≡ reads_of v xs
-opened-other u v (ReadUpdate f k) other xs =
-    with_read-other v (record { unit = u; file = f; key = k }) (ne_eqb u v other) xs
-opened-other u v _ other xs = refl
-
-opened-rising : (u : ℕ) (op : Op) (xs : List UpdateRead) → AreRising is_earlier xs → AreRising is_earlier (opened u op xs)
-opened-rising u (ReadUpdate f k) xs rising = with_read-rising (record { unit = u; file = f; key = k }) xs rising
-opened-rising u _ xs rising = rising
-
-pub reads_after-own : (u : ℕ) (op : Op) (c : Condition) (xs : List UpdateRead) → AreRising is_earlier xs → reads_of u (reads_after u op c xs) ≡ reads_after 0 op c (reads_of u xs)
-reads_after-own u op c xs rising = elim (cases_Bool (is_normal c)) [
-  | inl is ↦ rw is (opened-own u op (filter (λ r. not (covers u op r)) xs) (rising-filter is_earlier (λ r. not (covers u op r)) xs rising)
-      ∙ ap (opened 0 op) (rows-filter reader any_read u (λ r. not (covers u op r)) (λ r. not (covers 0 op r))
-      (λ x own. let is = covers_is u op x in ap not (is.0 ∙ (ap (covers_if op x) own ∙ is.1.1))) xs))
-  | inr off ↦ rw off refl
+pub reads_after-step : (u : ℕ) (op : Op) (c : Condition) (xs : List UpdateRead) → AreRising is_earlier xs → IsReadStep u xs (reads_after u op c xs) (reads_after 0 op c (reads_of u xs))
+reads_after-step u op c xs rising = elim (cases_Bool (is_normal c)) [
+  | inl is ↦ rw is (record {
+      own = opening.own ∙ ap (opened 0 op) (rows-filter reader any_read u left (λ r. not (covers 0 op r))
+          (λ x own. let is = covers_is u op x in ap not (is.0 ∙ (ap (covers_if op x) own ∙ is.1.1))) xs);
+      others = λ w other. opening.others w other ∙ rows-kept reader any_read w left
+          (λ x own. let is = covers_is u op x in ap not (is.0 ∙ (ap (covers_if op x) (apart u w x.unit other own) ∙ is.1.0))) xs;
+      rising = opening.rising;
+    })
+  | inr off ↦ rw off (record { own = refl; others = λ w other. refl; rising = rising })
 ]
+  where
+    left : UpdateRead → Bool
+    left r = not (covers u op r)
 
-pub reads_after-other : (u v : ℕ) (op : Op) (c : Condition) → u ≢ v → (xs : List UpdateRead) → reads_of v (reads_after u op c xs) ≡ reads_of v xs
-reads_after-other u v op c other xs = elim (cases_Bool (is_normal c)) [
-  | inl is ↦ rw is (opened-other u v op other (filter (λ r. not (covers u op r)) xs)
-      ∙ rows-kept reader any_read v (λ r. not (covers u op r))
-      (λ x own. let is = covers_is u op x in ap not (is.0 ∙ (ap (covers_if op x) (apart u v x.unit other own) ∙ is.1.0))) xs)
-  | inr off ↦ rw off refl
-]
-
-pub reads_after-rising : (u : ℕ) (op : Op) (c : Condition) (xs : List UpdateRead) → AreRising is_earlier xs → AreRising is_earlier (reads_after u op c xs)
-reads_after-rising u op c xs rising = elim (cases_Bool (is_normal c)) [
-  | inl is ↦ rw is (opened-rising u op (filter (λ r. not (covers u op r)) xs) (rising-filter is_earlier (λ r. not (covers u op r)) xs rising))
-  | inr off ↦ rw off rising
-]
+    opening : IsReadStep u (filter left xs) (opened u op (filter left xs)) (opened 0 op (reads_of u (filter left xs)))
+    opening = opened-step u op (filter left xs) (rising-filter is_earlier left xs rising)
 
 -- the key that a unit has read for update in a file
 pub read-own : (u : ℕ) (f : Bytes) (xs : List UpdateRead) → read_at xs u f ≡ read_at (reads_of u xs) 0 f
@@ -251,42 +242,41 @@ comes_first u v c (d ∷ ds) here behind =
     let other : is_same d.value v ≡ false = false_from_ne_true (is_same d.value v) (λ same. true≢false (sym here ∙ (ap (λ x. is_below x c.value) (sym (is_same-eq d.value v same)) ∙ parts.0))) in
     elim (cases_Bool (d.unit == u)) [ | inl own ↦ rw (own, other, less) refl | inr differs ↦ rw differs (comes_first u v c ds here parts.1) ]
 
-pub counted-own : (u : ℕ) (v : Bytes) (cs : List EnqCount) → AreRising is_lower cs → counts_of u (counted cs u v) ≡ counted (counts_of u cs) 0 v
-counted-own u v [] rising = rw (eq-eqb u u refl) refl
-counted-own u v (c ∷ cs) rising = elim (cases_Bool (c.unit == u)) [
-  | inl own ↦ elim (cases_Bool (is_same c.value v)) [
-    | inl is ↦ rw (own, is, eq-eqb u u refl) refl
-    | inr off ↦ elim (cases_Bool (is_below v c.value)) [
-      | inl here ↦ rw (own, off, here, eq-eqb u u refl) (rw own refl)
-      | inr on ↦ rw (own, off, on) (rw own (ap (λ l. any_count c ∷ l) (counted-own u v cs rising.1)))
-    ]
-  ]
-  | inr other ↦ elim (cases_Bool (is_below v c.value)) [
-    | inl here ↦ rw (other, here, eq-eqb u u refl) (rw other (comes_first u v c cs here rising.0))
-    | inr on ↦ rw (other, on) (rw other (counted-own u v cs rising.1))
-  ]
-]
+abbrev pub IsCountStep : ℕ → List EnqCount → List EnqCount → List EnqCount → Type 0
+IsCountStep u cs ds es = IsRowStep counter any_count is_lower u cs ds es
 
-pub counted-other : (u w : ℕ) (v : Bytes) → u ≢ w → (cs : List EnqCount) → counts_of w (counted cs u v) ≡ counts_of w cs
-counted-other u w v other [] = rw (ne_eqb u w other) refl
-counted-other u w v other (c ∷ cs) = elim (cases_Bool (is_count u v c)) [
-  | inl is ↦ rw (is, ne_eqb u w other, apart w u c.unit (λ e. other (sym e)) (and_parts (c.unit == u) (is_same c.value v) is).0) refl
+pub counted-step : (u : ℕ) (v : Bytes) (cs : List EnqCount) → AreRising is_lower cs → IsCountStep u cs (counted cs u v) (counted (counts_of u cs) 0 v)
+counted-step u v [] rising = record { own = rw (eq-eqb u u refl) refl; others = λ w other. rw (ne_eqb u w other) refl; rising = (refl, tt) }
+counted-step u v (c ∷ cs) rising = elim (cases_Bool (is_count u v c)) [
+  | inl is ↦
+      let parts = and_parts (c.unit == u) (is_same c.value v) is in
+      record {
+        own = rw (is, parts.0, parts.1, eq-eqb u u refl) refl;
+        others = λ w other. rw (is, ne_eqb u w other, apart w u c.unit (λ e. other (sym e)) parts.0) refl;
+        rising = rw is rising;
+      }
   | inr off ↦ elim (cases_Bool (is_below v c.value)) [
-    | inl here ↦ rw (off, here, ne_eqb u w other) refl
-    | inr on ↦ rw (off, on) (rows-ahead counter any_count w c (counted cs u v) cs (counted-other u w v other cs))
-  ]
-]
-
-pub counted-rising : (u : ℕ) (v : Bytes) (cs : List EnqCount) → AreRising is_lower cs → AreRising is_lower (counted cs u v)
-counted-rising u v [] rising = (refl, tt)
-counted-rising u v (c ∷ cs) rising = elim (cases_Bool (is_count u v c)) [
-  | inl is ↦ rw is rising
-  | inr off ↦ elim (cases_Bool (is_below v c.value)) [
-    | inl here ↦ rw (off, here) ((or_from _ _ (not_above v c.value here) (further cs rising.0 here), rising))
-    | inr on ↦ rw (off, on) ((false_from_ne_true (list_any (λ d. is_lower d c) (counted cs u v)) (λ t. elim (any_counted (λ n value. is_below value c.value) u v cs t) [
-        | inl old ↦ true≢false (sym old ∙ rising.0)
-        | inr new ↦ true≢false (sym new ∙ on)
-      ]), counted-rising u v cs rising.1))
+    | inl here ↦ record {
+        own = elim (cases_Bool (c.unit == u)) [
+          | inl own ↦ rw (off, here, own, eq-eqb u u refl) (rw (ap (λ b. b && is_same c.value v) (sym own) ∙ off, here) refl)
+          | inr differs ↦ rw (off, here, eq-eqb u u refl) (rw differs (comes_first u v c cs here rising.0))
+        ];
+        others = λ w other. rw (off, here, ne_eqb u w other) refl;
+        rising = rw (off, here) ((or_from _ _ (not_above v c.value here) (further cs rising.0 here), rising));
+      }
+    | inr on ↦
+        let rest = counted-step u v cs rising.1 in
+        record {
+          own = elim (cases_Bool (c.unit == u)) [
+            | inl own ↦ rw (off, on, own) (rw (ap (λ b. b && is_same c.value v) (sym own) ∙ off, on) (ap (λ l. any_count c ∷ l) rest.own))
+            | inr differs ↦ rw (off, on) (rw differs rest.own)
+          ];
+          others = λ w other. rw (off, on) (rows-ahead counter any_count w c (counted cs u v) cs (rest.others w other));
+          rising = rw (off, on) ((false_from_ne_true (list_any (λ d. is_lower d c) (counted cs u v)) (λ t. elim (any_counted (λ n value. is_below value c.value) u v cs t) [
+            | inl old ↦ true≢false (sym old ∙ rising.0)
+            | inr new ↦ true≢false (sym new ∙ on)
+          ]), rest.rising));
+        }
   ]
 ]
   where
@@ -296,30 +286,30 @@ counted-rising u v (c ∷ cs) rising = elim (cases_Bool (is_count u v c)) [
         let parts = or_parts (is_below d.value c.value) (list_any (λ e. is_lower e c) ds) none in
         or_from _ _ (not_below d.value c.value v parts.0 (not_above v c.value here)) (further ds parts.1 here)
 
-pub uncounted-own : (u : ℕ) (v : Bytes) (cs : List EnqCount) → counts_of u (uncounted cs u v) ≡ uncounted (counts_of u cs) 0 v
-uncounted-own u v [] = refl
-uncounted-own u v (c ∷ cs) = elim (cases_Bool (c.unit == u)) [
-  | inr other ↦ rw other (rw other (uncounted-own u v cs))
-  | inl own ↦ elim (cases_Bool (is_same c.value v)) [
-    | inr off ↦ rw (own, off) (rw own (ap (λ l. any_count c ∷ l) (uncounted-own u v cs)))
-    | inl is ↦ elim (cases_Bool (nat_lt 1 c.count)) [ | inl more ↦ rw (own, is, more, eq-eqb u u refl) refl | inr last ↦ rw (own, is, last) refl ]
-  ]
-]
-
-pub uncounted-other : (u w : ℕ) (v : Bytes) → u ≢ w → (cs : List EnqCount) → counts_of w (uncounted cs u v) ≡ counts_of w cs
-uncounted-other u w v other [] = refl
-uncounted-other u w v other (c ∷ cs) = elim (cases_Bool (is_count u v c)) [
-  | inr off ↦ rw off (rows-ahead counter any_count w c (uncounted cs u v) cs (uncounted-other u w v other cs))
+pub uncounted-step : (u : ℕ) (v : Bytes) (cs : List EnqCount) → AreRising is_lower cs → IsCountStep u cs (uncounted cs u v) (uncounted (counts_of u cs) 0 v)
+uncounted-step u v [] rising = record { own = refl; others = λ w other. refl; rising = tt }
+uncounted-step u v (c ∷ cs) rising = elim (cases_Bool (is_count u v c)) [
   | inl is ↦
-      let theirs = apart w u c.unit (λ e. other (sym e)) (and_parts (c.unit == u) (is_same c.value v) is).0 in
-      elim (cases_Bool (nat_lt 1 c.count)) [ | inl more ↦ rw (is, more, ne_eqb u w other, theirs) refl | inr last ↦ rw (is, last, theirs) refl ]
-]
-
-pub uncounted-rising : (u : ℕ) (v : Bytes) (cs : List EnqCount) → AreRising is_lower cs → AreRising is_lower (uncounted cs u v)
-uncounted-rising u v [] rising = tt
-uncounted-rising u v (c ∷ cs) rising = elim (cases_Bool (is_count u v c)) [
-  | inl is ↦ elim (cases_Bool (nat_lt 1 c.count)) [ | inl more ↦ rw (is, more) rising | inr last ↦ rw (is, last) rising.1 ]
-  | inr off ↦ rw off (false_from_ne_true (list_any (λ d. is_lower d c) (uncounted cs u v)) (λ t. true≢false (sym (any_uncounted (λ n value. is_below value c.value) u v cs t) ∙ rising.0)), uncounted-rising u v cs rising.1)
+      let parts = and_parts (c.unit == u) (is_same c.value v) is in
+      let theirs : (w : ℕ) → u ≢ w → (c.unit == w) ≡ false = λ w other. apart w u c.unit (λ e. other (sym e)) parts.0 in
+      elim (cases_Bool (nat_lt 1 c.count)) [
+        | inl more ↦ record {
+            own = rw (is, more, parts.0, parts.1, eq-eqb u u refl, more) refl;
+            others = λ w other. rw (is, more, ne_eqb u w other, theirs w other) refl;
+            rising = rw (is, more) rising;
+          }
+        | inr last ↦ record { own = rw (is, last, parts.0, parts.1, last) refl; others = λ w other. rw (is, last, theirs w other) refl; rising = rw (is, last) rising.1 }
+      ]
+  | inr off ↦
+      let rest = uncounted-step u v cs rising.1 in
+      record {
+        own = elim (cases_Bool (c.unit == u)) [
+          | inl own ↦ rw (off, own) (rw (ap (λ b. b && is_same c.value v) (sym own) ∙ off) (ap (λ l. any_count c ∷ l) rest.own))
+          | inr differs ↦ rw off (rw differs rest.own)
+        ];
+        others = λ w other. rw off (rows-ahead counter any_count w c (uncounted cs u v) cs (rest.others w other));
+        rising = rw off ((false_from_ne_true (list_any (λ d. is_lower d c) (uncounted cs u v)) (λ t. true≢false (sym (any_uncounted (λ n value. is_below value c.value) u v cs t) ∙ rising.0)), rest.rising));
+      }
 ]
 
 pub count-own : (u : ℕ) (v : Bytes) (cs : List EnqCount) → count_at cs u v ≡ count_at (counts_of u cs) 0 v
