@@ -44,7 +44,7 @@ use Rattle.cics_machine.proofs.TaskPlaces.{place_of_task, task_at-replaced, repl
 use Rattle.cics_future.specs.Futures.{Own, own, own_by, unnumbered, ending, store_if, AreRising, is_earlier, is_lower, AreUnitsSteady, IsSteady, HaveSameFuture}
 use Rattle.cics_future.proofs.Rows.{rising-filter, reads_after-step, counted-step, uncounted-step}
 use Rattle.cics_future.proofs.Owning.{own_entered, entered_own, entered_other, own_counted, counted_own, counted_other, own_uncounted, dequeued_own, dequeued_other, own_unlocked, unlocked_own, unlocked_other, ended_other, item_read_own}
-use Rattle.cics_future.proofs.Labels.{both, live_open, unit_is, AreMates, own_mates, open_of, live_at, live_of, label_at, label_of_own, told_by_label, label_kept}
+use Rattle.cics_future.proofs.Labels.{both, live_open, unit_is, AreActing, own_acting, open_of, live_at, live_of, label_at, label_of_own, told_by_label, label_kept}
 use Rattle.cics_future.proofs.Blocking.{same_endings, same_if_open}
 
 -- ---- The store as it stands
@@ -153,18 +153,13 @@ own_after m steady t v s there label others l = elim (cases_Bool (is_same t.labe
 
 -- ---- Both regions
 
--- alike regions, and two tasks of one label
-pub record AreActing (m n : Machine) (t u : Task) : Type 0 where
-  pub same : HaveSameFuture m n
-  pub mates : AreMates m n t u
-
 module _ (m n : Machine) (t u : Task) (acting : AreActing m n t u) (v : Task) (s : UnitsState) (w : Task) (r : UnitsState)
     (f : OpeningState → Store → Own → Own) (g : Bool → Store → Store → Map ℕ → Map ℕ) (h : OpeningState → Bytes → ((Bytes → Bool) → Store) → (Bytes → Bool) → Store)
     (first : IsStepOf m t v s f g h) (second : IsStepOf n u w r f g h) (bare : unnumbered v ≡ unnumbered w) where
   alike_stores : (gone : Bytes → Bool) → store_if (after m s v) gone ≡ store_if (after n r w) gone
   alike_stores gone =
       first.stores gone
-      ∙ ((λ i. h (acting.same.alike.opening i) (acting.mates.bare i).label (λ k. acting.same.alike.stores k i) gone) ∙ sym (second.stores gone))
+      ∙ ((λ i. h (acting.same.alike.opening i) (acting.bare i).label (λ k. acting.same.alike.stores k i) gone) ∙ sym (second.stores gone))
 
   stepped : AreActing (after m s v) (after n r w) v w
   stepped = record {
@@ -175,9 +170,9 @@ module _ (m n : Machine) (t u : Task) (acting : AreActing m n t u) (v : Task) (s
         opening = first.opening ∙ (acting.same.alike.opening ∙ sym second.opening);
         tasks = bare-replaced m.tasks v ∙ ((λ i. replaced (acting.same.alike.tasks i) (bare i)) ∙ sym (bare-replaced n.tasks w));
         own = λ l.
-            own_after m acting.same.first t v s acting.mates.there first.label first.others l
-            ∙ ((λ i. if is_same (acting.mates.bare i).label l then owned i else acting.same.alike.own l i)
-            ∙ sym (own_after n acting.same.second u w r acting.mates.too second.label second.others l));
+            own_after m acting.same.first t v s acting.there first.label first.others l
+            ∙ ((λ i. if is_same (acting.bare i).label l then owned i else acting.same.alike.own l i)
+            ∙ sym (own_after n acting.same.second u w r acting.too second.label second.others l));
         stores = alike_stores;
         next = first.next ∙ ((λ i. g (has i) (stores i) (later i) (acting.same.alike.next i)) ∙ sym second.next);
         waiting = acting.same.alike.waiting;
@@ -185,7 +180,9 @@ module _ (m n : Machine) (t u : Task) (acting : AreActing m n t u) (v : Task) (s
         down = acting.same.alike.down;
       };
     };
-    mates = record { there = put m.tasks t v acting.mates.there first.label; too = put n.tasks u w acting.mates.too second.label; bare = bare };
+    there = put m.tasks t v acting.there first.label;
+    too = put n.tasks u w acting.too second.label;
+    bare = bare;
   }
     where
       stores : store_of m.units ≡ store_of n.units
@@ -195,14 +192,14 @@ module _ (m n : Machine) (t u : Task) (acting : AreActing m n t u) (v : Task) (s
       later = sym (store_now (after m s v)) ∙ (alike_stores (λ l. false) ∙ store_now (after n r w))
 
       owned : own_by s v.unit ≡ own_by r w.unit
-      owned = first.own ∙ ((λ i. f (acting.same.alike.opening i) (stores i) (own_mates m n acting.same t u acting.mates i)) ∙ sym second.own)
+      owned = first.own ∙ ((λ i. f (acting.same.alike.opening i) (stores i) (own_acting m n t u acting i)) ∙ sym second.own)
 
       some : (o : Option ℕ) → is_some o ≡ is_some {T = ℕ} (option_map (λ (x : ℕ). 0) o)
       some None = refl
       some (Some x) = refl
 
       has : is_some t.unit ≡ is_some u.unit
-      has = some t.unit ∙ ((λ i. is_some (acting.mates.bare i).unit) ∙ sym (some u.unit))
+      has = some t.unit ∙ ((λ i. is_some (acting.bare i).unit) ∙ sym (some u.unit))
 
 -- ---- The steps of one region
 
@@ -427,36 +424,36 @@ module _ (m n : Machine) (t u : Task) (acting : AreActing m n t u) where
   pub acting_executed : (o : Op) → awaited m.units t.unit o ≡ None → awaited n.units u.unit o ≡ None →
       AreActing (after m (after_execution m.units t.unit o) (in_unit m t)) (after n (after_execution n.units u.unit o) (in_unit n u)) (in_unit m t) (in_unit n u)
   acting_executed o free too =
-      stepped m n t u acting _ _ _ _ _ _ _ (step_executed m acting.same.first t acting.mates.there o free) (step_executed n acting.same.second u acting.mates.too o too)
-      (ap (λ (x : Task). record x { unit = Some 0 }) acting.mates.bare)
+      stepped m n t u acting _ _ _ _ _ _ _ (step_executed m acting.same.first t acting.there o free) (step_executed n acting.same.second u acting.too o too)
+      (ap (λ (x : Task). record x { unit = Some 0 }) acting.bare)
 
   pub acting_enqueued : (value : Bytes) → enqueue m.units t.unit value ≡ Taken (unit_or_next t.unit m.units.outcomes) → enqueue n.units u.unit value ≡ Taken (unit_or_next u.unit n.units.outcomes) →
       AreActing (after m (after_enqueue m.units t.unit value) (in_unit m t)) (after n (after_enqueue n.units u.unit value) (in_unit n u)) (in_unit m t) (in_unit n u)
   acting_enqueued value taken too =
-      stepped m n t u acting _ _ _ _ _ _ _ (step_enqueued m acting.same.first t acting.mates.there value taken) (step_enqueued n acting.same.second u acting.mates.too value too)
-      (ap (λ (x : Task). record x { unit = Some 0 }) acting.mates.bare)
+      stepped m n t u acting _ _ _ _ _ _ _ (step_enqueued m acting.same.first t acting.there value taken) (step_enqueued n acting.same.second u acting.too value too)
+      (ap (λ (x : Task). record x { unit = Some 0 }) acting.bare)
 
   pub acting_browses : (browses : Map Position) →
       AreActing (with_task m (with_browses t browses)) (with_task n (with_browses u browses)) (with_browses t browses) (with_browses u browses)
   acting_browses browses =
-      stepped m n t u acting _ _ _ _ _ _ _ (step_browses m acting.same.first t acting.mates.there browses) (step_browses n acting.same.second u acting.mates.too browses)
-      (ap (λ (x : Task). record x { browses = browses }) acting.mates.bare)
+      stepped m n t u acting _ _ _ _ _ _ _ (step_browses m acting.same.first t acting.there browses) (step_browses n acting.same.second u acting.too browses)
+      (ap (λ (x : Task). record x { browses = browses }) acting.bare)
 
   -- steps of the units alone
   acting_units : (s r : UnitsState) (f : OpeningState → Store → Own → Own) (g : Bool → Store → Store → Map ℕ → Map ℕ) (h : OpeningState → Bytes → ((Bytes → Bool) → Store) → (Bytes → Bool) → Store) →
       IsStepOf m t t s f g h → IsStepOf n u u r f g h → AreActing (with_units m s) (with_units n r) t u
   acting_units s r f g h first second =
-      rw (stays_there m acting.same.first t acting.mates.there, stays_there n acting.same.second u acting.mates.too) at
-      (stepped m n t u acting t s u r f g h first second acting.mates.bare)
+      rw (stays_there m acting.same.first t acting.there, stays_there n acting.same.second u acting.too) at
+      (stepped m n t u acting t s u r f g h first second acting.bare)
 
   -- of tasks that have a unit, or of none
   if_unit : (P : Option ℕ → Option ℕ → Type 0) → P None None → ((x y : ℕ) → t.unit ≡ Some x → u.unit ≡ Some y → P (Some x) (Some y)) → P t.unit u.unit
-  if_unit P none some = both (λ x. 0) (λ x. 0) P t.unit u.unit (ap (λ (x : Task). x.unit) acting.mates.bare) (λ a b. none) (λ x y a b zero. some x y a b)
+  if_unit P none some = both (λ x. 0) (λ x. 0) P t.unit u.unit (ap (λ (x : Task). x.unit) acting.bare) (λ a b. none) (λ x y a b zero. some x y a b)
 
   pub acting_unlocked : (f : Bytes) → AreActing (unlocked m t.unit f) (unlocked n u.unit f) t u
   acting_unlocked f =
       if_unit (λ o p. AreActing (unlocked m o f) (unlocked n p f) t u) acting
-      (λ x y a b. acting_units _ _ _ _ _ (step m acting.same.first t acting.mates.there x a) (step n acting.same.second u acting.mates.too y b))
+      (λ x y a b. acting_units _ _ _ _ _ (step m acting.same.first t acting.there x a) (step n acting.same.second u acting.too y b))
     where
       step : (k : Machine) (steady : IsSteady k) (z : Task) (there : task_at k.tasks z.label ≡ Some z) (x : ℕ) → z.unit ≡ Some x →
           IsStepOf k z z (after_unlock k.units x f) (λ p s x. own_unlocked f x) (λ has s later next. next) (λ p l stores. stores)
@@ -476,7 +473,7 @@ module _ (m n : Machine) (t u : Task) (acting : AreActing m n t u) where
   pub acting_dequeued : (value : Bytes) → AreActing (dequeued m t.unit value) (dequeued n u.unit value) t u
   acting_dequeued value =
       if_unit (λ o p. AreActing (dequeued m o value) (dequeued n p value) t u) acting
-      (λ x y a b. acting_units _ _ _ _ _ (step m acting.same.first t acting.mates.there x a) (step n acting.same.second u acting.mates.too y b))
+      (λ x y a b. acting_units _ _ _ _ _ (step m acting.same.first t acting.there x a) (step n acting.same.second u acting.too y b))
     where
       step : (k : Machine) (steady : IsSteady k) (z : Task) (there : task_at k.tasks z.label ≡ Some z) (x : ℕ) → z.unit ≡ Some x →
           IsStepOf k z z (after_dequeue k.units x value) (λ p s x. own_uncounted value x) (λ has s later next. next) (λ p l stores. stores)
@@ -495,7 +492,7 @@ module _ (m n : Machine) (t u : Task) (acting : AreActing m n t u) where
 
   pub acting_item_read : (q : Bytes) (item : ℕ) → AreActing (with_units m (after_ts_reading m.units q item)) (with_units n (after_ts_reading n.units q item)) t u
   acting_item_read q item =
-      acting_units _ _ _ _ _ (step m acting.same.first t acting.mates.there) (step n acting.same.second u acting.mates.too)
+      acting_units _ _ _ _ _ (step m acting.same.first t acting.there) (step n acting.same.second u acting.too)
     where
       moved : (s : UnitsState) → (after_ts_reading s q item).next ≡ cond (has_item (ts_queue (store_of s) q) item) (with_value q item s.next) s.next
       moved s = elim (cases_Bool (has_item (ts_queue (store_of s) q) item)) [ | inl is ↦ rw is refl | inr off ↦ rw off refl ]
@@ -521,10 +518,10 @@ module _ (m n : Machine) (t u : Task) (acting : AreActing m n t u) where
 
   pub same_closed : (outcome : UnitState) (has_ended : Bool) → is_open outcome ≡ false → HaveSameFuture (unit_closed m t outcome has_ended) (unit_closed n u outcome has_ended)
   same_closed outcome has_ended closed =
-      (stepped m n t u acting _ _ _ _ _ _ _ (step_closed m acting.same.first t acting.mates.there outcome has_ended closed) (step_closed n acting.same.second u acting.mates.too outcome has_ended closed)
-      (ap (λ (x : Task). record x { unit = None; browses = []; has_ended = has_ended }) acting.mates.bare)).same
+      (stepped m n t u acting _ _ _ _ _ _ _ (step_closed m acting.same.first t acting.there outcome has_ended closed) (step_closed n acting.same.second u acting.too outcome has_ended closed)
+      (ap (λ (x : Task). record x { unit = None; browses = []; has_ended = has_ended }) acting.bare)).same
 
   pub same_abended : HaveSameFuture (abended m t) (abended n u)
   same_abended =
       same_waits (unit_closed m t BackedOut true) (unit_closed n u BackedOut true) (same_closed BackedOut true refl)
-      (not_waiting m.waiting t.label) (not_waiting n.waiting u.label) (λ i. not_waiting (acting.same.alike.waiting i) (acting.mates.bare i).label)
+      (not_waiting m.waiting t.label) (not_waiting n.waiting u.label) (λ i. not_waiting (acting.same.alike.waiting i) (acting.bare i).label)

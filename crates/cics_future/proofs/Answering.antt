@@ -29,9 +29,9 @@ use Rattle.cics_machine.specs.declared.outcomes.Outcome.TheVariants.{Waiting}
 use Rattle.cics_machine.specs.declared.outcomes.Reply.{Reply}
 use Rattle.cics_future.specs.Futures.{Own, HaveSameFuture, AreSameSteps}
 use Rattle.cics_future.proofs.Owning.{read_told, count_told}
-use Rattle.cics_future.proofs.Labels.{both, same_label, own_mates}
+use Rattle.cics_future.proofs.Labels.{AreActing, both, same_label, own_acting}
 use Rattle.cics_future.proofs.Blocking.{same_blocker, same_awaited}
-use Rattle.cics_future.proofs.Acting.{same_store_now, same_waits, AreActing, acting_executed, acting_enqueued, acting_browses, acting_unlocked, acting_dequeued, acting_item_read, same_closed, same_abended}
+use Rattle.cics_future.proofs.Acting.{same_store_now, same_waits, acting_executed, acting_enqueued, acting_browses, acting_unlocked, acting_dequeued, acting_item_read, same_closed, same_abended}
 
 pub same_answered : (m n : Machine) (t u : Task) → AreActing m n t u → (resp : Bool) (r q : Reply) → r ≡ q → AreSameSteps (answered m t resp r) (answered n u resp q)
 same_answered m n t u acting true r q is = record { outcome = rw is refl; machine = acting.same }
@@ -49,16 +49,16 @@ module _ (m n : Machine) (t u : Task) (acting : AreActing m n t u) where
   stores = same_store_now m n same
 
   browses : t.browses ≡ u.browses
-  browses = ap (λ (x : Task). x.browses) acting.mates.bare
+  browses = ap (λ (x : Task). x.browses) acting.bare
 
   label : t.label ≡ u.label
-  label = same_label t u acting.mates.bare
+  label = same_label t u acting.bare
 
   -- ---- The first fault, and what is asked for
 
   same_key : (f : Bytes) → open_key m t f ≡ open_key n u f
   same_key f =
-      read_told m.units t.unit f ∙ (ap (λ (x : Own). read_at x.reads 0 f) (own_mates m n same t u acting.mates) ∙ sym (read_told n.units u.unit f))
+      read_told m.units t.unit f ∙ (ap (λ (x : Own). read_at x.reads 0 f) (own_acting m n t u acting) ∙ sym (read_told n.units u.unit f))
 
   same_fault : (verb : Verb) → fault_of m t verb ≡ fault_of n u verb
   same_fault verb = by (file_named verb)
@@ -100,7 +100,7 @@ module _ (m n : Machine) (t u : Task) (acting : AreActing m n t u) where
     executed_same o =
         both (label_of m.tasks) (label_of n.tasks)
         (λ w x. AreSameSteps (executed m t c o (done_of m.units t.unit o w)) (executed n u c o (done_of n.units u.unit o x)))
-        (awaited m.units t.unit o) (awaited n.units u.unit o) (same_awaited m n same t u acting.mates o)
+        (awaited m.units t.unit o) (awaited n.units u.unit o) (same_awaited m n t u acting o)
         (λ free too.
         same_answered _ _ _ _ (acting_executed m n t u acting o free too) c.resp
         (reply_of c.verb (apply (store_of m.units) o).answer) (reply_of c.verb (apply (store_of n.units) o).answer) (rw stores refl))
@@ -111,7 +111,7 @@ module _ (m n : Machine) (t u : Task) (acting : AreActing m n t u) where
     enqueued_same value =
         both (label_of m.tasks) (label_of n.tasks)
         (λ w x. AreSameSteps (enqueued m t c value (enq_of m.units t.unit value w)) (enqueued n u c value (enq_of n.units u.unit value x)))
-        (value_holder m.units t.unit value) (value_holder n.units u.unit value) (same_blocker m n same t u acting.mates (own_value value))
+        (value_holder m.units t.unit value) (value_holder n.units u.unit value) (same_blocker m n t u acting (own_value value))
         (λ free too. elim (cases_Bool often) [
           | inl is ↦ rw (same_often, is) (told (plain Invreq))
           | inr off ↦ rw (same_often, off) (same_answered _ _ _ _ (acting_enqueued m n t u acting value
@@ -127,7 +127,7 @@ module _ (m n : Machine) (t u : Task) (acting : AreActing m n t u) where
         same_often =
             ap (nat_le most_count)
             (count_told m.units t.unit value same.first.units.sound
-            ∙ (ap (λ (x : Own). count_at x.counts 0 value) (own_mates m n same t u acting.mates) ∙ sym (count_told n.units u.unit value same.second.units.sound)))
+            ∙ (ap (λ (x : Own). count_at x.counts 0 value) (own_acting m n t u acting) ∙ sym (count_told n.units u.unit value same.second.units.sound)))
 
     -- ---- Browses
 

@@ -37,10 +37,10 @@ use Rattle.cics_history.proofs.Holders.{held_cases, holder_begun, conflicts-join
 use Rattle.cics_history.proofs.LeastHeld.{least_held, holder_some}
 use Rattle.cics_history.proofs.Waiting.{any_more, committed-content}
 use Rattle.cics_waits.specs.Notes.{is_unit}
-use Rattle.cics_machine.specs.Machine.{Machine, Task, label_of}
+use Rattle.cics_machine.specs.Machine.{Machine, Task, task_at, label_of}
 use Rattle.cics_machine.specs.Waking.{awaited_by}
 use Rattle.cics_future.specs.Futures.{store_if, ending, IsSteady, HaveSameFuture}
-use Rattle.cics_future.proofs.Labels.{turned, live_open, AreMates, same_label, HasPartner, partner, told_by_label, other_by_label, open_of}
+use Rattle.cics_future.proofs.Labels.{turned, live_open, AreActing, same_label, partner, told_by_label, other_by_label, open_of}
 
 -- ---- The least of what conflicts
 
@@ -98,32 +98,30 @@ record HasHolder (m n : Machine) (u : Task) (x : ℕ) (p : Resource → Bool) : 
   holds : list_any p (held_by n.units unit) ≡ true
   other : is_other u.unit unit ≡ true
 
-held_there : (m n : Machine) → HaveSameFuture m n → (t u : Task) → AreMates m n t u → (x : ℕ) (p : Resource → Bool) →
+held_there : (m n : Machine) (t u : Task) → AreActing m n t u → (x : ℕ) (p : Resource → Bool) →
     list_any p (held_by m.units x) ≡ true → is_other t.unit x ≡ true → HasHolder m n u x p
-held_there m n same t u mates x p holds other =
-    let live = holder_live m same.first p x holds in
-    let mate = partner m n same x live in
+held_there m n t u acting x p holds other =
+    let live = holder_live m acting.same.first p x holds in
+    let mate = partner m n acting.same x live in
     record {
       unit = mate.unit;
       label = mate.label;
       holds = ap (list_any p) (sym mate.held) ∙ holds;
       other =
-          other_by_label n same.second u mates.too mate.unit mate.live
-          ∙ (ap (λ l. not (is_same l u.label)) (sym mate.label)
-          ∙ (ap (λ l. not (is_same (label_of m.tasks x) l)) (sym (same_label t u mates.bare))
-          ∙ (sym (other_by_label m same.first t mates.there x live) ∙ other)));
+          other_by_label n acting.same.second u acting.too mate.unit mate.live
+          ∙ ((λ i. not (is_same (sym mate.label i) (sym acting.bare i).label)) ∙ (sym (other_by_label m acting.same.first t acting.there x live) ∙ other));
     }
 
--- mates the other way round
-mates_turned : {m n : Machine} {t u : Task} → AreMates m n t u → AreMates n m u t
-mates_turned mates = record { there = mates.too; too = mates.there; bare = sym mates.bare }
+-- the other way round
+acting_turned : {m n : Machine} {t u : Task} → AreActing m n t u → AreActing n m u t
+acting_turned acting = record { same = turned acting.same; there = acting.too; too = acting.there; bare = sym acting.bare }
 
-module _ (m n : Machine) (same : HaveSameFuture m n) (t u : Task) (mates : AreMates m n t u) where
+module _ (m n : Machine) (t u : Task) (acting : AreActing m n t u) where
   -- both find the unit of the same task
   same_least : (r : Resource) (e d : Resource × ℕ) → IsLeastHeld m.units t.unit r e → IsLeastHeld n.units u.unit r d → label_of m.tasks e.1 ≡ label_of n.tasks d.1
   same_least r e d first second =
-      let there = held_there m n same t u mates e.1 (is_one e.0) first.holds first.other in
-      let back = held_there n m (turned same) u t (mates_turned mates) d.1 (is_one d.0) second.holds second.other in
+      let there = held_there m n t u acting e.1 (is_one e.0) first.holds first.other in
+      let back = held_there n m u t (acting_turned acting) d.1 (is_one d.0) second.holds second.other in
       let bytes : bytes_in e.0 ≡ bytes_in d.0 =
       neither_below (bytes_in e.0) (bytes_in d.0)
       (second.least e.0 there.unit first.meets there.other there.holds) (first.least d.0 back.unit second.meets back.other back.holds) in
@@ -133,7 +131,7 @@ module _ (m n : Machine) (same : HaveSameFuture m n) (t u : Task) (mates : AreMa
       (λ y one. subst (λ z. conflicts z y ≡ true) (is_one-eq e.0 x is) (subst (λ z. conflicts e.0 z ≡ true) (is_one-eq d.0 y one) meets))
       (held_by n.units d.1) second.holds in
       let one : there.unit ≡ d.1 =
-      same.second.units.sound.one there.unit d.1 (any_more (is_one e.0) (λ x. list_any (conflicts x) (held_by n.units d.1)) here (held_by n.units there.unit) there.holds) in
+      acting.same.second.units.sound.one there.unit d.1 (any_more (is_one e.0) (λ x. list_any (conflicts x) (held_by n.units d.1)) here (held_by n.units there.unit) there.holds) in
       there.label ∙ ap (label_of n.tasks) one
 
   pub same_blocker : (r : Resource) → told m (blocker_at (owned m.units) t.unit r) ≡ told n (blocker_at (owned n.units) u.unit r)
@@ -145,15 +143,15 @@ module _ (m n : Machine) (same : HaveSameFuture m n) (t u : Task) (mates : AreMa
       by : (o p : Option (Resource × ℕ)) → smallest_conflict (owned m.units) t.unit r ≡ o → smallest_conflict (owned n.units) u.unit r ≡ p → told m (entry o) ≡ told n (entry p)
       by None None here there = refl
       by (Some e) (Some d) here there =
-          ap Some (same_least r e d (least_held m.units t.unit r e same.first.units.sound here) (least_held n.units u.unit r d same.second.units.sound there))
+          ap Some (same_least r e d (least_held m.units t.unit r e acting.same.first.units.sound here) (least_held n.units u.unit r d acting.same.second.units.sound there))
       by None (Some d) here there =
           let found = ap entry there in
-          let back = held_there n m (turned same) u t (mates_turned mates) d.1 (conflicts r) (found_holds n.units u.unit r d.1 found) (found_other (owned n.units) u.unit r d.1 found) in
-          absurd (true≢false (sym (holder_some m.units t.unit r back.unit same.first.units.sound back.other back.holds) ∙ ap (λ o. is_some (entry o)) here))
+          let back = held_there n m u t (acting_turned acting) d.1 (conflicts r) (found_holds n.units u.unit r d.1 found) (found_other (owned n.units) u.unit r d.1 found) in
+          absurd (true≢false (sym (holder_some m.units t.unit r back.unit acting.same.first.units.sound back.other back.holds) ∙ ap (λ o. is_some (entry o)) here))
       by (Some e) None here there =
           let found = ap entry here in
-          let back = held_there m n same t u mates e.1 (conflicts r) (found_holds m.units t.unit r e.1 found) (found_other (owned m.units) t.unit r e.1 found) in
-          absurd (true≢false (sym (holder_some n.units u.unit r back.unit same.second.units.sound back.other back.holds) ∙ ap (λ o. is_some (entry o)) there))
+          let back = held_there m n t u acting e.1 (conflicts r) (found_holds m.units t.unit r e.1 found) (found_other (owned m.units) t.unit r e.1 found) in
+          absurd (true≢false (sym (holder_some n.units u.unit r back.unit acting.same.second.units.sound back.other back.holds) ∙ ap (λ o. is_some (entry o)) there))
 
   first_of_two : (x y x' y' : Option ℕ) → told m x ≡ told n x' → told m y ≡ told n y' → told m (first_some x y) ≡ told n (first_some x' y')
   first_of_two None y None y' a b = b
@@ -191,15 +189,15 @@ same_if_open m steady gone more shut same =
     ])
 
 -- what a task may read of a queue is what the queue holds if all others are backed out
-others_gone : (m : Machine) (steady : IsSteady m) (t : Task) → AreMates m m t t →
+others_gone : (m : Machine) (steady : IsSteady m) (t : Task) → task_at m.tasks t.label ≡ Some t →
     store_if m (λ l. not (is_same l t.label))
     ≡ store_by m.units.opening (alone (outcome_of m.units.outcomes) (unit_or_next t.unit m.units.outcomes)) m.units.trace
-others_gone m steady t mates =
+others_gone m steady t there =
     same_if_open m steady (λ l. not (is_same l t.label)) (alone (outcome_of m.units.outcomes) (unit_or_next t.unit m.units.outcomes))
     (λ u begun closed. rw closed refl)
     (λ u live.
     let begun : u < length m.units.outcomes = ltb-true u (length m.units.outcomes) (and_parts _ _ live).0 in
-    rw (live_open m.units u live, told_by_label m steady t mates.there u live, own t.unit u begun) refl)
+    rw (live_open m.units u live, told_by_label m steady t there u live, own t.unit u begun) refl)
   where
     own : (o : Option ℕ) (u : ℕ) → u < length m.units.outcomes → is_unit o u ≡ (u == unit_or_next o m.units.outcomes)
     own None u below = sym (ne_eqb u (length m.units.outcomes) (λ e. omega (arith, below, e)))
@@ -208,28 +206,28 @@ others_gone m steady t mates =
       | inr differ ↦ rw differ (sym (ne_eqb u w (λ e. eqb-false w u differ (sym e))))
     ]
 
-module _ (m n : Machine) (same : HaveSameFuture m n) (t u : Task) (mates : AreMates m n t u) where
+module _ (m n : Machine) (t u : Task) (acting : AreActing m n t u) where
   -- a task may read the same records
   same_committed : (q : Bytes) → queue_logical m.units.opening q ≡ true → committed_for m.units t.unit q ≡ committed_for n.units u.unit q
   same_committed q logical =
-      committed-content m.units same.first.units.sound.known t.unit q logical
+      committed-content m.units acting.same.first.units.sound.known t.unit q logical
       ∙ (ap (λ s. unwrap_or (content s (Td q)) [])
-      (sym (others_gone m same.first t (record { there = mates.there; too = mates.there; bare = refl }))
-      ∙ (same.alike.stores (λ l. not (is_same l t.label))
-      ∙ (ap (λ x. store_if n (λ l. not (is_same l x))) (same_label t u mates.bare)
-      ∙ others_gone n same.second u (record { there = mates.too; too = mates.too; bare = refl }))))
-      ∙ sym (committed-content n.units same.second.units.sound.known u.unit q (ap (λ o. queue_logical o q) (sym same.alike.opening) ∙ logical)))
+      (sym (others_gone m acting.same.first t acting.there)
+      ∙ (acting.same.alike.stores (λ l. not (is_same l t.label))
+      ∙ (ap (λ x. store_if n (λ l. not (is_same l x))) (same_label t u acting.bare)
+      ∙ others_gone n acting.same.second u acting.too)))
+      ∙ sym (committed-content n.units acting.same.second.units.sound.known u.unit q (ap (λ o. queue_logical o q) (sym acting.same.alike.opening) ∙ logical)))
 
   same_writer : (o : Op) → told m (writer_awaited m.units t.unit o) ≡ told n (writer_awaited n.units u.unit o)
   same_writer (TdRead q) = elim (cases_Bool (queue_logical m.units.opening q)) [
     | inl is ↦
-        rw (is, ap (λ o. queue_logical o q) (sym same.alike.opening) ∙ is, same_committed q is)
+        rw (is, ap (λ o. queue_logical o q) (sym acting.same.alike.opening) ∙ is, same_committed q is)
         (elim (is_nothing (committed_for n.units u.unit q)) as
         (λ b. told m (if b then blocker_at (owned m.units) t.unit (WritingEnd q) else None) ≡ told n (if b then blocker_at (owned n.units) u.unit (WritingEnd q) else None)) [
-          | true ↦ same_blocker m n same t u mates (WritingEnd q)
+          | true ↦ same_blocker m n t u acting (WritingEnd q)
           | false ↦ refl
         ])
-    | inr off ↦ rw (off, ap (λ o. queue_logical o q) (sym same.alike.opening) ∙ off) refl
+    | inr off ↦ rw (off, ap (λ o. queue_logical o q) (sym acting.same.alike.opening) ∙ off) refl
   ]
   same_writer _ = refl
 
@@ -237,12 +235,12 @@ module _ (m n : Machine) (same : HaveSameFuture m n) (t u : Task) (mates : AreMa
 
   pub same_awaited : (o : Op) → told m (awaited m.units t.unit o) ≡ told n (awaited n.units u.unit o)
   same_awaited o =
-      first_of_two m n same t u mates (blocker_among (owned m.units) t.unit (uses_of m.units.opening o)) (writer_awaited m.units t.unit o)
+      first_of_two m n t u acting (blocker_among (owned m.units) t.unit (uses_of m.units.opening o)) (writer_awaited m.units t.unit o)
       (blocker_among (owned n.units) u.unit (uses_of n.units.opening o)) (writer_awaited n.units u.unit o)
-      (same_among m n same t u mates (uses_of m.units.opening o) ∙ ap (λ p. told n (blocker_among (owned n.units) u.unit (uses_of p o))) same.alike.opening)
+      (same_among m n t u acting (uses_of m.units.opening o) ∙ ap (λ p. told n (blocker_among (owned n.units) u.unit (uses_of p o))) acting.same.alike.opening)
       (same_writer o)
 
   pub same_awaited_by : (verb : Verb) (o : Option Op) → told m (awaited_by m.units t.unit verb o) ≡ told n (awaited_by n.units u.unit verb o)
   same_awaited_by verb (Some o) = same_awaited o
-  same_awaited_by (Enq value k nosuspend) None = same_blocker m n same t u mates (own_value (take k value))
+  same_awaited_by (Enq value k nosuspend) None = same_blocker m n t u acting (own_value (take k value))
   same_awaited_by _ None = refl

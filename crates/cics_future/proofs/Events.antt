@@ -29,9 +29,9 @@ use Rattle.cics_machine.proofs.KeptTasks.{kept_begins, kept_attached}
 use Rattle.cics_machine.proofs.OwnedUnits.{owned_begins, owned_attached}
 use Rattle.cics_machine.proofs.TaskPlaces.{IsOwn-tail, first_other, task_at-place, task_at-replaced}
 use Rattle.cics_future.specs.Futures.{own, own_by, unnumbered, ending, store_if, IsSteady, HaveSameFuture, AreSameSteps}
-use Rattle.cics_future.proofs.Labels.{both, AreMates, same_label, both_tasks}
+use Rattle.cics_future.proofs.Labels.{AreActing, both, same_label, both_tasks}
 use Rattle.cics_future.proofs.Blocking.{told, same_awaited_by}
-use Rattle.cics_future.proofs.Acting.{AreActing, same_beside, same_waits, same_closed, same_abended}
+use Rattle.cics_future.proofs.Acting.{same_beside, same_waits, same_closed, same_abended}
 use Rattle.cics_future.proofs.Answering.{same_by_op, same_checked}
 
 -- a region that is steady has its own future
@@ -77,11 +77,11 @@ module _ (m n : Machine) (same : HaveSameFuture m n) where
   pub issued_same : (label : Bytes) (c : Command) → AreSameSteps (issued m label c) (issued n label c)
   issued_same label c =
       both_tasks m n same label (λ o p. AreSameSteps (issued_by m c o) (issued_by n c p)) (λ none none_too. record { outcome = refl; machine = same })
-      (λ t u mates is.
+      (λ t u acting is.
       refused_same (issue_refusal m (Some t)) (issue_refusal n (Some u))
-      (ap (λ (x : Task). if x.has_ended then Some TaskEnded else if is_waiting m.waiting x.label then Some TaskWaiting else None) mates.bare
+      (ap (λ (x : Task). if x.has_ended then Some TaskEnded else if is_waiting m.waiting x.label then Some TaskWaiting else None) acting.bare
       ∙ ap (λ ws. if u.has_ended then Some TaskEnded else if is_waiting ws u.label then Some TaskWaiting else None) same.alike.waiting)
-      (checked m t c (fault_of m t c.verb)) (checked n u c (fault_of n u c.verb)) (same_checked m n t u (record { same = same; mates = mates }) c))
+      (checked m t c (fault_of m t c.verb)) (checked n u c (fault_of n u c.verb)) (same_checked m n t u acting c))
 
   -- ---- ATTACH
 
@@ -127,7 +127,7 @@ module _ (m n : Machine) (same : HaveSameFuture m n) where
       both_tasks m n same label
       (λ o p. AreSameSteps (refused_or m (if is_some o then Some DuplicateLabel else None) (record { outcome = tt; machine = with_new_task m label dtimout }))
       (refused_or n (if is_some p then Some DuplicateLabel else None) (record { outcome = tt; machine = with_new_task n label dtimout })))
-      (λ none none_too. record { outcome = refl; machine = same_attached label dtimout none none_too }) (λ t u mates is. record { outcome = refl; machine = same })
+      (λ none none_too. record { outcome = refl; machine = same_attached label dtimout none none_too }) (λ t u acting is. record { outcome = refl; machine = same })
 
   -- ---- The clock
 
@@ -142,9 +142,9 @@ module _ (m n : Machine) (same : HaveSameFuture m n) where
   goes_same : (w : Suspended) → may_go_on m w (task_at m.tasks w.label) ≡ may_go_on n w (task_at n.tasks w.label)
   goes_same w =
       both_tasks m n same w.label (λ o p. may_go_on m w o ≡ may_go_on n w p) (λ none none_too. refl)
-      (λ t u mates is.
+      (λ t u acting is.
       both (label_of m.tasks) (label_of n.tasks) (λ o p. is_none o ≡ is_none p) (awaited_by m.units t.unit w.command.verb w.op) (awaited_by n.units u.unit w.command.verb w.op)
-      (same_awaited_by m n same t u mates w.command.verb w.op) (λ none none_too. refl) (λ x y a b e. refl))
+      (same_awaited_by m n t u acting w.command.verb w.op) (λ none none_too. refl) (λ x y a b e. refl))
 
   free_same : (ws : List Suspended) → first_free m ws ≡ first_free n ws
   free_same [] = refl
@@ -157,28 +157,30 @@ module _ (m n : Machine) (same : HaveSameFuture m n) where
       by None = record { outcome = refl; machine = same }
       by (Some w) =
           both_tasks m n same w.label (λ o p. AreSameSteps (went_on m w o) (went_on n w p)) (λ none none_too. record { outcome = refl; machine = same })
-          (λ t u mates is.
+          (λ t u acting is.
           let steps = same_by_op (with_waiting m (not_waiting m.waiting w.label)) (with_waiting n (not_waiting n.waiting w.label)) t u
           (record {
             same = same_waits m n same (not_waiting m.waiting w.label) (not_waiting n.waiting w.label) (ap (λ ws. not_waiting ws w.label) same.alike.waiting);
-            mates = record { there = mates.there; too = mates.too; bare = mates.bare };
+            there = acting.there;
+            too = acting.too;
+            bare = acting.bare;
           }) w.command w.op in
           record { outcome = ap (λ o. Some (record { label = w.label; outcome = o })) steps.outcome; machine = steps.machine })
 
   -- ---- Time-out
 
-  -- what holds of no task in both, and of mates, holds of the first that has waited too long
-  late_same : (P : Option Task → Option Task → Type 0) → P None None → ((t u : Task) → AreMates m n t u → P (Some t) (Some u)) → (ws : List Suspended) →
+  -- what holds of no task in both, and of tasks that act, holds of the first that has waited too long
+  late_same : (P : Option Task → Option Task → Type 0) → P None None → ((t u : Task) → AreActing m n t u → P (Some t) (Some u)) → (ws : List Suspended) →
       P (first_late m ws) (first_late n ws)
   late_same P none some [] = none
   late_same P none some (w ∷ ws) =
       both_tasks m n same w.label (λ o p. P (if is_late m w o then o else first_late m ws) (if is_late n w p then p else first_late n ws))
       (λ a b. late_same P none some ws)
-      (λ t u mates is.
+      (λ t u acting is.
       let late : is_late m w (Some t) ≡ is_late n w (Some u) =
-      ap (λ (x : Task). nat_lt 0 x.dtimout && nat_le x.dtimout (m.clock - w.since)) mates.bare ∙ ap (λ k. nat_lt 0 u.dtimout && nat_le u.dtimout (k - w.since)) same.alike.clock in
+      ap (λ (x : Task). nat_lt 0 x.dtimout && nat_le x.dtimout (m.clock - w.since)) acting.bare ∙ ap (λ k. nat_lt 0 u.dtimout && nat_le u.dtimout (k - w.since)) same.alike.clock in
       elim (cases_Bool (is_late n w (Some u))) [
-        | inl on ↦ rw (late, on) (some t u mates)
+        | inl on ↦ rw (late, on) (some t u acting)
         | inr off ↦ rw (late, off) (late_same P none some ws)
       ])
 
@@ -186,9 +188,9 @@ module _ (m n : Machine) (same : HaveSameFuture m n) where
   expired_same =
       subst (λ ws. AreSameSteps (expired m) (expired_task n (first_late n ws))) same.alike.waiting
       (late_same (λ o p. AreSameSteps (expired_task m o) (expired_task n p)) (record { outcome = refl; machine = same })
-      (λ t u mates. record {
-        outcome = ap (λ l. Some (record { label = l; code = timed_out })) (same_label t u mates.bare);
-        machine = same_abended m n t u (record { same = same; mates = mates });
+      (λ t u acting. record {
+        outcome = ap (λ l. Some (record { label = l; code = timed_out })) (same_label t u acting.bare);
+        machine = same_abended m n t u acting;
       }) m.waiting)
 
   -- ---- What is told of waits
@@ -203,7 +205,7 @@ module _ (m n : Machine) (same : HaveSameFuture m n) where
       by None = refl
       by (Some w) =
           both_tasks m n same label (λ o p. told m (awaited_of m (Some w) o) ≡ told n (awaited_of n (Some w) p)) (λ none none_too. refl)
-          (λ t u mates is. same_awaited_by m n same t u mates w.command.verb w.op)
+          (λ t u acting is. same_awaited_by m n t u acting w.command.verb w.op)
 
 -- ---- SHUTDOWN
 
@@ -229,7 +231,7 @@ all_same (t ∷ ts) (u ∷ us) m n same bare labels labels_too stand stand_too =
     let first : unnumbered t ≡ unnumbered u = cc in
     let rest : map unnumbered ts ≡ map unnumbered us = cc in
     all_same ts us (unit_closed m t BackedOut true) (unit_closed n u BackedOut true)
-    (same_closed m n t u (record { same = same; mates = record { there = stand zero t refl; too = stand_too zero u refl; bare = first } }) BackedOut true refl) rest
+    (same_closed m n t u (record { same = same; there = stand zero t refl; too = stand_too zero u refl; bare = first }) BackedOut true refl) rest
     (IsOwn-tail own_label t ts labels) (IsOwn-tail own_label u us labels_too) (behind m t ts labels stand) (behind n u us labels_too stand_too)
   where
     behind : (k : Machine) (x : Task) (xs : List Task) → IsOwn own_label (x ∷ xs) → Stand k (x ∷ xs) → Stand (unit_closed k x BackedOut true) xs

@@ -173,8 +173,9 @@ label_kept (x ∷ xs) t v u there label same = elim (cases_Bool (is_same x.label
 
 -- ---- A task of both regions
 
--- two tasks of one label, the same but for the numbers of their units
-pub record AreMates (m n : Machine) (t u : Task) : Type 0 where
+-- alike regions, and a task of one label in each
+pub record AreActing (m n : Machine) (t u : Task) : Type 0 where
+  pub same : HaveSameFuture m n
   pub there : task_at m.tasks t.label ≡ Some t
   pub too : task_at n.tasks u.label ≡ Some u
   pub bare : unnumbered t ≡ unnumbered u
@@ -190,16 +191,16 @@ bare-task_at (t ∷ ts) label = elim (cases_Bool (is_same t.label label)) [
   | inr other ↦ rw other (bare-task_at ts label)
 ]
 
--- what holds of no task in both, and of mates, holds of the tasks of a label
+-- what holds of no task in both, and of tasks that act, holds of the tasks of a label
 pub both_tasks : (m n : Machine) → HaveSameFuture m n → (label : Bytes) (P : Option Task → Option Task → Type 0) →
     (task_at m.tasks label ≡ None → task_at n.tasks label ≡ None → P None None) →
-    ((t u : Task) → AreMates m n t u → t.label ≡ label → P (Some t) (Some u)) → P (task_at m.tasks label) (task_at n.tasks label)
+    ((t u : Task) → AreActing m n t u → t.label ≡ label → P (Some t) (Some u)) → P (task_at m.tasks label) (task_at n.tasks label)
 both_tasks m n same label P none some =
     both unnumbered unnumbered P (task_at m.tasks label) (task_at n.tasks label)
     (bare-task_at m.tasks label ∙ (ap (λ ts. task_at ts label) same.alike.tasks ∙ sym (bare-task_at n.tasks label))) none
     (λ t u there too bare.
     let mine = (place_of_task m.tasks label t there).2 in
-    some t u (record { there = ap (task_at m.tasks) mine ∙ there; too = ap (task_at n.tasks) (sym (same_label t u bare) ∙ mine) ∙ too; bare = bare }) mine)
+    some t u (record { same = same; there = ap (task_at m.tasks) mine ∙ there; too = ap (task_at n.tasks) (sym (same_label t u bare) ∙ mine) ∙ too; bare = bare }) mine)
 
 -- ---- What the units of both have
 
@@ -211,12 +212,12 @@ unit_bare ts label = of_task (task_at ts label) ∙ ap (had_by own_unit) (bare-t
     of_task None = refl
     of_task (Some t) = refl
 
--- the units of mates have the same
-pub own_mates : (m n : Machine) → HaveSameFuture m n → (t u : Task) → AreMates m n t u → own_by m.units t.unit ≡ own_by n.units u.unit
-own_mates m n same t u mates =
-    ap (λ o. own_by m.units (had_by own_unit o)) (sym mates.there)
-    ∙ (same.alike.own t.label
-    ∙ (ap (λ l. own_by n.units (unit_of n l)) (same_label t u mates.bare) ∙ ap (λ o. own_by n.units (had_by own_unit o)) mates.too))
+-- the units of tasks that act have the same
+pub own_acting : (m n : Machine) (t u : Task) → AreActing m n t u → own_by m.units t.unit ≡ own_by n.units u.unit
+own_acting m n t u acting =
+    ap (λ o. own_by m.units (had_by own_unit o)) (sym acting.there)
+    ∙ (acting.same.alike.own t.label
+    ∙ (ap (λ l. own_by n.units (unit_of n l)) (same_label t u acting.bare) ∙ ap (λ o. own_by n.units (had_by own_unit o)) acting.too))
 
 -- an open unit has a partner: it holds the same and is told by the same label
 pub record HasPartner (m n : Machine) (x : ℕ) : Type 0 where
