@@ -1,8 +1,8 @@
 -- A step of a task in two regions that are alike: it changes what the task's own unit has, and each
 -- store, in the same way.
-use Rattle.std.proofs.Common.{◌≡◌, ◌≢◌, ℕ, ◌<◌, ◌==◌, Bool, true, false, not, ◌&&◌, cond, Option, Some, None, List, [], ◌∷◌, ◌++◌, length, inl, inr, refl, ap, sym, ◌∙◌, arith}
-use Rattle.std.specs.Prelude.{is_some, option_map, if◌then◌else◌, filter, map, slice_get, slice_set, unwrap_or}
-use Rattle.std.proofs.lemmas.Bool.{true≢false, false≢true, cases_Bool, and_parts, eqb-true, eqb-false, eq-eqb, ne_eqb}
+use Rattle.std.proofs.Common.{◌≡◌, ◌≢◌, ℕ, ◌<◌, ◌==◌, Bool, true, false, not, ◌&&◌, cond, Option, Some, None, List, [], ◌∷◌, length, inl, inr, refl, ap, sym, ◌∙◌, arith}
+use Rattle.std.specs.Prelude.{is_some, option_map, if◌then◌else◌, filter, map, slice_get, unwrap_or}
+use Rattle.std.proofs.lemmas.Bool.{true≢false, false≢true, cases_Bool, eqb-true, eqb-false, eq-eqb, ne_eqb}
 use Rattle.std.proofs.lemmas.Option.{slice_get-get_or}
 use Rattle.std.proofs.lemmas.List.Elements.{All-nil}
 use Rattle.cics_names.specs.Keyed.{Bytes, Map, has_key, with_value, is_same}
@@ -30,7 +30,7 @@ use Rattle.cics_history.proofs.Replays.{replay-push}
 use Rattle.cics_history.proofs.States.{execution-IsSound, enqueue-IsSound, dequeue-IsSound, unlock-IsSound, ts_reading-IsSound, end-IsSound}
 use Rattle.cics_history.proofs.SerialRuns.{execution-IsInOrder, commit-IsInOrder, backout-IsInOrder, enqueue-IsInOrder, dequeue-IsInOrder, unlock-IsInOrder, ts_reading-IsInOrder}
 use Rattle.cics_waits.specs.Notes.{is_unit}
-use Rattle.cics_machine.specs.Machine.{Machine, Task, Suspended, task_at, label_of, replaced, not_waiting, with_task, with_units, with_waiting, with_unit, with_browses, units_after, unit_closed, abended}
+use Rattle.cics_machine.specs.Machine.{Machine, Task, Suspended, task_at, replaced, not_waiting, with_task, with_units, with_waiting, with_unit, with_browses, units_after, unit_closed, abended}
 use Rattle.cics_machine.specs.Blockers.{unit_of}
 use Rattle.cics_machine.specs.KeptTasks.{IsWaitKept, AreTasksKept}
 use Rattle.cics_machine.specs.OwnedUnits.{AreUnitsOwned}
@@ -495,7 +495,7 @@ module _ (m n : Machine) (t u : Task) (acting : AreActing m n t u) where
       acting_units _ _ _ _ _ (step m acting.same.first t acting.there) (step n acting.same.second u acting.too)
     where
       moved : (s : UnitsState) → (after_ts_reading s q item).next ≡ cond (has_item (ts_queue (store_of s) q) item) (with_value q item s.next) s.next
-      moved s = elim (cases_Bool (has_item (ts_queue (store_of s) q) item)) [ | inl is ↦ rw is refl | inr off ↦ rw off refl ]
+      moved s = elim (cases_Bool (has_item (ts_queue (store_of s) q) item)) [ inl is ↦ rw is refl | inr off ↦ rw off refl ]
 
       step : (k : Machine) (steady : IsSteady k) (z : Task) (there : task_at k.tasks z.label ≡ Some z) →
           IsStepOf k z z (after_ts_reading k.units q item) (λ p s x. x) (λ has s later next. cond (has_item (ts_queue s q) item) (with_value q item next) next) (λ p l stores. stores)

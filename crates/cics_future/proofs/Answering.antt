@@ -1,5 +1,5 @@
 -- Each command of a task is answered the same in two regions that are alike, and leaves them alike.
-use Rattle.std.proofs.Common.{◌≡◌, ℕ, ◌+◌, ◌-◌, Bool, true, false, Option, Some, None, [], ◌∷◌, ◌++◌, inl, inr, refl, ap, sym, ◌∙◌, subst}
+use Rattle.std.proofs.Common.{◌≡◌, ℕ, Bool, true, false, Option, Some, None, [], ◌∷◌, ◌++◌, inl, inr, refl, ap, sym, ◌∙◌, subst}
 use Rattle.std.specs.Prelude.{if◌then◌else◌, take, nat_le}
 use Rattle.std.proofs.lemmas.Bool.{cases_Bool}
 use Rattle.cics_names.specs.Commands.{file_named}
@@ -23,8 +23,7 @@ use Rattle.cics_history.specs.declared.ops.UnitState.TheVariants.{Committed, Bac
 use Rattle.cics_machine.specs.Machine.{Machine, Task, label_of, records_in, with_task, with_browses}
 use Rattle.cics_machine.specs.Replies.{plain, cut, read_reply}
 use Rattle.cics_machine.specs.Checks.{open_key, named_fault, fault_of}
-use Rattle.cics_machine.specs.Steps.{Stepped, unhandled, answered, reply_of, busy_of, suspended, made_to_wait, key_read, asked_op, op_of, executed, enqueued, browse_reply, with_browse, started, reset, browsed, ts_read, other_command, by_op, performed, checked}
-use Rattle.cics_machine.specs.declared.outcomes.Outcome.{Outcome}
+use Rattle.cics_machine.specs.Steps.{unhandled, answered, reply_of, busy_of, made_to_wait, key_read, asked_op, op_of, executed, enqueued, browse_reply, with_browse, started, reset, browsed, ts_read, other_command, by_op, checked}
 use Rattle.cics_machine.specs.declared.outcomes.Outcome.TheVariants.{Waiting}
 use Rattle.cics_machine.specs.declared.outcomes.Reply.{Reply}
 use Rattle.cics_future.specs.Futures.{Own, HaveSameFuture, AreSameSteps}

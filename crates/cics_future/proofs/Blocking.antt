@@ -1,7 +1,7 @@
 -- In two regions that are alike a command of the same task is blocked by the unit of the same task,
 -- or by none.
-use Rattle.std.proofs.Common.{◌≡◌, ℕ, ◌<◌, ◌==◌, Bool, true, false, not, ◌&&◌, Option, Some, None, List, [], ◌∷◌, length, ◌⊎◌, inl, inr, refl, ap, sym, ◌∙◌, subst, arith}
-use Rattle.std.specs.Prelude.{is_some, is_none, option_map, unwrap_or, if◌then◌else◌, take}
+use Rattle.std.proofs.Common.{◌≡◌, ℕ, ◌<◌, ◌==◌, Bool, true, false, not, Option, Some, None, List, [], ◌∷◌, length, inl, inr, refl, ap, sym, ◌∙◌, subst, arith}
+use Rattle.std.specs.Prelude.{is_some, option_map, unwrap_or, if◌then◌else◌, take}
 use Rattle.std.specs.List.{list_any}
 use Rattle.std.specs.Ordering.{is_lt, ordering_reverse}
 use Rattle.std.specs.declared.cmp.Ordering.{Ordering}
@@ -17,14 +17,13 @@ use Rattle.cics_history.specs.Resources.{is_one}
 use Rattle.cics_history.specs.ResourceLaws.{is_one-eq}
 use Rattle.cics_history.specs.declared.resources.Resource.{Resource}
 use Rattle.cics_history.specs.declared.resources.Resource.TheVariants.{FileKey, TsQueue, TdRead as ReadingEnd, TdWrite as WritingEnd, User, FilePrefix}
-use Rattle.cics_history.specs.State.{OpeningState, queue_logical, initial_store}
-use Rattle.cics_history.specs.Store.{is_recoverable}
+use Rattle.cics_history.specs.State.{queue_logical, initial_store}
 use Rattle.cics_history.specs.Headline.{outcome_of, is_open, is_backed_out, replay}
 use Rattle.cics_history.specs.Holding.{uses_of, held_by, conflicts, bytes_in, owned, is_other, smallest_conflict, blocker_at, first_some, blocker_among, committed_for, is_nothing, writer_awaited, awaited, own_value}
 use Rattle.cics_history.specs.Holders.{IsLeastHeld}
 use Rattle.cics_history.specs.Execution.{unit_or_next}
 use Rattle.cics_history.specs.Cells.{Td, content}
-use Rattle.cics_history.specs.Isolation.{Outcomes, Each, stays, left_by, store_by, AreKnown}
+use Rattle.cics_history.specs.Isolation.{Outcomes, Each, left_by, store_by, AreKnown}
 use Rattle.cics_history.specs.declared.ops.Entry.{Entry}
 use Rattle.cics_history.specs.declared.ops.Op.{Op}
 use Rattle.cics_history.specs.declared.ops.Op.TheVariants.{TdRead}
@@ -39,8 +38,8 @@ use Rattle.cics_history.proofs.Waiting.{any_more, committed-content}
 use Rattle.cics_waits.specs.Notes.{is_unit}
 use Rattle.cics_machine.specs.Machine.{Machine, Task, task_at, label_of}
 use Rattle.cics_machine.specs.Waking.{awaited_by}
-use Rattle.cics_future.specs.Futures.{store_if, ending, IsSteady, HaveSameFuture}
-use Rattle.cics_future.proofs.Labels.{turned, live_open, AreActing, same_label, partner, told_by_label, other_by_label, open_of}
+use Rattle.cics_future.specs.Futures.{store_if, ending, IsSteady}
+use Rattle.cics_future.proofs.Labels.{turned, live_open, AreActing, same_label, partner, told_by_label, other_by_label}
 
 -- ---- The least of what conflicts
 

@@ -1,18 +1,16 @@
 -- Regions that look alike have the same future: what an open unit did can be done last, so each
 -- ending is what stands without open units, and then what those units did that it keeps.
-use Rattle.std.proofs.Common.{◌≡◌, ℕ, zero, suc, ◌==◌, Bool, true, false, not, ◌&&◌, ◌||◌, cond, Option, Some, None, List, [], ◌∷◌, ◌++◌, inl, inr, refl, ap, sym, ◌∙◌}
-use Rattle.std.specs.Prelude.{if◌then◌else◌, map, flat_map, slice_get}
+use Rattle.std.proofs.Common.{◌≡◌, ℕ, zero, suc, ◌==◌, Bool, true, false, not, ◌||◌, Option, Some, None, List, [], ◌∷◌, inl, inr, refl, ap, sym, ◌∙◌}
+use Rattle.std.specs.Prelude.{if◌then◌else◌, map, slice_get}
 use Rattle.std.specs.List.{list_any}
-use Rattle.std.proofs.lemmas.Bool.{cases_Bool, and_parts, eq-eqb, or_left, or_right}
+use Rattle.std.proofs.lemmas.Bool.{cases_Bool, eq-eqb, or_left, or_right}
 use Rattle.cics_names.specs.Keyed.{Bytes, is_same}
 use Rattle.cics_names.specs.KeyedLaws.{is_same-self, is_same-eq}
-use Rattle.cics_history.specs.State.{OpeningState, UnitsState, Store, initial_store}
-use Rattle.cics_history.specs.Store.{apply, is_normal, is_recoverable}
-use Rattle.cics_history.specs.Headline.{outcome_of, is_open, is_backed_out, replay}
-use Rattle.cics_history.specs.Holding.{uses_of, held_by_entry}
+use Rattle.cics_history.specs.State.{Store, initial_store}
+use Rattle.cics_history.specs.Store.{apply}
+use Rattle.cics_history.specs.Headline.{outcome_of, is_backed_out, replay}
 use Rattle.cics_history.specs.Cells.{Cell, Content, content, recovers}
 use Rattle.cics_history.specs.Isolation.{Outcomes, left_by, store_by}
-use Rattle.cics_history.specs.Events.{is_live}
 use Rattle.cics_history.specs.Serial.{done_by}
 use Rattle.cics_history.specs.declared.ops.Op.{Op}
 use Rattle.cics_history.specs.declared.ops.Entry.{Entry}
@@ -23,10 +21,8 @@ use Rattle.cics_history.proofs.Joining.{after_at, apply-content}
 use Rattle.cics_history.proofs.SerialLists.{eqb-turned}
 use Rattle.cics_history.proofs.Stores.{same_store, replay-canonical, initial-canonical}
 use Rattle.cics_waits.specs.Notes.{is_unit}
-use Rattle.cics_machine.specs.Machine.{Machine, Task, task_at, label_of}
+use Rattle.cics_machine.specs.Machine.{Machine, Task, label_of}
 use Rattle.cics_machine.specs.Blockers.{unit_of}
-use Rattle.cics_machine.specs.Tasks.{own_unit, had_by}
-use Rattle.cics_machine.proofs.TaskPlaces.{place_of_task}
 use Rattle.cics_future.specs.Futures.{Own, own, own_by, unnumbered, ending, store_if, IsSteady, HaveSameFuture}
 use Rattle.cics_future.specs.Compared.{LookAlike}
 use Rattle.cics_future.proofs.Labels.{live_open, task_of, told_by, live_at, label_at}
@@ -71,7 +67,7 @@ module _ (m : Machine) (steady : IsSteady m) (gone : Bytes → Bool) (kept : Lis
   is_ending : store_if m (but gone (l ∷ kept)) ≡ store_by m.units.opening (kept_too (unit_of m l)) m.units.trace
   is_ending =
       same_if_open m steady (but gone (l ∷ kept)) (kept_too (unit_of m l))
-      (λ u begun shut. elim (cases_Bool (is_unit (unit_of m l) u)) [ | inl is ↦ rw is refl | inr off ↦ rw (off, shut) refl ])
+      (λ u begun shut. elim (cases_Bool (is_unit (unit_of m l) u)) [ inl is ↦ rw is refl | inr off ↦ rw (off, shut) refl ])
       (λ u live. elim (cases_Bool (is_unit (unit_of m l) u)) [
         | inl is ↦
             let here : is_same (label_of m.tasks u) l ≡ true = told_by m steady l u live ∙ is in
@@ -94,7 +90,7 @@ module _ (m : Machine) (steady : IsSteady m) (gone : Bytes → Bool) (kept : Lis
           let here = label_at m steady l w has in
           let last = steady.units.order.last w stands (ending m (but gone kept)) (kept_too (Some w))
           (λ u shut. rw shut refl)
-          (λ u shut. elim (cases_Bool (w == u)) [ | inl is ↦ rw is refl | inr off ↦ rw (off, shut) refl ])
+          (λ u shut. elim (cases_Bool (w == u)) [ inl is ↦ rw is refl | inr off ↦ rw (off, shut) refl ])
           (record {
             gone = rw (stands, here, new) refl;
             there = rw (eq-eqb w w refl) (open_kept (outcome_of m.units.outcomes w) stands);

@@ -1,6 +1,6 @@
 -- Every event answers the same in two regions that have the same future, and leaves regions that
 -- have the same future.
-use Rattle.std.proofs.Common.{◌≡◌, ◌≢◌, ℕ, zero, suc, ◌-◌, Bool, true, false, ◌&&◌, cond, Option, Some, None, List, [], ◌∷◌, ◌++◌, Result, Ok, Err, inl, inr, refl, ap, sym, ◌∙◌, subst}
+use Rattle.std.proofs.Common.{◌≡◌, ℕ, zero, suc, ◌-◌, Bool, true, false, ◌&&◌, Option, Some, None, List, [], ◌∷◌, ◌++◌, Result, Ok, Err, inl, inr, refl, ap, sym, ◌∙◌, subst}
 use Rattle.std.specs.Prelude.{if◌then◌else◌, is_some, is_none, option_map, map, nat_lt, nat_le, slice_get}
 use Rattle.std.proofs.lemmas.Bool.{true≢false, false≢true, cases_Bool}
 use Rattle.std.proofs.lemmas.List.{map_push}
@@ -15,20 +15,18 @@ use Rattle.cics_history.proofs.States.{beginning-IsSound}
 use Rattle.cics_history.proofs.SerialRuns.{beginning-IsInOrder}
 use Rattle.cics_machine.specs.Machine.{Machine, Task, Suspended, beginning_region, task_at, label_of, is_waiting, not_waiting, with_waiting, unit_closed, timed_out}
 use Rattle.cics_machine.specs.Tasks.{own_label, own_unit, had_by, IsOwn}
-use Rattle.cics_machine.specs.Steps.{Stepped, by_op, checked, issue_refusal, refused_or, issued_by, issued, new_task, with_new_task, attached}
+use Rattle.cics_machine.specs.Steps.{Stepped, checked, issue_refusal, refused_or, issued_by, issued, new_task, with_new_task, attached}
 use Rattle.cics_machine.specs.Checks.{fault_of}
 use Rattle.cics_machine.specs.Waking.{clock_refusal, clock_set, awaited_by, may_go_on, first_free, went_on, woken_first, woken, is_late, first_late, expired_task, expired}
 use Rattle.cics_machine.specs.Shutdown.{unless_down, one_if, units_of, all_ended, shut_down}
 use Rattle.cics_machine.specs.Blockers.{waiting_command, awaited_of, blocker_of}
 use Rattle.cics_machine.specs.Waits.{wait_of}
-use Rattle.cics_machine.specs.declared.outcomes.Outcome.{Outcome}
-use Rattle.cics_machine.specs.declared.outcomes.Woken.{Woken}
 use Rattle.cics_machine.specs.declared.outcomes.Refused.{Refused}
 use Rattle.cics_machine.specs.declared.outcomes.Refused.TheVariants.{TaskWaiting, TaskEnded, DuplicateLabel, RegionDown, ClockBack}
 use Rattle.cics_machine.proofs.KeptTasks.{kept_begins, kept_attached}
 use Rattle.cics_machine.proofs.OwnedUnits.{owned_begins, owned_attached}
 use Rattle.cics_machine.proofs.TaskPlaces.{IsOwn-tail, first_other, task_at-place, task_at-replaced}
-use Rattle.cics_future.specs.Futures.{own, own_by, unnumbered, ending, store_if, IsSteady, HaveSameFuture, AreSameSteps}
+use Rattle.cics_future.specs.Futures.{unnumbered, ending, store_if, IsSteady, HaveSameFuture, AreSameSteps}
 use Rattle.cics_future.proofs.Labels.{AreActing, both, same_label, both_tasks}
 use Rattle.cics_future.proofs.Blocking.{told, same_awaited_by}
 use Rattle.cics_future.proofs.Acting.{same_beside, same_waits, same_closed, same_abended}
@@ -87,8 +85,8 @@ module _ (m n : Machine) (same : HaveSameFuture m n) where
 
   -- a task more, which has no unit
   unit_pushed : (ts : List Task) (label l : Bytes) (dtimout : ℕ) → had_by own_unit (task_at (ts ++ new_task label dtimout ∷ []) l) ≡ had_by own_unit (task_at ts l)
-  unit_pushed [] label l dtimout = elim (cases_Bool (is_same label l)) [ | inl is ↦ rw is refl | inr off ↦ rw off refl ]
-  unit_pushed (t ∷ ts) label l dtimout = elim (cases_Bool (is_same t.label l)) [ | inl is ↦ rw is refl | inr off ↦ rw off (unit_pushed ts label l dtimout) ]
+  unit_pushed [] label l dtimout = elim (cases_Bool (is_same label l)) [ inl is ↦ rw is refl | inr off ↦ rw off refl ]
+  unit_pushed (t ∷ ts) label l dtimout = elim (cases_Bool (is_same t.label l)) [ inl is ↦ rw is refl | inr off ↦ rw off (unit_pushed ts label l dtimout) ]
 
   label_pushed : (ts : List Task) (label : Bytes) (dtimout u : ℕ) → label_of (ts ++ new_task label dtimout ∷ []) u ≡ label_of ts u
   label_pushed [] label dtimout u = refl

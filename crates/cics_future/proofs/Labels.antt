@@ -1,5 +1,5 @@
 -- The tasks of two regions that are alike go by their labels, and so do their units.
-use Rattle.std.proofs.Common.{◌≡◌, ℕ, zero, suc, ◌<◌, ◌==◌, Bool, true, false, not, ◌&&◌, cond, Option, Some, None, List, [], ◌∷◌, length, ◌⊎◌, inl, inr, refl, ap, sym, ◌∙◌}
+use Rattle.std.proofs.Common.{◌≡◌, ℕ, zero, suc, ◌==◌, Bool, true, false, not, cond, Option, Some, None, List, [], ◌∷◌, ◌⊎◌, inl, inr, refl, ap, sym, ◌∙◌}
 use Rattle.std.specs.Prelude.{option_map, map, slice_get}
 use Rattle.std.proofs.lemmas.Bool.{true≢false, false≢true, cases_Bool, and_parts, eqb-true, eq-eqb, false_from_ne_true}
 use Rattle.cics_names.specs.Keyed.{Bytes, is_same}
@@ -11,7 +11,7 @@ use Rattle.cics_history.specs.Events.{is_live}
 use Rattle.cics_machine.specs.Machine.{Machine, Task, task_at, label_of, replaced}
 use Rattle.cics_machine.specs.Blockers.{unit_of}
 use Rattle.cics_waits.specs.Notes.{is_unit}
-use Rattle.cics_machine.specs.Tasks.{own_label, own_unit, had_by, HasNoOwner}
+use Rattle.cics_machine.specs.Tasks.{own_unit, had_by, HasNoOwner}
 use Rattle.cics_machine.proofs.TaskPlaces.{place_of_task, task_at-place}
 use Rattle.cics_future.specs.Futures.{own_by, unnumbered, IsSteady, HaveSameFuture}
 use Rattle.cics_future.proofs.Owning.{held_own, held_told}

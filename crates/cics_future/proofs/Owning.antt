@@ -34,7 +34,7 @@ abbrev done : OpeningState → ℕ → List Entry → List Op
 done o u es = map (λ e. e.op) (done_by o es u)
 
 done-push : (o : OpeningState) (u : ℕ) (es : List Entry) (e : Entry) → done o u (es ++ e ∷ []) ≡ done o u es ++ (if is_done_by o u e then e.op ∷ [] else [])
-done-push o u [] e = elim (cases_Bool (is_done_by o u e)) [ | inl is ↦ rw is refl | inr off ↦ rw off refl ]
+done-push o u [] e = elim (cases_Bool (is_done_by o u e)) [ inl is ↦ rw is refl | inr off ↦ rw off refl ]
 done-push o u (d ∷ es) e = elim (cases_Bool (is_done_by o u d)) [
   | inl is ↦ rw is (ap (λ l. d.op ∷ l) (done-push o u es e))
   | inr off ↦ rw off (done-push o u es e)

@@ -1,7 +1,7 @@
 -- The rows of one unit among those of all: what filters do to them, and what a step does to update
 -- reads and counts.
-use Rattle.std.proofs.Common.{◌≡◌, ◌≢◌, ℕ, ◌<◌, ◌≤◌, ◌-◌, ◌==◌, Bool, true, false, not, ◌&&◌, cond, Option, Some, List, [], ◌∷◌, ◌++◌, inl, inr, refl, ap, sym, ◌∙◌, arith}
-use Rattle.std.specs.Prelude.{filter, map, flat_map, nat_lt}
+use Rattle.std.proofs.Common.{◌≡◌, ◌≢◌, ℕ, ◌<◌, ◌≤◌, ◌==◌, Bool, true, false, not, ◌&&◌, cond, Some, List, [], ◌∷◌, ◌++◌, inl, inr, refl, ap, sym, ◌∙◌, arith}
+use Rattle.std.specs.Prelude.{filter, flat_map, nat_lt}
 use Rattle.std.specs.List.{list_any}
 use Rattle.std.specs.Ordering.{is_lt, ordering_reverse}
 use Rattle.std.specs.declared.cmp.Ordering.{Ordering}
@@ -23,7 +23,7 @@ use Rattle.cics_future.specs.Futures.{rows_of, reader, any_read, counter, any_co
 module _ {X : Type 0} (unit : X → ℕ) (bare : X → X) where
   -- rows that are the same stay so behind one more
   pub rows-ahead : (u : ℕ) (x : X) (xs ys : List X) → rows_of unit bare u xs ≡ rows_of unit bare u ys → rows_of unit bare u (x ∷ xs) ≡ rows_of unit bare u (x ∷ ys)
-  rows-ahead u x xs ys same = elim (cases_Bool (unit x == u)) [ | inl own ↦ rw own (ap (λ l. bare x ∷ l) same) | inr other ↦ rw other same ]
+  rows-ahead u x xs ys same = elim (cases_Bool (unit x == u)) [ inl own ↦ rw own (ap (λ l. bare x ∷ l) same) | inr other ↦ rw other same ]
 
   -- a test that knows the unit's rows without its number filters them as well
   pub rows-filter : (u : ℕ) (p q : X → Bool) → ((x : X) → (unit x == u) ≡ true → p x ≡ q (bare x)) → (xs : List X) →
@@ -162,7 +162,7 @@ with_read-step r (x ∷ xs) rising = elim (cases_Bool (is_read_before r x)) [
     none_with n [] above none = or_from _ _ above refl
     none_with n (y ∷ ys) above none =
         let parts = or_parts (nat_lt y.unit n) (list_any (λ z. nat_lt z.unit n) ys) none in
-        elim (cases_Bool (is_read_before r y)) [ | inl here ↦ rw here (or_from _ _ above none) | inr on ↦ rw on (or_from _ _ parts.0 (none_with n ys above parts.1)) ]
+        elim (cases_Bool (is_read_before r y)) [ inl here ↦ rw here (or_from _ _ above none) | inr on ↦ rw on (or_from _ _ parts.0 (none_with n ys above parts.1)) ]
 
 -- whether a command covers an update read, by whether that is its unit's
 abbrev covers_if : Op → UpdateRead → Bool → Bool
@@ -184,12 +184,12 @@ opened-step u _ xs rising = record { own = refl; others = λ w other. refl; risi
 pub reads_after-step : (u : ℕ) (op : Op) (c : Condition) (xs : List UpdateRead) → AreRising is_earlier xs → IsReadStep u xs (reads_after u op c xs) (reads_after 0 op c (reads_of u xs))
 reads_after-step u op c xs rising = elim (cases_Bool (is_normal c)) [
   | inl is ↦ rw is (record {
-      own = opening.own ∙ ap (opened 0 op) (rows-filter reader any_read u left (λ r. not (covers 0 op r))
-          (λ x own. let is = covers_is u op x in ap not (is.0 ∙ (ap (covers_if op x) own ∙ is.1.1))) xs);
-      others = λ w other. opening.others w other ∙ rows-kept reader any_read w left
-          (λ x own. let is = covers_is u op x in ap not (is.0 ∙ (ap (covers_if op x) (apart u w x.unit other own) ∙ is.1.0))) xs;
-      rising = opening.rising;
-    })
+    own = opening.own ∙ ap (opened 0 op) (rows-filter reader any_read u left (λ r. not (covers 0 op r))
+        (λ x own. let is = covers_is u op x in ap not (is.0 ∙ (ap (covers_if op x) own ∙ is.1.1))) xs);
+    others = λ w other. opening.others w other ∙ rows-kept reader any_read w left
+        (λ x own. let is = covers_is u op x in ap not (is.0 ∙ (ap (covers_if op x) (apart u w x.unit other own) ∙ is.1.0))) xs;
+    rising = opening.rising;
+  })
   | inr off ↦ rw off (record { own = refl; others = λ w other. refl; rising = rising })
 ]
   where
@@ -240,7 +240,7 @@ comes_first u v c (d ∷ ds) here behind =
     let parts = or_parts (is_below d.value c.value) (list_any (λ e. is_lower e c) ds) behind in
     let less : is_below v d.value ≡ true = true_from_ne_false (is_below v d.value) (λ off. true≢false (sym here ∙ not_below v d.value c.value off parts.0)) in
     let other : is_same d.value v ≡ false = false_from_ne_true (is_same d.value v) (λ same. true≢false (sym here ∙ (ap (λ x. is_below x c.value) (sym (is_same-eq d.value v same)) ∙ parts.0))) in
-    elim (cases_Bool (d.unit == u)) [ | inl own ↦ rw (own, other, less) refl | inr differs ↦ rw differs (comes_first u v c ds here parts.1) ]
+    elim (cases_Bool (d.unit == u)) [ inl own ↦ rw (own, other, less) refl | inr differs ↦ rw differs (comes_first u v c ds here parts.1) ]
 
 abbrev pub IsCountStep : ℕ → List EnqCount → List EnqCount → List EnqCount → Type 0
 IsCountStep u cs ds es = IsRowStep counter any_count is_lower u cs ds es
@@ -257,13 +257,13 @@ counted-step u v (c ∷ cs) rising = elim (cases_Bool (is_count u v c)) [
       }
   | inr off ↦ elim (cases_Bool (is_below v c.value)) [
     | inl here ↦ record {
-        own = elim (cases_Bool (c.unit == u)) [
-          | inl own ↦ rw (off, here, own, eq-eqb u u refl) (rw (ap (λ b. b && is_same c.value v) (sym own) ∙ off, here) refl)
-          | inr differs ↦ rw (off, here, eq-eqb u u refl) (rw differs (comes_first u v c cs here rising.0))
-        ];
-        others = λ w other. rw (off, here, ne_eqb u w other) refl;
-        rising = rw (off, here) ((or_from _ _ (not_above v c.value here) (further cs rising.0 here), rising));
-      }
+      own = elim (cases_Bool (c.unit == u)) [
+        | inl own ↦ rw (off, here, own, eq-eqb u u refl) (rw (ap (λ b. b && is_same c.value v) (sym own) ∙ off, here) refl)
+        | inr differs ↦ rw (off, here, eq-eqb u u refl) (rw differs (comes_first u v c cs here rising.0))
+      ];
+      others = λ w other. rw (off, here, ne_eqb u w other) refl;
+      rising = rw (off, here) ((or_from _ _ (not_above v c.value here) (further cs rising.0 here), rising));
+    }
     | inr on ↦
         let rest = counted-step u v cs rising.1 in
         record {
@@ -272,10 +272,13 @@ counted-step u v (c ∷ cs) rising = elim (cases_Bool (is_count u v c)) [
             | inr differs ↦ rw (off, on) (rw differs rest.own)
           ];
           others = λ w other. rw (off, on) (rows-ahead counter any_count w c (counted cs u v) cs (rest.others w other));
-          rising = rw (off, on) ((false_from_ne_true (list_any (λ d. is_lower d c) (counted cs u v)) (λ t. elim (any_counted (λ n value. is_below value c.value) u v cs t) [
-            | inl old ↦ true≢false (sym old ∙ rising.0)
-            | inr new ↦ true≢false (sym new ∙ on)
-          ]), rest.rising));
+          rising = rw (off, on) ((
+            false_from_ne_true (list_any (λ d. is_lower d c) (counted cs u v)) (λ t. elim (any_counted (λ n value. is_below value c.value) u v cs t) [
+              | inl old ↦ true≢false (sym old ∙ rising.0)
+              | inr new ↦ true≢false (sym new ∙ on)
+            ]),
+            rest.rising,
+          ));
         }
   ]
 ]
@@ -294,10 +297,10 @@ uncounted-step u v (c ∷ cs) rising = elim (cases_Bool (is_count u v c)) [
       let theirs : (w : ℕ) → u ≢ w → (c.unit == w) ≡ false = λ w other. apart w u c.unit (λ e. other (sym e)) parts.0 in
       elim (cases_Bool (nat_lt 1 c.count)) [
         | inl more ↦ record {
-            own = rw (is, more, parts.0, parts.1, eq-eqb u u refl, more) refl;
-            others = λ w other. rw (is, more, ne_eqb u w other, theirs w other) refl;
-            rising = rw (is, more) rising;
-          }
+          own = rw (is, more, parts.0, parts.1, eq-eqb u u refl, more) refl;
+          others = λ w other. rw (is, more, ne_eqb u w other, theirs w other) refl;
+          rising = rw (is, more) rising;
+        }
         | inr last ↦ record { own = rw (is, last, parts.0, parts.1, last) refl; others = λ w other. rw (is, last, theirs w other) refl; rising = rw (is, last) rising.1 }
       ]
   | inr off ↦

@@ -1,7 +1,7 @@
 -- Two regions that have the same future: what the tasks of the one are told from now on, those of
 -- the other are told too, whatever the numbers of their units are, and however their files and
 -- queues came to hold what they hold.
-use Rattle.std.specs.Prelude.{◌≡◌, ℕ, ◌==◌, Bool, true, false, ◌&&◌, if◌then◌else◌, Option, Some, None, option_map, filter, map, nat_lt, List, [], ◌∷◌}
+use Rattle.std.specs.Prelude.{◌≡◌, ℕ, ◌==◌, Bool, false, ◌&&◌, if◌then◌else◌, Option, Some, None, option_map, filter, map, nat_lt, List, [], ◌∷◌}
 use Rattle.std.specs.List.{list_any}
 use Rattle.cics_names.specs.Keyed.{Bytes, is_below}
 use Rattle.cics_history.specs.declared.ops.Op.{Op}
