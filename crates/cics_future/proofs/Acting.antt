@@ -337,6 +337,50 @@ module _ (m : Machine) (steady : IsSteady m) (t : Task) (there : task_at m.tasks
     stores = λ gone. rw (opening, trace) (stays_so s t refl (λ u. rw outcomes refl) (λ u below. refl) gone);
   }
 
+  step_unlocked : (f : Bytes) (x : ℕ) → t.unit ≡ Some x →
+      IsStepOf m t t (after_unlock m.units x f) (λ p k y. own_unlocked f y) (λ has k later next. next) (λ p l stores. stores)
+  step_unlocked f x has =
+      step_units (after_unlock m.units x f) (own_unlocked f) (λ k next. next)
+      (record {
+        opening = steady.units.opening;
+        sound = unlock-IsSound m.units x f steady.units.sound;
+        order = unlock-IsInOrder m.units steady.units.order x f;
+        reads = rising-filter is_earlier (λ r. not (is_read_of x f r)) m.units.reads steady.units.reads;
+        counts = steady.units.counts;
+      })
+      (rw has at (kept_unlocked (with_waiting m []) place.0 t steady.tasks place.1 refl f)) (owned_unlocked m (Some x) f steady.owned) refl refl refl
+      (λ w other. unlocked_other m.units x f w (λ e. other (has ∙ ap Some e))) (rw has (unlocked_own m.units x f)) refl
+
+  step_dequeued : (value : Bytes) (x : ℕ) → t.unit ≡ Some x →
+      IsStepOf m t t (after_dequeue m.units x value) (λ p k y. own_uncounted value y) (λ has k later next. next) (λ p l stores. stores)
+  step_dequeued value x has =
+      step_units (after_dequeue m.units x value) (own_uncounted value) (λ k next. next)
+      (record {
+        opening = steady.units.opening;
+        sound = dequeue-IsSound m.units x value steady.units.sound;
+        order = dequeue-IsInOrder m.units steady.units.order x value;
+        reads = steady.units.reads;
+        counts = (uncounted-step x value m.units.counts steady.units.counts).rising;
+      })
+      (rw has at (kept_dequeued (with_waiting m []) place.0 t steady.tasks place.1 refl value)) (owned_dequeued m (Some x) value steady.owned) refl refl refl
+      (λ w other. dequeued_other m.units x value w steady.units.counts (λ e. other (has ∙ ap Some e))) (rw has (dequeued_own m.units x value steady.units.counts)) refl
+
+  step_item_read : (q : Bytes) (item : ℕ) → IsStepOf m t t (after_ts_reading m.units q item) (λ p k y. y)
+      (λ has k later next. cond (has_item (ts_queue k q) item) (with_value q item next) next) (λ p l stores. stores)
+  step_item_read q item =
+      step_units (after_ts_reading m.units q item) (λ y. y) (λ k next. cond (has_item (ts_queue k q) item) (with_value q item next) next)
+      (record {
+        opening = item_read_is (λ s. IsOpeningInOrder s.opening) m.units q item steady.units.opening steady.units.opening;
+        sound = ts_reading-IsSound m.units q item steady.units.sound;
+        order = ts_reading-IsInOrder m.units steady.units.order q item;
+        reads = item_read_is (λ s. AreRising is_earlier s.reads) m.units q item steady.units.reads steady.units.reads;
+        counts = item_read_is (λ s. AreRising is_lower s.counts) m.units q item steady.units.counts steady.units.counts;
+      })
+      (kept_item_read (with_waiting m []) place.0 t steady.tasks place.1 refl q item) (owned_item_read m q item steady.owned)
+      (item_read_is (λ s. s.opening ≡ m.units.opening) m.units q item refl refl) (item_read_is (λ s. s.trace ≡ m.units.trace) m.units q item refl refl)
+      (item_read_is (λ s. s.outcomes ≡ m.units.outcomes) m.units q item refl refl) (λ w other. item_read_own m.units q item (Some w)) (item_read_own m.units q item t.unit)
+      (elim (cases_Bool (has_item (ts_queue (store_of m.units) q) item)) [ | inl is ↦ rw is refl | inr off ↦ rw off refl ])
+
   -- ---- The end of the unit
 
   abbrev closed_task : Bool → Task
@@ -453,66 +497,16 @@ module _ (m n : Machine) (t u : Task) (acting : AreActing m n t u) where
   pub acting_unlocked : (f : Bytes) → AreActing (unlocked m t.unit f) (unlocked n u.unit f) t u
   acting_unlocked f =
       if_unit (λ o p. AreActing (unlocked m o f) (unlocked n p f) t u) acting
-      (λ x y a b. acting_units _ _ _ _ _ (step m acting.same.first t acting.there x a) (step n acting.same.second u acting.too y b))
-    where
-      step : (k : Machine) (steady : IsSteady k) (z : Task) (there : task_at k.tasks z.label ≡ Some z) (x : ℕ) → z.unit ≡ Some x →
-          IsStepOf k z z (after_unlock k.units x f) (λ p s x. own_unlocked f x) (λ has s later next. next) (λ p l stores. stores)
-      step k steady z there x has =
-          let at = place_of_task k.tasks z.label z there in
-          step_units k steady z there (after_unlock k.units x f) (own_unlocked f) (λ s next. next)
-          (record {
-            opening = steady.units.opening;
-            sound = unlock-IsSound k.units x f steady.units.sound;
-            order = unlock-IsInOrder k.units steady.units.order x f;
-            reads = rising-filter is_earlier (λ r. not (is_read_of x f r)) k.units.reads steady.units.reads;
-            counts = steady.units.counts;
-          })
-          (rw has at (kept_unlocked (with_waiting k []) at.0 z steady.tasks at.1 refl f)) (owned_unlocked k (Some x) f steady.owned) refl refl refl
-          (λ w other. unlocked_other k.units x f w (λ e. other (has ∙ ap Some e))) (rw has (unlocked_own k.units x f)) refl
+      (λ x y a b. acting_units _ _ _ _ _ (step_unlocked m acting.same.first t acting.there f x a) (step_unlocked n acting.same.second u acting.too f y b))
 
   pub acting_dequeued : (value : Bytes) → AreActing (dequeued m t.unit value) (dequeued n u.unit value) t u
   acting_dequeued value =
       if_unit (λ o p. AreActing (dequeued m o value) (dequeued n p value) t u) acting
-      (λ x y a b. acting_units _ _ _ _ _ (step m acting.same.first t acting.there x a) (step n acting.same.second u acting.too y b))
-    where
-      step : (k : Machine) (steady : IsSteady k) (z : Task) (there : task_at k.tasks z.label ≡ Some z) (x : ℕ) → z.unit ≡ Some x →
-          IsStepOf k z z (after_dequeue k.units x value) (λ p s x. own_uncounted value x) (λ has s later next. next) (λ p l stores. stores)
-      step k steady z there x has =
-          let at = place_of_task k.tasks z.label z there in
-          step_units k steady z there (after_dequeue k.units x value) (own_uncounted value) (λ s next. next)
-          (record {
-            opening = steady.units.opening;
-            sound = dequeue-IsSound k.units x value steady.units.sound;
-            order = dequeue-IsInOrder k.units steady.units.order x value;
-            reads = steady.units.reads;
-            counts = (uncounted-step x value k.units.counts steady.units.counts).rising;
-          })
-          (rw has at (kept_dequeued (with_waiting k []) at.0 z steady.tasks at.1 refl value)) (owned_dequeued k (Some x) value steady.owned) refl refl refl
-          (λ w other. dequeued_other k.units x value w steady.units.counts (λ e. other (has ∙ ap Some e))) (rw has (dequeued_own k.units x value steady.units.counts)) refl
+      (λ x y a b. acting_units _ _ _ _ _ (step_dequeued m acting.same.first t acting.there value x a) (step_dequeued n acting.same.second u acting.too value y b))
 
   pub acting_item_read : (q : Bytes) (item : ℕ) → AreActing (with_units m (after_ts_reading m.units q item)) (with_units n (after_ts_reading n.units q item)) t u
   acting_item_read q item =
-      acting_units _ _ _ _ _ (step m acting.same.first t acting.there) (step n acting.same.second u acting.too)
-    where
-      moved : (s : UnitsState) → (after_ts_reading s q item).next ≡ cond (has_item (ts_queue (store_of s) q) item) (with_value q item s.next) s.next
-      moved s = elim (cases_Bool (has_item (ts_queue (store_of s) q) item)) [ inl is ↦ rw is refl | inr off ↦ rw off refl ]
-
-      step : (k : Machine) (steady : IsSteady k) (z : Task) (there : task_at k.tasks z.label ≡ Some z) →
-          IsStepOf k z z (after_ts_reading k.units q item) (λ p s x. x) (λ has s later next. cond (has_item (ts_queue s q) item) (with_value q item next) next) (λ p l stores. stores)
-      step k steady z there =
-          let at = place_of_task k.tasks z.label z there in
-          step_units k steady z there (after_ts_reading k.units q item) (λ x. x) (λ s next. cond (has_item (ts_queue s q) item) (with_value q item next) next)
-          (record {
-            opening = item_read_is (λ s. IsOpeningInOrder s.opening) k.units q item steady.units.opening steady.units.opening;
-            sound = ts_reading-IsSound k.units q item steady.units.sound;
-            order = ts_reading-IsInOrder k.units steady.units.order q item;
-            reads = item_read_is (λ s. AreRising is_earlier s.reads) k.units q item steady.units.reads steady.units.reads;
-            counts = item_read_is (λ s. AreRising is_lower s.counts) k.units q item steady.units.counts steady.units.counts;
-          })
-          (kept_item_read (with_waiting k []) at.0 z steady.tasks at.1 refl q item) (owned_item_read k q item steady.owned)
-          (item_read_is (λ s. s.opening ≡ k.units.opening) k.units q item refl refl) (item_read_is (λ s. s.trace ≡ k.units.trace) k.units q item refl refl)
-          (item_read_is (λ s. s.outcomes ≡ k.units.outcomes) k.units q item refl refl)
-          (λ w other. item_read_own k.units q item (Some w)) (item_read_own k.units q item z.unit) (moved k.units)
+      acting_units _ _ _ _ _ (step_item_read m acting.same.first t acting.there q item) (step_item_read n acting.same.second u acting.too q item)
 
   -- ---- The end of the unit
 

@@ -2,6 +2,7 @@
 use Rattle.std.proofs.Common.{◌≡◌, ℕ, zero, suc, ◌==◌, Bool, true, false, not, cond, Option, Some, None, List, [], ◌∷◌, ◌⊎◌, inl, inr, refl, ap, sym, ◌∙◌}
 use Rattle.std.specs.Prelude.{option_map, map, slice_get}
 use Rattle.std.proofs.lemmas.Bool.{true≢false, false≢true, cases_Bool, and_parts, eqb-true, eq-eqb, false_from_ne_true}
+use Rattle.std.proofs.lemmas.Option.{none-some}
 use Rattle.cics_names.specs.Keyed.{Bytes, is_same}
 use Rattle.cics_names.specs.KeyedLaws.{is_same-self, is_same-eq}
 use Rattle.cics_history.specs.Headline.{outcome_of, is_open}
@@ -10,6 +11,7 @@ use Rattle.cics_history.specs.Holding.{held_by, is_other}
 use Rattle.cics_history.specs.Events.{is_live}
 use Rattle.cics_machine.specs.Machine.{Machine, Task, task_at, label_of, replaced}
 use Rattle.cics_machine.specs.Blockers.{unit_of}
+use Rattle.cics_history.proofs.SerialLists.{eqb-turned}
 use Rattle.cics_waits.specs.Notes.{is_unit}
 use Rattle.cics_machine.specs.Tasks.{own_unit, had_by, HasNoOwner}
 use Rattle.cics_machine.proofs.TaskPlaces.{place_of_task, task_at-place}
@@ -36,9 +38,6 @@ turned same = record {
 
 -- ---- Two that are there, or neither
 
-pub none_there : {A : Type 0} (a : A) → None ≡ Some a → ⊥
-none_there a e = cc
-
 one_there : {A : Type 0} (a b : A) → Some a ≡ Some b → a ≡ b
 one_there a b e = cc
 
@@ -48,8 +47,8 @@ pub both : {X Z : Type 0} (f g : X → Z) (P : Option X → Option X → Type 0)
     (o ≡ None → p ≡ None → P None None) → ((x y : X) → o ≡ Some x → p ≡ Some y → f x ≡ g y → P (Some x) (Some y)) → P o p
 both f g P None None same none some = none refl refl
 both f g P (Some x) (Some y) same none some = some x y refl refl (one_there (f x) (g y) same)
-both f g P None (Some y) same none some = absurd (none_there (g y) same)
-both f g P (Some x) None same none some = absurd (none_there (f x) (sym same))
+both f g P None (Some y) same none some = absurd (none-some (g y) same)
+both f g P (Some x) None same none some = absurd (none-some (f x) (sym same))
 
 -- ---- The task of a unit
 
@@ -110,7 +109,7 @@ told_by m steady label u live = elim (cases_Bool (is_same (label_of m.tasks u) l
     found = task_of m steady u live
 
     other : is_same (label_of m.tasks u) label ≡ false → (o : Option Task) → task_at m.tasks label ≡ o → had_by own_unit (task_at m.tasks label) ≡ Some u → ⊥
-    other off None there has = none_there u (sym (ap (had_by own_unit) there) ∙ has)
+    other off None there has = none-some u (sym (ap (had_by own_unit) there) ∙ has)
     other off (Some t) there has =
         let place = place_of_task m.tasks label t there in
         let unit = sym (ap (had_by own_unit) there) ∙ has in
@@ -124,7 +123,7 @@ module _ (m : Machine) (steady : IsSteady m) where
   live_at label u has = by (task_at m.tasks label) refl has
     where
       by : (o : Option Task) → task_at m.tasks label ≡ o → had_by own_unit o ≡ Some u → is_live m.units u ≡ true
-      by None there has = absurd (none_there u has)
+      by None there has = absurd (none-some u has)
       by (Some t) there has = let place = place_of_task m.tasks label t there in steady.tasks.open_units place.0 t u place.1 has
 
   -- and told by that label
@@ -150,11 +149,10 @@ module _ (m : Machine) (steady : IsSteady m) (t : Task) (there : task_at m.tasks
     where
       by : (o : Option ℕ) → is_other o u ≡ not (is_unit o u)
       by None = refl
-      by (Some w) = ap not (turn (u == w) refl)
-        where
-          turn : (b : Bool) → (u == w) ≡ b → b ≡ (w == u)
-          turn true e = sym (eq-eqb w u (sym (eqb-true u w e)))
-          turn false e = sym (false_from_ne_true (w == u) (λ k. true≢false (sym (eq-eqb u w (sym (eqb-true w u k))) ∙ e)))
+      by (Some w) = elim (cases_Bool (w == u)) [
+        | inl same ↦ rw (same, eq-eqb u w (sym (eqb-true w u same))) refl
+        | inr differ ↦ rw (differ, eqb-turned u w differ) refl
+      ]
 
 -- with a task in the place of the one of its label, a unit that it has as the other had it keeps
 -- its label
@@ -230,7 +228,7 @@ pub partner : (m n : Machine) → HaveSameFuture m n → (x : ℕ) → is_live m
 partner m n same x live =
     both (λ u. 0) (λ u. 0) (λ o p. o ≡ Some x → HasPartner m n x) (unit_of m l) (unit_of n l)
     (unit_bare m.tasks l ∙ (ap (λ ts. had_by own_unit (task_at ts l)) same.alike.tasks ∙ sym (unit_bare n.tasks l)))
-    (λ none none_too e. absurd (none_there x e)) (λ v w here too zero e. found w too) has
+    (λ none none_too e. absurd (none-some x e)) (λ v w here too zero e. found w too) has
   where
     l : Bytes
     l = label_of m.tasks x

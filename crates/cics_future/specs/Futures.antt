@@ -66,7 +66,8 @@ unnumbered t = record t { unit = option_map (λ u. 0) t.unit }
 -- the outcomes if of the open units those of these labels are backed out
 abbrev pub ending : Machine → (Bytes → Bool) → Outcomes
 ending m gone = λ u.
-    if is_open (outcome_of m.units.outcomes u) && gone (label_of m.tasks u) then BackedOut else outcome_of m.units.outcomes u
+    if is_open (outcome_of m.units.outcomes u) && gone (label_of m.tasks u) then BackedOut
+    else outcome_of m.units.outcomes u
 
 -- and the files and queues then
 abbrev pub store_if : Machine → (Bytes → Bool) → Store
