@@ -379,7 +379,7 @@ module _ (m : Machine) (steady : IsSteady m) (t : Task) (there : task_at m.tasks
       (kept_item_read (with_waiting m []) place.0 t steady.tasks place.1 refl q item) (owned_item_read m q item steady.owned)
       (item_read_is (λ s. s.opening ≡ m.units.opening) m.units q item refl refl) (item_read_is (λ s. s.trace ≡ m.units.trace) m.units q item refl refl)
       (item_read_is (λ s. s.outcomes ≡ m.units.outcomes) m.units q item refl refl) (λ w other. item_read_own m.units q item (Some w)) (item_read_own m.units q item t.unit)
-      (elim (cases_Bool (has_item (ts_queue (store_of m.units) q) item)) [ | inl is ↦ rw is refl | inr off ↦ rw off refl ])
+      (elim (cases_Bool (has_item (ts_queue (store_of m.units) q) item)) [ inl is ↦ rw is refl | inr off ↦ rw off refl ])
 
   -- ---- The end of the unit
 
