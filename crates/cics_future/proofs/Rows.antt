@@ -22,101 +22,71 @@ use Rattle.cics_future.specs.Futures.{rows_of, reader, any_read, counter, any_co
 
 module _ {X : Type 0} (unit : X → ℕ) (bare : X → X) where
   -- rows that are the same stay so behind one more
-  pub rows-ahead : (u : ℕ) (x : X) (xs ys : List X) → rows_of unit bare u xs ≡ rows_of unit bare u ys → rows_of unit bare u (x ∷ xs) ≡ rows_of unit bare u (x ∷ ys)
-  rows-ahead u x xs ys same = elim (cases_Bool (unit x == u)) [ inl own ↦ rw own (ap (λ l. bare x ∷ l) same) | inr other ↦ rw other same ]
+  rows-ahead : (u : ℕ) (x : X) (xs ys : List X) → rows_of unit bare u xs ≡ rows_of unit bare u ys → rows_of unit bare u (x ∷ xs) ≡ rows_of unit bare u (x ∷ ys)
+  rows-ahead u x xs ys same = grind (arith, same)
 
   -- a test that knows the unit's rows without its number filters them as well
   pub rows-filter : (u : ℕ) (p q : X → Bool) → ((x : X) → (unit x == u) ≡ true → p x ≡ q (bare x)) → (xs : List X) →
       rows_of unit bare u (filter p xs) ≡ filter q (rows_of unit bare u xs)
   rows-filter u p q same [] = refl
-  rows-filter u p q same (x ∷ xs) = elim (cases_Bool (unit x == u)) [
-    | inl own ↦ elim (cases_Bool (p x)) [
-      | inl is ↦ rw (is, own, sym (same x own) ∙ is) (ap (λ l. bare x ∷ l) (rows-filter u p q same xs))
-      | inr is ↦ rw (is, own, sym (same x own) ∙ is) (rows-filter u p q same xs)
-    ]
-    | inr other ↦ elim (cases_Bool (p x)) [
-      | inl is ↦ rw (is, other) (rows-filter u p q same xs)
-      | inr is ↦ rw (is, other) (rows-filter u p q same xs)
-    ]
-  ]
+  rows-filter u p q same (x ∷ xs) = grind (arith, rows-filter u p q same xs, same x)
 
   -- what takes out no row of the unit leaves its rows
   pub rows-kept : (u : ℕ) (p : X → Bool) → ((x : X) → (unit x == u) ≡ true → p x ≡ true) → (xs : List X) →
       rows_of unit bare u (filter p xs) ≡ rows_of unit bare u xs
-  rows-kept u p stays xs = rows-filter u p (λ x. true) stays xs ∙ all (rows_of unit bare u xs)
-    where
-      all : (ys : List X) → filter (λ y. true) ys ≡ ys
-      all [] = refl
-      all (y ∷ ys) = ap (λ l. y ∷ l) (all ys)
+  rows-kept u p stays [] = refl
+  rows-kept u p stays (x ∷ xs) = grind (arith, rows-kept u p stays xs, stays x)
 
   -- what the rows of a unit give, they give without its number
   pub rows-flat_map : {A : Type 0} (u : ℕ) (f g : X → List A) → ((x : X) → (unit x == u) ≡ true → f x ≡ g (bare x)) →
       ((x : X) → (unit x == u) ≡ false → f x ≡ []) → (xs : List X) → flat_map f xs ≡ flat_map g (rows_of unit bare u xs)
   rows-flat_map u f g mine theirs [] = refl
-  rows-flat_map u f g mine theirs (x ∷ xs) = elim (cases_Bool (unit x == u)) [
-    | inl own ↦ rw (own, mine x own) (ap (λ l. g (bare x) ++ l) (rows-flat_map u f g mine theirs xs))
-    | inr other ↦ rw (other, theirs x other) (rows-flat_map u f g mine theirs xs)
-  ]
+  rows-flat_map u f g mine theirs (x ∷ xs) = grind (arith, rows-flat_map u f g mine theirs xs, mine x, theirs x)
 
   -- a unit that hasn't begun has no rows
   pub none_begun : (u : ℕ) (xs : List X) → list_any (λ r. unit r == u) xs ≡ false → rows_of unit bare u xs ≡ []
   none_begun u [] none = refl
-  none_begun u (x ∷ xs) none =
-      let parts = or_parts (unit x == u) (list_any (λ r. unit r == u) xs) none in
-      rw parts.0 (none_begun u xs parts.1)
+  none_begun u (x ∷ xs) none = grind (arith, none_begun u xs)
 
 -- ---- The order of rows
 
 module _ {X : Type 0} (before : X → X → Bool) where
+  fewer : (p : X → Bool) (x : X) (ys : List X) → list_any (λ y. before y x) ys ≡ false → list_any (λ y. before y x) (filter p ys) ≡ false
+  fewer p x [] none = refl
+  fewer p x (y ∷ ys) none = grind (arith, fewer p x ys)
+
   pub rising-filter : (p : X → Bool) (xs : List X) → AreRising before xs → AreRising before (filter p xs)
   rising-filter p [] rising = tt
   rising-filter p (x ∷ xs) rising = elim (cases_Bool (p x)) [
-    | inl is ↦ rw is (fewer x xs rising.0, rising-filter p xs rising.1)
+    | inl is ↦ rw is (fewer p x xs rising.0, rising-filter p xs rising.1)
     | inr off ↦ rw off (rising-filter p xs rising.1)
   ]
-    where
-      fewer : (x : X) (ys : List X) → list_any (λ y. before y x) ys ≡ false → list_any (λ y. before y x) (filter p ys) ≡ false
-      fewer x [] none = refl
-      fewer x (y ∷ ys) none =
-          let parts = or_parts (before y x) (list_any (λ z. before z x) ys) none in
-          elim (cases_Bool (p y)) [
-            | inl is ↦ rw is (or_from _ _ parts.0 (fewer x ys parts.1))
-            | inr off ↦ rw off (fewer x ys parts.1)
-          ]
 
 -- what is of a unit is of no other
 pub apart : (u v w : ℕ) → u ≢ v → (w == v) ≡ true → (w == u) ≡ false
-apart u v w other own = let same : w ≡ v = eqb-true w v own in ne_eqb w u (λ e. other (sym e ∙ same))
+apart u v w other own = grind arith
 
 -- ---- Update reads
 
 abbrev pub reads_of : ℕ → List UpdateRead → List UpdateRead
 reads_of u xs = rows_of reader any_read u xs
 
--- a read is put before none of an earlier unit, and behind none of a later one
+-- a read is put before none of an earlier unit
 before_unit : (r x : UpdateRead) → is_read_before r x ≡ true → r.unit ≤ x.unit
-before_unit r x is = elim (or_cases (nat_lt r.unit x.unit) ((r.unit == x.unit) && is_below r.file x.file) is) [
-  | inl less ↦ let lower : r.unit < x.unit = ltb-true r.unit x.unit less in omega arith
-  | inr same ↦ let equal : r.unit ≡ x.unit = eqb-true r.unit x.unit (and_parts (r.unit == x.unit) (is_below r.file x.file) same).0 in omega arith
-]
-
-behind_unit : (r x : UpdateRead) → is_read_before r x ≡ false → nat_lt r.unit x.unit ≡ false
-behind_unit r x off = (or_parts (nat_lt r.unit x.unit) ((r.unit == x.unit) && is_below r.file x.file) off).0
+before_unit r x is = grind arith
 
 -- a lower unit has no reads where none of the other is lower
 none_lower : (n : ℕ) (x : UpdateRead) (xs : List UpdateRead) → n ≤ x.unit → list_any (λ y. is_earlier y x) xs ≡ false → list_any (λ y. nat_lt y.unit n) xs ≡ false
 none_lower n x [] lower none = refl
-none_lower n x (y ∷ ys) lower none =
-    let parts = or_parts (nat_lt y.unit x.unit) (list_any (λ z. is_earlier z x) ys) none in
-    let above : x.unit ≤ y.unit = ltb-false y.unit x.unit parts.0 in
-    or_from _ _ (le-ltb y.unit n (omega (arith, lower, above))) (none_lower n x ys lower parts.1)
+none_lower n x (y ∷ ys) lower none = grind (arith, none_lower n x ys lower)
 
 none_own : (u : ℕ) (x : UpdateRead) (xs : List UpdateRead) → u < x.unit → list_any (λ y. is_earlier y x) xs ≡ false → reads_of u xs ≡ []
 none_own u x [] less none = refl
-none_own u x (y ∷ ys) less none =
-    let parts = or_parts (nat_lt y.unit x.unit) (list_any (λ z. is_earlier z x) ys) none in
-    let above : x.unit ≤ y.unit = ltb-false y.unit x.unit parts.0 in
-    rw (ne_eqb y.unit u (λ e. omega (arith, less, above, e))) (none_own u x ys less parts.1)
+none_own u x (y ∷ ys) less none = grind (arith, none_own u x ys less)
+
+none_with : (r : UpdateRead) (n : ℕ) (ys : List UpdateRead) → nat_lt r.unit n ≡ false → list_any (λ y. nat_lt y.unit n) ys ≡ false → list_any (λ y. nat_lt y.unit n) (with_read r ys) ≡ false
+none_with r n [] above none = grind arith
+none_with r n (y ∷ ys) above none = grind (arith, none_with r n ys above)
 
 -- What a step of a unit does to all rows: the unit then has these, the others have what they had,
 -- and all are in order.
@@ -128,41 +98,23 @@ pub record IsRowStep {X : Type 0} (unit : X → ℕ) (bare : X → X) (before : 
 abbrev pub IsReadStep : ℕ → List UpdateRead → List UpdateRead → List UpdateRead → Type 0
 IsReadStep u xs ys zs = IsRowStep reader any_read is_earlier u xs ys zs
 
-with_read-step : (r : UpdateRead) (xs : List UpdateRead) → AreRising is_earlier xs → IsReadStep r.unit xs (with_read r xs) (with_read (any_read r) (reads_of r.unit xs))
-with_read-step r [] rising = record { own = rw (eq-eqb r.unit r.unit refl) refl; others = λ w other. rw (ne_eqb r.unit w other) refl; rising = (refl, tt) }
-with_read-step r (x ∷ xs) rising = elim (cases_Bool (is_read_before r x)) [
-  | inl here ↦
-      let low : r.unit ≤ x.unit = before_unit r x here in
-      record {
-        own = elim (cases_Bool (x.unit == r.unit)) [
-          | inl own ↦ rw (here, own, sym (by_file x own) ∙ here, eq-eqb r.unit r.unit refl) refl
-          | inr other ↦
-              let differs : x.unit ≢ r.unit = eqb-false x.unit r.unit other in
-              rw (here, other, eq-eqb r.unit r.unit refl, none_own r.unit x xs (omega (arith, low, differs)) rising.0) refl
-        ];
-        others = λ w other. rw (here, ne_eqb r.unit w other) refl;
-        rising = rw here ((or_from _ _ (le-ltb x.unit r.unit low) (none_lower r.unit x xs low rising.0), rising));
-      }
-  | inr on ↦
-      let rest = with_read-step r xs rising.1 in
-      record {
-        own = elim (cases_Bool (x.unit == r.unit)) [
-          | inl own ↦ rw (on, own, sym (by_file x own) ∙ on) (ap (λ l. any_read x ∷ l) rest.own)
-          | inr other ↦ rw (on, other) rest.own
-        ];
-        others = λ w other. rw on (rows-ahead reader any_read w x (with_read r xs) xs (rest.others w other));
-        rising = rw on ((none_with x.unit xs (behind_unit r x on) rising.0, rest.rising));
-      }
-]
-  where
-    by_file : (x : UpdateRead) → (x.unit == r.unit) ≡ true → is_read_before r x ≡ is_below r.file x.file
-    by_file x own = let same : x.unit ≡ r.unit = eqb-true x.unit r.unit own in rw (same, le-ltb r.unit r.unit (omega arith), eq-eqb r.unit r.unit refl) refl
+with_read-own : (r : UpdateRead) (xs : List UpdateRead) → AreRising is_earlier xs → reads_of r.unit (with_read r xs) ≡ with_read (any_read r) (reads_of r.unit xs)
+with_read-own r [] rising = grind arith
+with_read-own r (x ∷ xs) rising = grind (arith, with_read-own r xs rising.1, none_own r.unit x xs, rising.0)
 
-    none_with : (n : ℕ) (ys : List UpdateRead) → nat_lt r.unit n ≡ false → list_any (λ y. nat_lt y.unit n) ys ≡ false → list_any (λ y. nat_lt y.unit n) (with_read r ys) ≡ false
-    none_with n [] above none = or_from _ _ above refl
-    none_with n (y ∷ ys) above none =
-        let parts = or_parts (nat_lt y.unit n) (list_any (λ z. nat_lt z.unit n) ys) none in
-        elim (cases_Bool (is_read_before r y)) [ inl here ↦ rw here (or_from _ _ above none) | inr on ↦ rw on (or_from _ _ parts.0 (none_with n ys above parts.1)) ]
+with_read-other : (r : UpdateRead) (w : ℕ) → r.unit ≢ w → (xs : List UpdateRead) → reads_of w (with_read r xs) ≡ reads_of w xs
+with_read-other r w other [] = grind arith
+with_read-other r w other (x ∷ xs) = grind (arith, with_read-other r w other xs)
+
+with_read-rising : (r : UpdateRead) (xs : List UpdateRead) → AreRising is_earlier xs → AreRising is_earlier (with_read r xs)
+with_read-rising r [] rising = (refl, tt)
+with_read-rising r (x ∷ xs) rising = elim (cases_Bool (is_read_before r x)) [
+  | inl here ↦ rw here ((grind (arith, before_unit r x here, none_lower r.unit x xs, rising.0), rising))
+  | inr on ↦ rw on ((grind (arith, none_with r x.unit xs, rising.0), with_read-rising r xs rising.1))
+]
+
+with_read-step : (r : UpdateRead) (xs : List UpdateRead) → AreRising is_earlier xs → IsReadStep r.unit xs (with_read r xs) (with_read (any_read r) (reads_of r.unit xs))
+with_read-step r xs rising = record { own = with_read-own r xs rising; others = λ w other. with_read-other r w other xs; rising = with_read-rising r xs rising }
 
 -- whether a command covers an update read, by whether that is its unit's
 abbrev covers_if : Op → UpdateRead → Bool → Bool
@@ -202,10 +154,7 @@ reads_after-step u op c xs rising = elim (cases_Bool (is_normal c)) [
 -- the key that a unit has read for update in a file
 pub read-own : (u : ℕ) (f : Bytes) (xs : List UpdateRead) → read_at xs u f ≡ read_at (reads_of u xs) 0 f
 read-own u f [] = refl
-read-own u f (x ∷ xs) = elim (cases_Bool (x.unit == u)) [
-  | inl own ↦ rw own (ap (cond (is_same x.file f) (Some x.key)) (read-own u f xs))
-  | inr other ↦ rw other (read-own u f xs)
-]
+read-own u f (x ∷ xs) = grind (arith, read-own u f xs)
 
 -- ---- Counts
 
@@ -236,88 +185,62 @@ not_above a b h = ap is_lt (nat_list_cmp_total.antisymm b a) ∙ ap (λ o. is_lt
 comes_first : (u : ℕ) (v : Bytes) (c : EnqCount) (cs : List EnqCount) → is_below v c.value ≡ true → list_any (λ d. is_lower d c) cs ≡ false →
     record { value = v; unit = 0; count = 1 } ∷ counts_of u cs ≡ counted (counts_of u cs) 0 v
 comes_first u v c [] here behind = refl
-comes_first u v c (d ∷ ds) here behind =
-    let parts = or_parts (is_below d.value c.value) (list_any (λ e. is_lower e c) ds) behind in
-    let less : is_below v d.value ≡ true = true_from_ne_false (is_below v d.value) (λ off. true≢false (sym here ∙ not_below v d.value c.value off parts.0)) in
-    let other : is_same d.value v ≡ false = false_from_ne_true (is_same d.value v) (λ same. true≢false (sym here ∙ (ap (λ x. is_below x c.value) (sym (is_same-eq d.value v same)) ∙ parts.0))) in
-    elim (cases_Bool (d.unit == u)) [ inl own ↦ rw (own, other, less) refl | inr differs ↦ rw differs (comes_first u v c ds here parts.1) ]
+comes_first u v c (d ∷ ds) here behind = grind (arith, comes_first u v c ds here, not_below v d.value c.value, is_same-eq d.value v)
+
+further : (v : Bytes) (c : EnqCount) (ds : List EnqCount) → list_any (λ d. is_lower d c) ds ≡ false → is_below v c.value ≡ true → list_any (λ d. is_below d.value v) ds ≡ false
+further v c [] none here = refl
+further v c (d ∷ ds) none here = grind (arith, further v c ds, not_below d.value c.value v, not_above v c.value)
 
 abbrev pub IsCountStep : ℕ → List EnqCount → List EnqCount → List EnqCount → Type 0
 IsCountStep u cs ds es = IsRowStep counter any_count is_lower u cs ds es
 
-pub counted-step : (u : ℕ) (v : Bytes) (cs : List EnqCount) → AreRising is_lower cs → IsCountStep u cs (counted cs u v) (counted (counts_of u cs) 0 v)
-counted-step u v [] rising = record { own = rw (eq-eqb u u refl) refl; others = λ w other. rw (ne_eqb u w other) refl; rising = (refl, tt) }
-counted-step u v (c ∷ cs) rising = elim (cases_Bool (is_count u v c)) [
-  | inl is ↦
-      let parts = and_parts (c.unit == u) (is_same c.value v) is in
-      record {
-        own = rw (is, parts.0, parts.1, eq-eqb u u refl) refl;
-        others = λ w other. rw (is, ne_eqb u w other, apart w u c.unit (λ e. other (sym e)) parts.0) refl;
-        rising = rw is rising;
-      }
+counted-own : (u : ℕ) (v : Bytes) (cs : List EnqCount) → AreRising is_lower cs → counts_of u (counted cs u v) ≡ counted (counts_of u cs) 0 v
+counted-own u v [] rising = grind arith
+counted-own u v (c ∷ cs) rising = grind (arith, counted-own u v cs rising.1, comes_first u v c cs, rising.0)
+
+counted-other : (u w : ℕ) (v : Bytes) → u ≢ w → (cs : List EnqCount) → counts_of w (counted cs u v) ≡ counts_of w cs
+counted-other u w v other [] = grind arith
+counted-other u w v other (c ∷ cs) = grind (arith, counted-other u w v other cs)
+
+none_counted : (w : Bytes) (u : ℕ) (v : Bytes) (cs : List EnqCount) → is_below v w ≡ false → list_any (λ d. is_below d.value w) cs ≡ false → list_any (λ d. is_below d.value w) (counted cs u v) ≡ false
+none_counted w u v [] on none = grind arith
+none_counted w u v (c ∷ cs) on none = grind (arith, none_counted w u v cs on)
+
+counted-rising : (u : ℕ) (v : Bytes) (cs : List EnqCount) → AreRising is_lower cs → AreRising is_lower (counted cs u v)
+counted-rising u v [] rising = (refl, tt)
+counted-rising u v (c ∷ cs) rising = elim (cases_Bool (is_count u v c)) [
+  | inl is ↦ rw is rising
   | inr off ↦ elim (cases_Bool (is_below v c.value)) [
-    | inl here ↦ record {
-      own = elim (cases_Bool (c.unit == u)) [
-        | inl own ↦ rw (off, here, own, eq-eqb u u refl) (rw (ap (λ b. b && is_same c.value v) (sym own) ∙ off, here) refl)
-        | inr differs ↦ rw (off, here, eq-eqb u u refl) (rw differs (comes_first u v c cs here rising.0))
-      ];
-      others = λ w other. rw (off, here, ne_eqb u w other) refl;
-      rising = rw (off, here) ((or_from _ _ (not_above v c.value here) (further cs rising.0 here), rising));
-    }
-    | inr on ↦
-        let rest = counted-step u v cs rising.1 in
-        record {
-          own = elim (cases_Bool (c.unit == u)) [
-            | inl own ↦ rw (off, on, own) (rw (ap (λ b. b && is_same c.value v) (sym own) ∙ off, on) (ap (λ l. any_count c ∷ l) rest.own))
-            | inr differs ↦ rw (off, on) (rw differs rest.own)
-          ];
-          others = λ w other. rw (off, on) (rows-ahead counter any_count w c (counted cs u v) cs (rest.others w other));
-          rising = rw (off, on) ((
-            false_from_ne_true (list_any (λ d. is_lower d c) (counted cs u v)) (λ t. elim (any_counted (λ n value. is_below value c.value) u v cs t) [
-              | inl old ↦ true≢false (sym old ∙ rising.0)
-              | inr new ↦ true≢false (sym new ∙ on)
-            ]),
-            rest.rising,
-          ));
-        }
+    | inl here ↦ rw (off, here) ((grind (arith, not_above v c.value, further v c cs, rising.0), rising))
+    | inr on ↦ rw (off, on) ((none_counted c.value u v cs on rising.0, counted-rising u v cs rising.1))
   ]
 ]
-  where
-    further : (ds : List EnqCount) → list_any (λ d. is_lower d c) ds ≡ false → is_below v c.value ≡ true → list_any (λ d. is_below d.value v) ds ≡ false
-    further [] none here = refl
-    further (d ∷ ds) none here =
-        let parts = or_parts (is_below d.value c.value) (list_any (λ e. is_lower e c) ds) none in
-        or_from _ _ (not_below d.value c.value v parts.0 (not_above v c.value here)) (further ds parts.1 here)
+
+pub counted-step : (u : ℕ) (v : Bytes) (cs : List EnqCount) → AreRising is_lower cs → IsCountStep u cs (counted cs u v) (counted (counts_of u cs) 0 v)
+counted-step u v cs rising = record { own = counted-own u v cs rising; others = λ w other. counted-other u w v other cs; rising = counted-rising u v cs rising }
+
+uncounted-own : (u : ℕ) (v : Bytes) (cs : List EnqCount) → counts_of u (uncounted cs u v) ≡ uncounted (counts_of u cs) 0 v
+uncounted-own u v [] = refl
+uncounted-own u v (c ∷ cs) = grind (arith, uncounted-own u v cs)
+
+uncounted-other : (u w : ℕ) (v : Bytes) → u ≢ w → (cs : List EnqCount) → counts_of w (uncounted cs u v) ≡ counts_of w cs
+uncounted-other u w v other [] = refl
+uncounted-other u w v other (c ∷ cs) = grind (arith, uncounted-other u w v other cs)
+
+none_uncounted : (w : Bytes) (u : ℕ) (v : Bytes) (cs : List EnqCount) → list_any (λ d. is_below d.value w) cs ≡ false → list_any (λ d. is_below d.value w) (uncounted cs u v) ≡ false
+none_uncounted w u v [] none = refl
+none_uncounted w u v (c ∷ cs) none = grind (arith, none_uncounted w u v cs)
+
+uncounted-rising : (u : ℕ) (v : Bytes) (cs : List EnqCount) → AreRising is_lower cs → AreRising is_lower (uncounted cs u v)
+uncounted-rising u v [] rising = tt
+uncounted-rising u v (c ∷ cs) rising = elim (cases_Bool (is_count u v c)) [
+  | inl is ↦ elim (cases_Bool (nat_lt 1 c.count)) [ | inl more ↦ rw (is, more) rising | inr last ↦ rw (is, last) rising.1 ]
+  | inr off ↦ rw off ((none_uncounted c.value u v cs rising.0, uncounted-rising u v cs rising.1))
+]
 
 pub uncounted-step : (u : ℕ) (v : Bytes) (cs : List EnqCount) → AreRising is_lower cs → IsCountStep u cs (uncounted cs u v) (uncounted (counts_of u cs) 0 v)
-uncounted-step u v [] rising = record { own = refl; others = λ w other. refl; rising = tt }
-uncounted-step u v (c ∷ cs) rising = elim (cases_Bool (is_count u v c)) [
-  | inl is ↦
-      let parts = and_parts (c.unit == u) (is_same c.value v) is in
-      let theirs : (w : ℕ) → u ≢ w → (c.unit == w) ≡ false = λ w other. apart w u c.unit (λ e. other (sym e)) parts.0 in
-      elim (cases_Bool (nat_lt 1 c.count)) [
-        | inl more ↦ record {
-          own = rw (is, more, parts.0, parts.1, eq-eqb u u refl, more) refl;
-          others = λ w other. rw (is, more, ne_eqb u w other, theirs w other) refl;
-          rising = rw (is, more) rising;
-        }
-        | inr last ↦ record { own = rw (is, last, parts.0, parts.1, last) refl; others = λ w other. rw (is, last, theirs w other) refl; rising = rw (is, last) rising.1 }
-      ]
-  | inr off ↦
-      let rest = uncounted-step u v cs rising.1 in
-      record {
-        own = elim (cases_Bool (c.unit == u)) [
-          | inl own ↦ rw (off, own) (rw (ap (λ b. b && is_same c.value v) (sym own) ∙ off) (ap (λ l. any_count c ∷ l) rest.own))
-          | inr differs ↦ rw off (rw differs rest.own)
-        ];
-        others = λ w other. rw off (rows-ahead counter any_count w c (uncounted cs u v) cs (rest.others w other));
-        rising = rw off ((false_from_ne_true (list_any (λ d. is_lower d c) (uncounted cs u v)) (λ t. true≢false (sym (any_uncounted (λ n value. is_below value c.value) u v cs t) ∙ rising.0)), rest.rising));
-      }
-]
+uncounted-step u v cs rising = record { own = uncounted-own u v cs; others = λ w other. uncounted-other u w v other cs; rising = uncounted-rising u v cs rising }
 
 pub count-own : (u : ℕ) (v : Bytes) (cs : List EnqCount) → count_at cs u v ≡ count_at (counts_of u cs) 0 v
 count-own u v [] = refl
-count-own u v (c ∷ cs) = elim (cases_Bool (c.unit == u)) [
-  | inl own ↦ rw own (ap (cond (is_same c.value v) c.count) (count-own u v cs))
-  | inr other ↦ rw other (count-own u v cs)
-]
+count-own u v (c ∷ cs) = grind (arith, count-own u v cs)
