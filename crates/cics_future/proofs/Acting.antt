@@ -95,18 +95,12 @@ same_waits m n same ws vs waits = same_beside m n same ws vs waits m.clock n.clo
 -- it is the one of its label
 put : (ts : List Task) (t v : Task) → task_at ts t.label ≡ Some t → v.label ≡ t.label → task_at (replaced ts v) v.label ≡ Some v
 put [] t v there label = cc
-put (x ∷ xs) t v there label = elim (cases_Bool (is_same x.label v.label)) [
-  | inl is ↦ rw (is, is_same-self v.label) refl
-  | inr off ↦ rw (off, off) (put xs t v (rw (ap (is_same x.label) (sym label) ∙ off) at there) label)
-]
+put (x ∷ xs) t v there label = grind (arith, put xs t v, is_same-self v.label)
 
 -- replacing looks at labels alone
 bare-replaced : (ts : List Task) (t : Task) → map unnumbered (replaced ts t) ≡ replaced (map unnumbered ts) (unnumbered t)
 bare-replaced [] t = refl
-bare-replaced (u ∷ us) t = elim (cases_Bool (is_same u.label t.label)) [
-  | inl is ↦ rw is refl
-  | inr off ↦ rw off (ap (λ l. unnumbered u ∷ l) (bare-replaced us t))
-]
+bare-replaced (u ∷ us) t = grind (arith, bare-replaced us t)
 
 -- a task put in its own place
 stays_there : (m : Machine) → IsSteady m → (t : Task) → task_at m.tasks t.label ≡ Some t → replaced m.tasks t ≡ m.tasks
@@ -255,10 +249,7 @@ module _ (m : Machine) (steady : IsSteady m) (t : Task) (there : task_at m.tasks
         let here = put m.tasks t (in_unit m t) there refl in
         let stands = open_of (after m (after_execution m.units t.unit o) (in_unit m t)) steady_executed (in_unit m t) here actor refl in
         rw (stands, label_of_own (after m (after_execution m.units t.unit o) (in_unit m t)) steady_executed (in_unit m t) here actor refl)
-        (elim (gone t.label) as (λ b. is_backed_out (if b then BackedOut else outcome_of (after_execution m.units t.unit o).outcomes actor) ≡ b) [
-          | true ↦ refl
-          | false ↦ open_kept (outcome_of (after_execution m.units t.unit o).outcomes actor) stands
-        ])
+        (grind (arith, open_kept (outcome_of (after_execution m.units t.unit o).outcomes actor) stands))
 
     step_executed : IsStepOf m t (in_unit m t) (after_execution m.units t.unit o) (λ p s x. own_entered p o (apply s o).answer x)
         (λ has s later next. next_after s o (apply s o).answer.condition next)

@@ -45,31 +45,18 @@ use Rattle.cics_future.proofs.Labels.{turned, live_open, AreActing, same_label, 
 
 -- bytes of which neither is below the other are the same
 neither_below : (a b : Bytes) → is_below a b ≡ false → is_below b a ≡ false → a ≡ b
-neither_below a b h k = by (bytes_cmp a b) refl
-  where
-    by : (o : Ordering) → bytes_cmp a b ≡ o → a ≡ b
-    by Less e = absurd (true≢false (sym (ap is_lt e) ∙ h))
-    by Equal e = same_bytes a b e
-    by Greater e = absurd (true≢false (sym (ap is_lt (nat_list_cmp_total.antisymm b a ∙ ap ordering_reverse e)) ∙ k))
+neither_below a b h k = grind (arith, nat_list_cmp_total.antisymm b a, same_bytes a b)
 
 has_prefix-self : (p : Bytes) → has_prefix p p ≡ true
 has_prefix-self [] = refl
-has_prefix-self (x ∷ p) = and_from _ _ (eq-eqb x x refl) (has_prefix-self p)
-
-same_names : (f g h : Bytes) → is_same f g ≡ true → is_same f h ≡ true → is_same g h ≡ true
-same_names f g h a b = rw (is_same-eq f g a) at b
+has_prefix-self (x ∷ p) = grind (arith, has_prefix-self p)
 
 -- two resources of the same bytes that conflict with a third conflict
 conflict_joined : (r s t : Resource) → conflicts r s ≡ true → conflicts r t ≡ true → bytes_in s ≡ bytes_in t → conflicts s t ≡ true
-conflict_joined (FilePrefix f p) (FileKey g k) (FileKey h l) a b same =
-    and_from _ _ (same_names f g h (and_parts _ _ a).0 (and_parts _ _ b).0) (subst (λ x. is_same k.items x ≡ true) same (is_same-self k.items))
-conflict_joined (FilePrefix f p) (FileKey g k) (FilePrefix h q) a b same =
-    and_from _ _ (same_names f g h (and_parts _ _ a).0 (and_parts _ _ b).0) (subst (λ x. has_prefix q.items x ≡ true) (sym same) (has_prefix-self q.items))
-conflict_joined (FilePrefix f p) (FilePrefix g q) (FileKey h k) a b same =
-    and_from _ _ (same_names f g h (and_parts _ _ a).0 (and_parts _ _ b).0) (subst (λ x. has_prefix q.items x ≡ true) same (has_prefix-self q.items))
-conflict_joined (FilePrefix f p) (FilePrefix g q) (FilePrefix h s) a b same =
-    and_from _ _ (same_names f g h (and_parts _ _ a).0 (and_parts _ _ b).0)
-    (or_left (has_prefix q.items s.items) (has_prefix s.items q.items) (subst (λ x. has_prefix q.items x ≡ true) same (has_prefix-self q.items)))
+conflict_joined (FilePrefix f p) (FileKey g k) (FileKey h l) a b same = grind (arith, is_same-eq f g, is_same-eq f h, is_same-self g, is_same-self k.items)
+conflict_joined (FilePrefix f p) (FileKey g k) (FilePrefix h q) a b same = grind (arith, is_same-eq f g, is_same-eq f h, is_same-self g, has_prefix-self q.items)
+conflict_joined (FilePrefix f p) (FilePrefix g q) (FileKey h k) a b same = grind (arith, is_same-eq f g, is_same-eq f h, is_same-self g, has_prefix-self q.items)
+conflict_joined (FilePrefix f p) (FilePrefix g q) (FilePrefix h s) a b same = grind (arith, is_same-eq f g, is_same-eq f h, is_same-self g, has_prefix-self q.items)
 conflict_joined (FilePrefix f p) (FileKey g k) _ a b same = absurd (false≢true b)
 conflict_joined (FilePrefix f p) (FilePrefix g q) _ a b same = absurd (false≢true b)
 conflict_joined (FilePrefix f p) _ _ a b same = absurd (false≢true a)
@@ -153,10 +140,7 @@ module _ (m n : Machine) (t u : Task) (acting : AreActing m n t u) where
           absurd (true≢false (sym (holder_some n.units u.unit r back.unit acting.same.second.units.sound back.other back.holds) ∙ ap (λ o. is_some (entry o)) there))
 
   first_of_two : (x y x' y' : Option ℕ) → told m x ≡ told n x' → told m y ≡ told n y' → told m (first_some x y) ≡ told n (first_some x' y')
-  first_of_two None y None y' a b = b
-  first_of_two (Some v) y (Some w) y' a b = a
-  first_of_two None y (Some w) y' a b = cc
-  first_of_two (Some v) y None y' a b = cc
+  first_of_two x y x' y' a b = grind (arith, a, b)
 
   same_among : (rs : List Resource) → told m (blocker_among (owned m.units) t.unit rs) ≡ told n (blocker_among (owned n.units) u.unit rs)
   same_among [] = refl
@@ -174,7 +158,7 @@ same_endings s fin more known same =
   where
     left : (es : List Entry) → Each (λ e. is_backed_out (fin e.unit) ≡ is_backed_out (more e.unit)) es → left_by s.opening fin es ≡ left_by s.opening more es
     left [] each = refl
-    left (e ∷ es) each = rw (each.0, left es each.1) refl
+    left (e ∷ es) each = grind (arith, each.0, left es each.1)
 
 -- an ending is as another if both treat the open units alike
 pub same_if_open : (m : Machine) → IsSteady m → (gone : Bytes → Bool) (more : Outcomes) →
@@ -199,11 +183,8 @@ others_gone m steady t there =
     rw (live_open m.units u live, told_by_label m steady t there u live, own t.unit u begun) refl)
   where
     own : (o : Option ℕ) (u : ℕ) → u < length m.units.outcomes → is_unit o u ≡ (u == unit_or_next o m.units.outcomes)
-    own None u below = sym (ne_eqb u (length m.units.outcomes) (λ e. omega (arith, below, e)))
-    own (Some w) u below = elim (cases_Bool (w == u)) [
-      | inl same ↦ rw same (sym (eq-eqb u w (sym (eqb-true w u same))))
-      | inr differ ↦ rw differ (sym (ne_eqb u w (λ e. eqb-false w u differ (sym e))))
-    ]
+    own None u below = grind arith
+    own (Some w) u below = grind arith
 
 module _ (m n : Machine) (t u : Task) (acting : AreActing m n t u) where
   -- a task may read the same records

@@ -1,6 +1,6 @@
 -- Regions that look alike have the same future: what an open unit did can be done last, so each
 -- ending is what stands without open units, and then what those units did that it keeps.
-use Rattle.std.proofs.Common.{◌≡◌, ℕ, zero, suc, ◌==◌, Bool, true, false, not, ◌||◌, Option, Some, None, List, [], ◌∷◌, inl, inr, refl, ap, sym, ◌∙◌}
+use Rattle.std.proofs.Common.{◌≡◌, ℕ, zero, suc, ◌==◌, Bool, true, false, not, ◌||◌, Option, Some, None, List, [], ◌∷◌, inl, inr, refl, ap, sym, ◌∙◌, arith}
 use Rattle.std.specs.Prelude.{if◌then◌else◌, map, slice_get}
 use Rattle.std.specs.List.{list_any}
 use Rattle.std.proofs.lemmas.Bool.{cases_Bool, eq-eqb, or_left, or_right}
@@ -50,14 +50,7 @@ but_same : (gone : Bytes → Bool) (kept : List Bytes) (l : Bytes) → gone l �
 but_same gone kept l same = λ i k. at k i
   where
     at : (k : Bytes) → but gone (l ∷ kept) k ≡ but gone kept k
-    at k = elim (cases_Bool (is_same k l)) [
-      | inl is ↦ rw (is, is_same-eq k l is) (none (gone l) ∙ same)
-      | inr off ↦ rw off refl
-    ]
-      where
-        none : (b : Bool) → (b || false) ≡ b
-        none true = refl
-        none false = refl
+    at k = grind (arith, is_same-eq k l, same)
 
 module _ (m : Machine) (steady : IsSteady m) (gone : Bytes → Bool) (kept : List Bytes) (l : Bytes) (stays : gone l ≡ false) (new : but gone kept l ≡ true) where
   -- the ending that keeps one unit more
@@ -109,12 +102,9 @@ bare-labels [] = refl
 bare-labels (t ∷ ts) = ap (λ ls. t.label ∷ ls) (bare-labels ts)
 
 in_labels : (ts : List Task) (i : ℕ) (t : Task) → slice_get ts i ≡ Some t → list_any (λ k. is_same t.label k) (labels ts) ≡ true
-in_labels [] i t there = absurd (none i there)
-  where
-    none : (i : ℕ) → slice_get [] i ≡ Some t → ⊥
-    none i there = cc
-in_labels (x ∷ xs) zero t there = let same : x ≡ t = cc in or_left _ _ (ap (λ (y : Task). is_same t.label y.label) same ∙ is_same-self t.label)
-in_labels (x ∷ xs) (suc i) t there = or_right _ _ (in_labels xs i t there)
+in_labels [] i t there = grind arith
+in_labels (x ∷ xs) zero t there = grind (arith, is_same-self t.label)
+in_labels (x ∷ xs) (suc i) t there = grind (arith, in_labels xs i t there)
 
 -- each ending keeps the units of some tasks
 all_labels : (m : Machine) → IsSteady m → (gone : Bytes → Bool) → store_if m gone ≡ store_if m (but gone (labels m.tasks))
@@ -123,8 +113,7 @@ all_labels m steady gone =
     (λ u live.
     let found = task_of m steady u live in
     let there : list_any (λ k. is_same (label_of m.tasks u) k) (labels m.tasks) ≡ true = rw found.label (in_labels m.tasks found.place found.task found.placed) in
-    rw (live_open m.units u live, there) (elim (gone (label_of m.tasks u)) as
-    (λ b. is_backed_out (if b then BackedOut else outcome_of m.units.outcomes u) ≡ is_backed_out (if b || false then BackedOut else outcome_of m.units.outcomes u)) [ true ↦ refl | false ↦ refl ]))
+    grind (arith, live_open m.units u live, there))
 
 module _ (m n : Machine) (first : IsSteady m) (second : IsSteady n) (look : LookAlike m n) where
   cells_kept : (gone : Bytes → Bool) (kept : List Bytes) (x : Cell) → recovers m.units.opening x ≡ true → content (store_if m (but gone kept)) x ≡ content (store_if n (but gone kept)) x

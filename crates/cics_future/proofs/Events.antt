@@ -1,6 +1,6 @@
 -- Every event answers the same in two regions that have the same future, and leaves regions that
 -- have the same future.
-use Rattle.std.proofs.Common.{◌≡◌, ℕ, zero, suc, ◌-◌, Bool, true, false, ◌&&◌, Option, Some, None, List, [], ◌∷◌, ◌++◌, Result, Ok, Err, inl, inr, refl, ap, sym, ◌∙◌, subst}
+use Rattle.std.proofs.Common.{◌≡◌, ℕ, zero, suc, ◌-◌, Bool, true, false, ◌&&◌, Option, Some, None, List, [], ◌∷◌, ◌++◌, Result, Ok, Err, inl, inr, refl, ap, sym, ◌∙◌, subst, arith}
 use Rattle.std.specs.Prelude.{if◌then◌else◌, is_some, is_none, option_map, map, nat_lt, nat_le, slice_get}
 use Rattle.std.proofs.lemmas.Bool.{true≢false, false≢true, cases_Bool}
 use Rattle.std.proofs.lemmas.List.{map_push}
@@ -85,8 +85,8 @@ module _ (m n : Machine) (same : HaveSameFuture m n) where
 
   -- a task more, which has no unit
   unit_pushed : (ts : List Task) (label l : Bytes) (dtimout : ℕ) → had_by own_unit (task_at (ts ++ new_task label dtimout ∷ []) l) ≡ had_by own_unit (task_at ts l)
-  unit_pushed [] label l dtimout = elim (cases_Bool (is_same label l)) [ inl is ↦ rw is refl | inr off ↦ rw off refl ]
-  unit_pushed (t ∷ ts) label l dtimout = elim (cases_Bool (is_same t.label l)) [ inl is ↦ rw is refl | inr off ↦ rw off (unit_pushed ts label l dtimout) ]
+  unit_pushed [] label l dtimout = grind arith
+  unit_pushed (t ∷ ts) label l dtimout = grind (arith, unit_pushed ts label l dtimout)
 
   label_pushed : (ts : List Task) (label : Bytes) (dtimout u : ℕ) → label_of (ts ++ new_task label dtimout ∷ []) u ≡ label_of ts u
   label_pushed [] label dtimout u = refl

@@ -1,5 +1,5 @@
 -- The tasks of two regions that are alike go by their labels, and so do their units.
-use Rattle.std.proofs.Common.{◌≡◌, ℕ, zero, suc, ◌==◌, true, false, not, cond, Option, Some, None, List, [], ◌∷◌, ◌⊎◌, inl, inr, refl, ap, sym, ◌∙◌}
+use Rattle.std.proofs.Common.{◌≡◌, ℕ, zero, suc, ◌==◌, true, false, not, cond, Option, Some, None, List, [], ◌∷◌, ◌⊎◌, inl, inr, refl, ap, sym, ◌∙◌, arith}
 use Rattle.std.specs.Prelude.{option_map, map, slice_get}
 use Rattle.std.proofs.lemmas.Bool.{true≢false, false≢true, cases_Bool, and_parts, eqb-true, eq-eqb, false_from_ne_true}
 use Rattle.std.proofs.lemmas.Option.{none-some}
@@ -149,25 +149,14 @@ module _ (m : Machine) (steady : IsSteady m) (t : Task) (there : task_at m.tasks
     where
       by : (o : Option ℕ) → is_other o u ≡ not (is_unit o u)
       by None = refl
-      by (Some w) = elim (cases_Bool (w == u)) [
-        | inl same ↦ rw (same, eq-eqb u w (sym (eqb-true w u same))) refl
-        | inr differ ↦ rw (differ, eqb-turned u w differ) refl
-      ]
+      by (Some w) = grind arith
 
 -- with a task in the place of the one of its label, a unit that it has as the other had it keeps
 -- its label
 pub label_kept : (ts : List Task) (t v : Task) (u : ℕ) → task_at ts t.label ≡ Some t → v.label ≡ t.label → is_unit v.unit u ≡ is_unit t.unit u →
     label_of (replaced ts v) u ≡ label_of ts u
 label_kept [] t v u there label same = refl
-label_kept (x ∷ xs) t v u there label same = elim (cases_Bool (is_same x.label v.label)) [
-  | inl is ↦
-      let first : Some x ≡ Some t = rw (ap (is_same x.label) (sym label) ∙ is) at there in
-      let here : x ≡ t = cc in
-      rw (is, same, label) (ap (λ (y : Task). cond (is_unit y.unit u) y.label (label_of xs u)) (sym here))
-  | inr differs ↦
-      rw differs (ap (λ l. cond (is_unit x.unit u) x.label l)
-      (label_kept xs t v u (rw (ap (is_same x.label) (sym label) ∙ differs) at there) label same))
-]
+label_kept (x ∷ xs) t v u there label same = grind (arith, label_kept xs t v u, is_same-eq x.label t.label)
 
 -- ---- A task of both regions
 
@@ -184,10 +173,7 @@ same_label t u bare = ap (λ (x : Task). x.label) bare
 -- a label is found without the numbers of units
 bare-task_at : (ts : List Task) (label : Bytes) → option_map unnumbered (task_at ts label) ≡ task_at (map unnumbered ts) label
 bare-task_at [] label = refl
-bare-task_at (t ∷ ts) label = elim (cases_Bool (is_same t.label label)) [
-  | inl is ↦ rw is refl
-  | inr other ↦ rw other (bare-task_at ts label)
-]
+bare-task_at (t ∷ ts) label = grind (arith, bare-task_at ts label)
 
 -- what holds of no task in both, and of tasks that act, holds of the tasks of a label
 pub both_tasks : (m n : Machine) → HaveSameFuture m n → (label : Bytes) (P : Option Task → Option Task → Type 0) →

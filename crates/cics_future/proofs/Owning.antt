@@ -34,19 +34,13 @@ abbrev done : OpeningState → ℕ → List Entry → List Op
 done o u es = map (λ e. e.op) (done_by o es u)
 
 done-push : (o : OpeningState) (u : ℕ) (es : List Entry) (e : Entry) → done o u (es ++ e ∷ []) ≡ done o u es ++ (if is_done_by o u e then e.op ∷ [] else [])
-done-push o u [] e = elim (cases_Bool (is_done_by o u e)) [ inl is ↦ rw is refl | inr off ↦ rw off refl ]
-done-push o u (d ∷ es) e = elim (cases_Bool (is_done_by o u d)) [
-  | inl is ↦ rw is (ap (λ l. d.op ∷ l) (done-push o u es e))
-  | inr off ↦ rw off (done-push o u es e)
-]
+done-push o u [] e = grind arith
+done-push o u (d ∷ es) e = grind (arith, done-push o u es e)
 
 -- what it holds by its commands is what these use
 held_done : (o : OpeningState) (u : ℕ) (es : List Entry) → flat_map (held_by_entry o u) es ≡ flat_map (uses_of o) (done o u es)
 held_done o u [] = refl
-held_done o u (e ∷ es) = elim (cases_Bool (is_done_by o u e)) [
-  | inl mine ↦ rw mine (ap (λ l. uses_of o e.op ++ l) (held_done o u es))
-  | inr other ↦ rw other (held_done o u es)
-]
+held_done o u (e ∷ es) = grind (arith, held_done o u es)
 
 -- the key of its update read of a file
 pub read_told : (s : UnitsState) (o : Option ℕ) (f : Bytes) → has_read s o f ≡ read_at (own_by s o).reads 0 f
@@ -73,9 +67,7 @@ held_told s u live = rw live (λ i. by_ops i ++ by_reads i ++ by_counts i)
 
 none_done : (o : OpeningState) (n : ℕ) (es : List Entry) → Each (λ e. e.unit < n) es → done o n es ≡ []
 none_done o n [] known = refl
-none_done o n (e ∷ es) known =
-    let below : e.unit < n = known.0 in
-    rw (ne_eqb e.unit n (λ same. omega (arith, below, same))) (none_done o n es known.1)
+none_done o n (e ∷ es) known = grind (arith, none_done o n es known.1, known.0)
 
 -- the unit that acts has what its task's unit has, if it has one, or nothing
 pub acting_own : (s : UnitsState) (o : Option ℕ) → IsSound s → own_by s (Some (unit_or_next o s.outcomes)) ≡ own_by s o
