@@ -403,13 +403,8 @@ module _ (m : Machine) (steady : IsSteady m) (t : Task) (there : task_at m.tasks
     outcome_after : (o : Option ℕ) (u : ℕ) → u < length m.units.outcomes →
         outcome_of (units_after m.units o outcome).outcomes u ≡ (if is_unit o u then outcome else outcome_of m.units.outcomes u)
     outcome_after None u below = refl
-    outcome_after (Some x) u below = elim (cases_Bool (x == u)) [
-      | inl is ↦
-          let same : u ≡ x = sym (eqb-true x u is) in
-          rw is (ap (λ o. unwrap_or o Open) (get-set m.units.outcomes x u outcome)
-          ∙ rw (eq-eqb u x same) (ap (λ o. unwrap_or (cond (is_some o) (Some outcome) o) Open) (slice_get-get_or m.units.outcomes u Open below)))
-      | inr differs ↦ rw differs (outcome_of-set m.units.outcomes x u outcome (λ e. eqb-false x u differs (sym e)))
-    ]
+    outcome_after (Some x) u below =
+        grind (arith, get-set m.units.outcomes x u outcome, slice_get-get_or m.units.outcomes u Open below, outcome_of-set m.units.outcomes x u outcome)
 
     -- each ending then is one of before in which the unit has this outcome
     stores_closed : (gone : Bytes → Bool) →
@@ -417,10 +412,7 @@ module _ (m : Machine) (steady : IsSteady m) (t : Task) (there : task_at m.tasks
     stores_closed gone =
         rw ((history_after t.unit).0, (history_after t.unit).1)
         (sym (same_if_open m steady (λ l. if is_same l t.label then is_backed_out outcome else gone l) (ending (unit_closed m t outcome has_ended) gone)
-        (λ u below shut. rw (outcome_after t.unit u below) (elim (cases_Bool (is_unit t.unit u)) [
-          | inl is ↦ absurd (false≢true (sym shut ∙ open_of m steady t there u (unit_is t.unit u is)))
-          | inr off ↦ rw (off, shut) refl
-        ]))
+        (λ u below shut. grind (arith, outcome_after t.unit u below, shut, open_of m steady t there u, unit_is t.unit u))
         (λ u live. rw (told_by_label m steady t there u live, outcome_after t.unit u (begun m.units u live)) (elim (cases_Bool (is_unit t.unit u)) [
           | inl is ↦ rw (is, closed) (known outcome closed (outcome_of m.units.outcomes u) (open_of m steady t there u (unit_is t.unit u is)))
           | inr off ↦

@@ -38,6 +38,7 @@ use Rattle.cics_history.proofs.Waiting.{any_more, committed-content}
 use Rattle.cics_waits.specs.Notes.{is_unit}
 use Rattle.cics_machine.specs.Machine.{Machine, Task, task_at, label_of}
 use Rattle.cics_machine.specs.Waking.{awaited_by}
+use Rattle.cics_machine.proofs.OtherUnits.{begun}
 use Rattle.cics_future.specs.Futures.{store_if, ending, IsSteady}
 use Rattle.cics_future.proofs.Labels.{turned, live_open, AreActing, same_label, partner, told_by_label, other_by_label}
 
@@ -177,10 +178,8 @@ others_gone : (m : Machine) (steady : IsSteady m) (t : Task) → task_at m.tasks
     ≡ store_by m.units.opening (alone (outcome_of m.units.outcomes) (unit_or_next t.unit m.units.outcomes)) m.units.trace
 others_gone m steady t there =
     same_if_open m steady (λ l. not (is_same l t.label)) (alone (outcome_of m.units.outcomes) (unit_or_next t.unit m.units.outcomes))
-    (λ u begun closed. rw closed refl)
-    (λ u live.
-    let begun : u < length m.units.outcomes = ltb-true u (length m.units.outcomes) (and_parts _ _ live).0 in
-    rw (live_open m.units u live, told_by_label m steady t there u live, own t.unit u begun) refl)
+    (λ u below closed. rw closed refl)
+    (λ u live. grind (arith, live_open m.units u live, told_by_label m steady t there u live, own t.unit u (begun m.units u live)))
   where
     own : (o : Option ℕ) (u : ℕ) → u < length m.units.outcomes → is_unit o u ≡ (u == unit_or_next o m.units.outcomes)
     own None u below = grind arith

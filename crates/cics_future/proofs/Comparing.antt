@@ -60,15 +60,8 @@ module _ (m : Machine) (steady : IsSteady m) (gone : Bytes → Bool) (kept : Lis
   is_ending : store_if m (but gone (l ∷ kept)) ≡ store_by m.units.opening (kept_too (unit_of m l)) m.units.trace
   is_ending =
       same_if_open m steady (but gone (l ∷ kept)) (kept_too (unit_of m l))
-      (λ u begun shut. elim (cases_Bool (is_unit (unit_of m l) u)) [ inl is ↦ rw is refl | inr off ↦ rw (off, shut) refl ])
-      (λ u live. elim (cases_Bool (is_unit (unit_of m l) u)) [
-        | inl is ↦
-            let here : is_same (label_of m.tasks u) l ≡ true = told_by m steady l u live ∙ is in
-            rw (is, here, is_same-eq (label_of m.tasks u) l here, stays) refl
-        | inr off ↦
-            let other : is_same (label_of m.tasks u) l ≡ false = told_by m steady l u live ∙ off in
-            rw (off, other, live_open m.units u live) refl
-      ])
+      (λ u begun shut. grind (arith, shut))
+      (λ u live. grind (arith, told_by m steady l u live, is_same-eq (label_of m.tasks u) l, stays, live_open m.units u live))
 
   -- gives what the ending without it gives, and then what the unit did
   one_more : (x : Cell) → recovers m.units.opening x ≡ true →

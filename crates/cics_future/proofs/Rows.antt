@@ -161,25 +161,13 @@ read-own u f (x ∷ xs) = grind (arith, read-own u f xs)
 abbrev pub counts_of : ℕ → List EnqCount → List EnqCount
 counts_of u cs = rows_of counter any_count u cs
 
-below_less : (o : Ordering) → is_lt o ≡ true → o ≡ Less
-below_less Less h = refl
-below_less Equal h = absurd (false≢true h)
-below_less Greater h = absurd (false≢true h)
-
 -- what isn't below a second that isn't below a third isn't below the third
 not_below : (a b c : Bytes) → is_below a b ≡ false → is_below b c ≡ false → is_below a c ≡ false
-not_below a b c h k = false_from_ne_true (is_below a c) (λ t. by t (bytes_cmp a b) refl)
-  where
-    by : is_below a c ≡ true → (o : Ordering) → bytes_cmp a b ≡ o → ⊥
-    by t Less e = true≢false (sym (ap is_lt e) ∙ h)
-    by t Equal e = true≢false (sym t ∙ (ap is_lt (nat_list_cmp_total.congr a b c e) ∙ k))
-    by t Greater e =
-        let turned : bytes_cmp b a ≡ Less = nat_list_cmp_total.antisymm b a ∙ ap ordering_reverse e in
-        true≢false (sym (ap is_lt (nat_list_cmp_total.trans b a c turned (below_less (bytes_cmp a c) t))) ∙ k)
+not_below a b c h k = grind (arith, nat_list_cmp_total.antisymm b a, nat_list_cmp_total.trans b a c, nat_list_cmp_total.congr a b c)
 
 -- what is below another isn't above it
 not_above : (a b : Bytes) → is_below a b ≡ true → is_below b a ≡ false
-not_above a b h = ap is_lt (nat_list_cmp_total.antisymm b a) ∙ ap (λ o. is_lt (ordering_reverse o)) (below_less (bytes_cmp a b) h)
+not_above a b h = grind (arith, nat_list_cmp_total.antisymm b a)
 
 -- a value that is below all others is counted first
 comes_first : (u : ℕ) (v : Bytes) (c : EnqCount) (cs : List EnqCount) → is_below v c.value ≡ true → list_any (λ d. is_lower d c) cs ≡ false →
