@@ -413,16 +413,8 @@ module _ (m : Machine) (steady : IsSteady m) (t : Task) (there : task_at m.tasks
         rw ((history_after t.unit).0, (history_after t.unit).1)
         (sym (same_if_open m steady (λ l. if is_same l t.label then is_backed_out outcome else gone l) (ending (unit_closed m t outcome has_ended) gone)
         (λ u below shut. grind (arith, outcome_after t.unit u below, shut, open_of m steady t there u, unit_is t.unit u))
-        (λ u live. rw (told_by_label m steady t there u live, outcome_after t.unit u (begun m.units u live)) (elim (cases_Bool (is_unit t.unit u)) [
-          | inl is ↦ rw (is, closed) (known outcome closed (outcome_of m.units.outcomes u) (open_of m steady t there u (unit_is t.unit u is)))
-          | inr off ↦
-              rw (off, live_open m.units u live, label_kept m.tasks t (closed_task has_ended) u there refl (sym off)) refl
-        ]))))
-      where
-        known : (outcome : UnitState) → is_open outcome ≡ false → (o : UnitState) → is_open o ≡ true → is_backed_out (if is_backed_out outcome then BackedOut else o) ≡ is_backed_out outcome
-        known Committed shut o live = open_kept o live
-        known BackedOut shut o live = refl
-        known Open shut o live = absurd (true≢false shut)
+        (λ u live. grind (arith, told_by_label m steady t there u live, outcome_after t.unit u (begun m.units u live), live_open m.units u live,
+        label_kept m.tasks t (closed_task has_ended) u there refl, open_kept (outcome_of m.units.outcomes u), closed))))
 
     step_closed : IsStepOf m t (closed_task has_ended) (units_after m.units t.unit outcome) (λ p s x. own_by m.units None)
         (λ has s later next. if has then filter (λ c. has_key c.0 later.ts) next else next)

@@ -4,6 +4,7 @@ use Rattle.std.proofs.Common.{◌≡◌, ℕ, zero, suc, ◌==◌, Bool, true, f
 use Rattle.std.specs.Prelude.{if◌then◌else◌, map, slice_get}
 use Rattle.std.specs.List.{list_any}
 use Rattle.std.proofs.lemmas.Bool.{cases_Bool, eq-eqb, or_left, or_right}
+use Rattle.std.proofs.Math.Bool.{or-true}
 use Rattle.cics_names.specs.Keyed.{Bytes, is_same}
 use Rattle.cics_names.specs.KeyedLaws.{is_same-self, is_same-eq}
 use Rattle.cics_history.specs.State.{Store, initial_store}
@@ -112,12 +113,8 @@ module _ (m n : Machine) (first : IsSteady m) (second : IsSteady n) (look : Look
   cells_kept : (gone : Bytes → Bool) (kept : List Bytes) (x : Cell) → recovers m.units.opening x ≡ true → content (store_if m (but gone kept)) x ≡ content (store_if n (but gone kept)) x
   cells_kept gone [] x rec = ap (λ k. content (store_if m k) x) all ∙ (ap (λ s. content s x) look.committed ∙ sym (ap (λ k. content (store_if n k) x) all))
     where
-      or_all : (b : Bool) → (b || true) ≡ true
-      or_all true = refl
-      or_all false = refl
-
       all : but gone [] ≡ (λ l. true)
-      all = λ i l. or_all (gone l) i
+      all = λ i l. or-true (gone l) i
   cells_kept gone (l ∷ kept) x rec = elim (cases_Bool (gone l)) [
     | inl out ↦ same (cells_kept gone kept x rec) (out ∙ sym (ap (λ b. b || not (list_any (λ k. is_same l k) kept)) out))
     | inr stays ↦ elim (cases_Bool (but gone kept l)) [

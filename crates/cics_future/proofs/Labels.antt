@@ -81,9 +81,7 @@ task_or_none (x ∷ xs) u = elim (cases_Bool (is_unit x.unit u)) [
 ]
   where
     nobody : is_unit x.unit u ≡ false → HasNoOwner xs u → (i : ℕ) (t : Task) → slice_get (x ∷ xs) i ≡ Some t → t.unit ≡ Some u → ⊥
-    nobody e rest zero t placed has =
-        let same : x ≡ t = cc in
-        true≢false (sym (ap (λ o. is_unit o u) (ap (λ (y : Task). y.unit) same ∙ has) ∙ eq-eqb u u refl) ∙ e)
+    nobody e rest zero t placed has = grind (arith, placed, has, e)
     nobody e rest (suc i) t placed has = rest.other i t placed has
 
 pub task_of : (m : Machine) → IsSteady m → (u : ℕ) → is_live m.units u ≡ true → HasTask m.tasks u
