@@ -1,8 +1,8 @@
 -- A step of a task in two regions that are alike: it changes what the task's own unit has, and each
 -- store, in the same way.
 use Rattle.std.proofs.Common.{◌≡◌, ◌≢◌, ℕ, ◌<◌, ◌==◌, Bool, true, false, not, ◌&&◌, cond, Option, Some, None, List, [], ◌∷◌, length, inl, inr, refl, ap, sym, ◌∙◌, arith}
-use Rattle.std.specs.Prelude.{is_some, option_map, if◌then◌else◌, filter, map, slice_get, unwrap_or}
-use Rattle.std.proofs.lemmas.Bool.{true≢false, false≢true, cases_Bool, eqb-true, eqb-false, eq-eqb, ne_eqb}
+use Rattle.std.specs.Prelude.{is_some, option_map, if◌then◌else◌, filter, map, slice_get}
+use Rattle.std.proofs.lemmas.Bool.{true≢false, cases_Bool, ne_eqb}
 use Rattle.std.proofs.lemmas.Option.{slice_get-get_or}
 use Rattle.std.proofs.lemmas.List.Elements.{All-nil}
 use Rattle.cics_names.specs.Keyed.{Bytes, Map, has_key, with_value, is_same}
@@ -413,8 +413,15 @@ module _ (m : Machine) (steady : IsSteady m) (t : Task) (there : task_at m.tasks
         rw ((history_after t.unit).0, (history_after t.unit).1)
         (sym (same_if_open m steady (λ l. if is_same l t.label then is_backed_out outcome else gone l) (ending (unit_closed m t outcome has_ended) gone)
         (λ u below shut. grind (arith, outcome_after t.unit u below, shut, open_of m steady t there u, unit_is t.unit u))
-        (λ u live. grind (arith, told_by_label m steady t there u live, outcome_after t.unit u (begun m.units u live), live_open m.units u live,
-        label_kept m.tasks t (closed_task has_ended) u there refl, open_kept (outcome_of m.units.outcomes u), closed))))
+        (λ u live. grind (
+          arith,
+          told_by_label m steady t there u live,
+          outcome_after t.unit u (begun m.units u live),
+          live_open m.units u live,
+          label_kept m.tasks t (closed_task has_ended) u there refl,
+          open_kept (outcome_of m.units.outcomes u),
+          closed,
+        ))))
 
     step_closed : IsStepOf m t (closed_task has_ended) (units_after m.units t.unit outcome) (λ p s x. own_by m.units None)
         (λ has s later next. if has then filter (λ c. has_key c.0 later.ts) next else next)

@@ -3,19 +3,18 @@
 use Rattle.std.proofs.Common.{◌≡◌, ℕ, zero, suc, ◌==◌, Bool, true, false, not, ◌||◌, Option, Some, None, List, [], ◌∷◌, inl, inr, refl, ap, sym, ◌∙◌, arith}
 use Rattle.std.specs.Prelude.{if◌then◌else◌, map, slice_get}
 use Rattle.std.specs.List.{list_any}
-use Rattle.std.proofs.lemmas.Bool.{cases_Bool, eq-eqb, or_left, or_right}
+use Rattle.std.proofs.lemmas.Bool.{cases_Bool, eq-eqb}
 use Rattle.std.proofs.Math.Bool.{or-true}
 use Rattle.cics_names.specs.Keyed.{Bytes, is_same}
 use Rattle.cics_names.specs.KeyedLaws.{is_same-self, is_same-eq}
 use Rattle.cics_history.specs.State.{Store, initial_store}
 use Rattle.cics_history.specs.Store.{apply}
-use Rattle.cics_history.specs.Headline.{outcome_of, is_backed_out, replay}
+use Rattle.cics_history.specs.Headline.{outcome_of, replay}
 use Rattle.cics_history.specs.Cells.{Cell, Content, content, recovers}
 use Rattle.cics_history.specs.Isolation.{Outcomes, left_by, store_by}
 use Rattle.cics_history.specs.Serial.{done_by}
 use Rattle.cics_history.specs.declared.ops.Op.{Op}
 use Rattle.cics_history.specs.declared.ops.Entry.{Entry}
-use Rattle.cics_history.specs.declared.ops.UnitState.TheVariants.{BackedOut}
 use Rattle.cics_history.proofs.Executes.{open_kept}
 use Rattle.cics_history.proofs.Isolated.{unrecovered}
 use Rattle.cics_history.proofs.Joining.{after_at, apply-content}

@@ -1,5 +1,5 @@
 -- The tasks of two regions that are alike go by their labels, and so do their units.
-use Rattle.std.proofs.Common.{◌≡◌, ℕ, zero, suc, ◌==◌, true, false, not, cond, Option, Some, None, List, [], ◌∷◌, ◌⊎◌, inl, inr, refl, ap, sym, ◌∙◌, arith}
+use Rattle.std.proofs.Common.{◌≡◌, ℕ, zero, suc, true, false, not, Option, Some, None, List, [], ◌∷◌, ◌⊎◌, inl, inr, refl, ap, sym, ◌∙◌, arith}
 use Rattle.std.specs.Prelude.{option_map, map, slice_get}
 use Rattle.std.proofs.lemmas.Bool.{true≢false, false≢true, cases_Bool, and_parts, eqb-true, eq-eqb, false_from_ne_true}
 use Rattle.std.proofs.lemmas.Option.{none-some}
@@ -11,7 +11,6 @@ use Rattle.cics_history.specs.Holding.{held_by, is_other}
 use Rattle.cics_history.specs.Events.{is_live}
 use Rattle.cics_machine.specs.Machine.{Machine, Task, task_at, label_of, replaced}
 use Rattle.cics_machine.specs.Blockers.{unit_of}
-use Rattle.cics_history.proofs.SerialLists.{eqb-turned}
 use Rattle.cics_waits.specs.Notes.{is_unit}
 use Rattle.cics_machine.specs.Tasks.{own_unit, had_by, HasNoOwner}
 use Rattle.cics_machine.proofs.TaskPlaces.{place_of_task, task_at-place}

@@ -1,14 +1,11 @@
 -- The rows of one unit among those of all: what filters do to them, and what a step does to update
 -- reads and counts.
-use Rattle.std.proofs.Common.{◌≡◌, ◌≢◌, ℕ, ◌<◌, ◌≤◌, ◌==◌, Bool, true, false, not, ◌&&◌, cond, Some, List, [], ◌∷◌, ◌++◌, inl, inr, refl, ap, sym, ◌∙◌, arith}
+use Rattle.std.proofs.Common.{◌≡◌, ◌≢◌, ℕ, ◌<◌, ◌≤◌, ◌==◌, Bool, true, false, not, ◌&&◌, List, [], ◌∷◌, inl, inr, refl, ap, ◌∙◌, arith}
 use Rattle.std.specs.Prelude.{filter, flat_map, nat_lt}
 use Rattle.std.specs.List.{list_any}
-use Rattle.std.specs.Ordering.{is_lt, ordering_reverse}
-use Rattle.std.specs.declared.cmp.Ordering.{Ordering}
-use Rattle.std.specs.declared.cmp.Ordering.TheVariants.{Less, Equal, Greater}
 use Rattle.std.specs.Cmp.Lexicographic.{nat_list_cmp_total}
-use Rattle.std.proofs.lemmas.Bool.{true≢false, false≢true, cases_Bool, false_from_ne_true, true_from_ne_false, eqb-true, eqb-false, eq-eqb, ne_eqb, ltb-true, ltb-false, le-ltb, or_cases, or_parts, or_from, and_parts}
-use Rattle.cics_names.specs.Keyed.{Bytes, bytes_cmp, is_same, is_below}
+use Rattle.std.proofs.lemmas.Bool.{cases_Bool}
+use Rattle.cics_names.specs.Keyed.{Bytes, is_same, is_below}
 use Rattle.cics_names.specs.KeyedLaws.{is_same-eq}
 use Rattle.cics_names.specs.declared.conditions.Condition.{Condition}
 use Rattle.cics_ksds.specs.Prefixes.{has_prefix}
@@ -17,7 +14,6 @@ use Rattle.cics_history.specs.Store.{is_normal}
 use Rattle.cics_history.specs.Execution.{read_at, is_read_before, with_read, covers, opened, reads_after, is_count, count_at, counted, uncounted}
 use Rattle.cics_history.specs.declared.ops.Op.{Op}
 use Rattle.cics_history.specs.declared.ops.Op.TheVariants.{Rewrite, Delete, DeleteGeneric, ReadUpdate}
-use Rattle.cics_history.proofs.Holders.{any_counted, any_uncounted}
 use Rattle.cics_future.specs.Futures.{rows_of, reader, any_read, counter, any_count, AreRising, is_earlier, is_lower}
 
 module _ {X : Type 0} (unit : X → ℕ) (bare : X → X) where
@@ -222,7 +218,7 @@ none_uncounted w u v (c ∷ cs) none = grind (arith, none_uncounted w u v cs)
 uncounted-rising : (u : ℕ) (v : Bytes) (cs : List EnqCount) → AreRising is_lower cs → AreRising is_lower (uncounted cs u v)
 uncounted-rising u v [] rising = tt
 uncounted-rising u v (c ∷ cs) rising = elim (cases_Bool (is_count u v c)) [
-  | inl is ↦ elim (cases_Bool (nat_lt 1 c.count)) [ | inl more ↦ rw (is, more) rising | inr last ↦ rw (is, last) rising.1 ]
+  | inl is ↦ elim (cases_Bool (nat_lt 1 c.count)) [ inl more ↦ rw (is, more) rising | inr last ↦ rw (is, last) rising.1 ]
   | inr off ↦ rw off ((none_uncounted c.value u v cs rising.0, uncounted-rising u v cs rising.1))
 ]
 
