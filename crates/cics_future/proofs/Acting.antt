@@ -188,12 +188,8 @@ module _ (m n : Machine) (t u : Task) (acting : AreActing m n t u) (v : Task) (s
       owned : own_by s v.unit ≡ own_by r w.unit
       owned = first.own ∙ ((λ i. f (acting.same.alike.opening i) (stores i) (own_acting m n t u acting i)) ∙ sym second.own)
 
-      some : (o : Option ℕ) → is_some o ≡ is_some {T = ℕ} (option_map (λ (x : ℕ). 0) o)
-      some None = refl
-      some (Some x) = refl
-
       has : is_some t.unit ≡ is_some u.unit
-      has = some t.unit ∙ ((λ i. is_some (acting.bare i).unit) ∙ sym (some u.unit))
+      has = both (λ x. 0) (λ x. 0) (λ o p. is_some o ≡ is_some p) t.unit u.unit (ap (λ (x : Task). x.unit) acting.bare) (λ none too. refl) (λ x y a b zero. refl)
 
 -- ---- The steps of one region
 

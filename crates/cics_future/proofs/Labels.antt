@@ -13,6 +13,7 @@ use Rattle.cics_machine.specs.Machine.{Machine, Task, task_at, label_of, replace
 use Rattle.cics_machine.specs.Blockers.{unit_of}
 use Rattle.cics_waits.specs.Notes.{is_unit}
 use Rattle.cics_machine.specs.Tasks.{own_unit, had_by, HasNoOwner}
+use Rattle.cics_machine.proofs.TaskTable.{label_of-owner}
 use Rattle.cics_machine.proofs.TaskPlaces.{place_of_task, task_at-place}
 use Rattle.cics_future.specs.Futures.{own_by, unnumbered, IsSteady, HaveSameFuture}
 use Rattle.cics_future.proofs.Owning.{held_own, held_told}
@@ -92,28 +93,6 @@ task_of m steady u live = by (task_or_none m.tasks u)
 
 -- ---- A task of one region
 
--- an open unit is that of the task of a label exactly if it is told by that label
-pub told_by : (m : Machine) → IsSteady m → (label : Bytes) (u : ℕ) → is_live m.units u ≡ true → is_same (label_of m.tasks u) label ≡ is_unit (unit_of m label) u
-told_by m steady label u live = elim (cases_Bool (is_same (label_of m.tasks u) label)) [
-  | inl is ↦
-      let mine : found.task.label ≡ label = sym found.label ∙ is_same-eq (label_of m.tasks u) label is in
-      is ∙ sym (ap (λ l. is_unit (unit_of m l) u) (sym mine)
-      ∙ (ap (λ o. is_unit (had_by own_unit o) u) (task_at-place m.tasks found.place found.task steady.tasks.labels found.placed) ∙ rw found.unit (eq-eqb u u refl)))
-  | inr off ↦ off ∙ sym (false_from_ne_true (is_unit (unit_of m label) u) (λ has. other off (task_at m.tasks label) refl (unit_is (unit_of m label) u has)))
-]
-  where
-    found : HasTask m.tasks u
-    found = task_of m steady u live
-
-    other : is_same (label_of m.tasks u) label ≡ false → (o : Option Task) → task_at m.tasks label ≡ o → had_by own_unit (task_at m.tasks label) ≡ Some u → ⊥
-    other off None there has = none-some u (sym (ap (had_by own_unit) there) ∙ has)
-    other off (Some t) there has =
-        let place = place_of_task m.tasks label t there in
-        let unit = sym (ap (had_by own_unit) there) ∙ has in
-        let at : found.place ≡ place.0 = steady.tasks.owners.one found.place place.0 u (ap (had_by own_unit) found.placed ∙ found.unit) (ap (had_by own_unit) place.1 ∙ unit) in
-        let one : found.task ≡ t = one_there found.task t (sym found.placed ∙ (ap (slice_get m.tasks) at ∙ place.1)) in
-        true≢false (sym (ap (λ l. is_same l label) (found.label ∙ (ap (λ (x : Task). x.label) one ∙ place.2)) ∙ is_same-self label) ∙ off)
-
 module _ (m : Machine) (steady : IsSteady m) where
   -- the unit of a label's task is open
   pub live_at : (label : Bytes) (u : ℕ) → unit_of m label ≡ Some u → is_live m.units u ≡ true
@@ -125,7 +104,25 @@ module _ (m : Machine) (steady : IsSteady m) where
 
   -- and told by that label
   pub label_at : (label : Bytes) (u : ℕ) → unit_of m label ≡ Some u → label_of m.tasks u ≡ label
-  label_at label u has = is_same-eq (label_of m.tasks u) label (told_by m steady label u (live_at label u has) ∙ rw has (eq-eqb u u refl))
+  label_at label u has = by (task_at m.tasks label) refl has
+    where
+      by : (o : Option Task) → task_at m.tasks label ≡ o → had_by own_unit o ≡ Some u → label_of m.tasks u ≡ label
+      by None there has = absurd (none-some u has)
+      by (Some t) there has = let place = place_of_task m.tasks label t there in label_of-owner m.tasks u place.0 t steady.tasks.owners place.1 has ∙ place.2
+
+  -- an open unit is that of the task that tells it
+  pub own_at : (u : ℕ) → is_live m.units u ≡ true → unit_of m (label_of m.tasks u) ≡ Some u
+  own_at u live =
+      let found = task_of m steady u live in
+      ap (unit_of m) found.label ∙ (ap (had_by own_unit) (task_at-place m.tasks found.place found.task steady.tasks.labels found.placed) ∙ found.unit)
+
+  -- so it is that of the task of a label exactly if it is told by that label
+  pub told_by : (label : Bytes) (u : ℕ) → is_live m.units u ≡ true → is_same (label_of m.tasks u) label ≡ is_unit (unit_of m label) u
+  told_by label u live = elim (cases_Bool (is_same (label_of m.tasks u) label)) [
+    | inl is ↦ is ∙ sym (ap (λ l. is_unit (unit_of m l) u) (sym (is_same-eq (label_of m.tasks u) label is)) ∙ rw (own_at u live) (eq-eqb u u refl))
+    | inr off ↦ off ∙ sym (false_from_ne_true (is_unit (unit_of m label) u) (λ has.
+        true≢false (sym (ap (λ l. is_same l label) (label_at label u (unit_is (unit_of m label) u has)) ∙ is_same-self label) ∙ off)))
+  ]
 
 module _ (m : Machine) (steady : IsSteady m) (t : Task) (there : task_at m.tasks t.label ≡ Some t) where
   pub live_of : (u : ℕ) → t.unit ≡ Some u → is_live m.units u ≡ true
@@ -217,7 +214,7 @@ partner m n same x live =
     l = label_of m.tasks x
 
     has : unit_of m l ≡ Some x
-    has = unit_is (unit_of m l) x (sym (told_by m same.first l x live) ∙ is_same-self l)
+    has = own_at m same.first x live
 
     found : (w : ℕ) → unit_of n l ≡ Some w → HasPartner m n x
     found w too = record {
