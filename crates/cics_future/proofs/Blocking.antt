@@ -164,10 +164,8 @@ pub same_if_open : (m : Machine) → IsSteady m → (gone : Bytes → Bool) (mor
     ((u : ℕ) → is_live m.units u ≡ true → is_backed_out (if gone (label_of m.tasks u) then BackedOut else outcome_of m.units.outcomes u) ≡ is_backed_out (more u)) →
     store_if m gone ≡ store_by m.units.opening more m.units.trace
 same_if_open m steady gone more shut same =
-    same_endings m.units (ending m gone) more steady.units.sound.known (λ u begun. elim (cases_Bool (is_open (outcome_of m.units.outcomes u))) [
-      | inl live ↦ rw live (same u (and_from _ _ (lt-ltb u (length m.units.outcomes) begun) live))
-      | inr closed ↦ rw closed (ap is_backed_out (sym (shut u begun closed)))
-    ])
+    same_endings m.units (ending m gone) more steady.units.sound.known
+    (λ u below. grind (arith, same u, shut u below, lt-ltb u (length m.units.outcomes) below))
 
 -- what a task may read of a queue is what the queue holds if all others are backed out
 others_gone : (m : Machine) (steady : IsSteady m) (t : Task) → task_at m.tasks t.label ≡ Some t →

@@ -76,7 +76,7 @@ module _ (m : Machine) (steady : IsSteady m) (gone : Bytes → Bool) (kept : Lis
           let here = label_at m steady l w has in
           let last = steady.units.order.last w stands (ending m (but gone kept)) (kept_too (Some w))
           (λ u shut. rw shut refl)
-          (λ u shut. elim (cases_Bool (w == u)) [ inl is ↦ rw is refl | inr off ↦ rw (off, shut) refl ])
+          (λ u shut. grind (arith, shut))
           (record {
             gone = rw (stands, here, new) refl;
             there = rw (eq-eqb w w refl) (open_kept (outcome_of m.units.outcomes w) stands);

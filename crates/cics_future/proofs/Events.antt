@@ -210,11 +210,7 @@ module _ (m n : Machine) (same : HaveSameFuture m n) where
 -- as many tasks have a unit
 units_bare : (ts : List Task) → units_of ts ≡ units_of (map unnumbered ts)
 units_bare [] = refl
-units_bare (t ∷ ts) = rw (units_bare ts) (by t.unit)
-  where
-    by : (o : Option ℕ) → one_if o (units_of (map unnumbered ts)) ≡ one_if (option_map (λ (u : ℕ). 0) o) (units_of (map unnumbered ts))
-    by None = refl
-    by (Some u) = refl
+units_bare (t ∷ ts) = grind (arith, units_bare ts)
 
 -- these tasks are those of their labels
 abbrev Stand : Machine → List Task → Type 0
