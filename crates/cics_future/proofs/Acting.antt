@@ -1,7 +1,7 @@
 -- A step of a task in two regions that are alike: it changes what the task's own unit has, and each
 -- store, in the same way.
 use Rattle.std.proofs.Common.{◌≡◌, ◌≢◌, ℕ, ◌<◌, ◌==◌, Bool, true, false, not, ◌&&◌, cond, Option, Some, None, List, [], ◌∷◌, length, inl, inr, refl, ap, sym, ◌∙◌, arith}
-use Rattle.std.specs.Prelude.{is_some, option_map, if◌then◌else◌, filter, map, slice_get}
+use Rattle.std.specs.Prelude.{is_some, if◌then◌else◌, filter, map, slice_get}
 use Rattle.std.proofs.lemmas.Bool.{true≢false, cases_Bool, ne_eqb}
 use Rattle.std.proofs.lemmas.Option.{slice_get-get_or}
 use Rattle.std.proofs.lemmas.List.Elements.{All-nil}

@@ -18,7 +18,7 @@ use Rattle.cics_machine.specs.Tasks.{own_label, own_unit, had_by, IsOwn}
 use Rattle.cics_machine.specs.Steps.{Stepped, checked, issue_refusal, refused_or, issued_by, issued, new_task, with_new_task, attached}
 use Rattle.cics_machine.specs.Checks.{fault_of}
 use Rattle.cics_machine.specs.Waking.{clock_refusal, clock_set, awaited_by, may_go_on, first_free, went_on, woken_first, woken, is_late, first_late, expired_task, expired}
-use Rattle.cics_machine.specs.Shutdown.{unless_down, one_if, units_of, all_ended, shut_down}
+use Rattle.cics_machine.specs.Shutdown.{unless_down, units_of, all_ended, shut_down}
 use Rattle.cics_machine.specs.Blockers.{waiting_command, awaited_of, blocker_of}
 use Rattle.cics_machine.specs.Waits.{wait_of}
 use Rattle.cics_machine.specs.declared.outcomes.Refused.{Refused}

@@ -1,7 +1,7 @@
 -- The tasks of two regions that are alike go by their labels, and so do their units.
 use Rattle.std.proofs.Common.{◌≡◌, ℕ, zero, suc, true, false, not, Option, Some, None, List, [], ◌∷◌, ◌⊎◌, inl, inr, refl, ap, sym, ◌∙◌, arith}
 use Rattle.std.specs.Prelude.{option_map, map, slice_get}
-use Rattle.std.proofs.lemmas.Bool.{true≢false, false≢true, cases_Bool, and_parts, eqb-true, eq-eqb, false_from_ne_true}
+use Rattle.std.proofs.lemmas.Bool.{false≢true, cases_Bool, and_parts, eqb-true}
 use Rattle.std.proofs.lemmas.Option.{none-some}
 use Rattle.cics_names.specs.Keyed.{Bytes, is_same}
 use Rattle.cics_names.specs.KeyedLaws.{is_same-self, is_same-eq}
@@ -118,11 +118,8 @@ module _ (m : Machine) (steady : IsSteady m) where
 
   -- so it is that of the task of a label exactly if it is told by that label
   pub told_by : (label : Bytes) (u : ℕ) → is_live m.units u ≡ true → is_same (label_of m.tasks u) label ≡ is_unit (unit_of m label) u
-  told_by label u live = elim (cases_Bool (is_same (label_of m.tasks u) label)) [
-    | inl is ↦ is ∙ sym (ap (λ l. is_unit (unit_of m l) u) (sym (is_same-eq (label_of m.tasks u) label is)) ∙ rw (own_at u live) (eq-eqb u u refl))
-    | inr off ↦ off ∙ sym (false_from_ne_true (is_unit (unit_of m label) u) (λ has.
-        true≢false (sym (ap (λ l. is_same l label) (label_at label u (unit_is (unit_of m label) u has)) ∙ is_same-self label) ∙ off)))
-  ]
+  told_by label u live =
+      grind (arith, own_at u live, is_same-eq (label_of m.tasks u) label, label_at label u, unit_is (unit_of m label) u, is_same-self label)
 
 module _ (m : Machine) (steady : IsSteady m) (t : Task) (there : task_at m.tasks t.label ≡ Some t) where
   pub live_of : (u : ℕ) → t.unit ≡ Some u → is_live m.units u ≡ true
