@@ -10,7 +10,7 @@ use Rattle.cics_names.specs.KeyedLaws.{is_same-self, is_same-eq}
 use Rattle.cics_browse.specs.Positions.{Position}
 use Rattle.cics_tempstor.specs.Queues.{has_item}
 use Rattle.cics_history.specs.State.{OpeningState, UnitsState, Store, initial_store}
-use Rattle.cics_history.specs.Openings.{IsOpeningInOrder}
+use Rattle.cics_history.specs.Cells.{IsCanonical}
 use Rattle.cics_history.specs.Store.{apply, ts_queue, is_recoverable}
 use Rattle.cics_history.specs.Headline.{outcome_of, is_open, is_backed_out}
 use Rattle.cics_history.specs.Holding.{store_of, awaited}
@@ -229,7 +229,7 @@ module _ (m : Machine) (steady : IsSteady m) (t : Task) (there : task_at m.tasks
     steady_executed : IsSteady (after m (after_execution m.units t.unit o) (in_unit m t))
     steady_executed = record {
       units = record {
-        opening = rw free steady.units.opening;
+        canonical = rw free steady.units.canonical;
         sound = execution-IsSound m.units t.unit o steady.units.sound task_acts;
         order = execution-IsInOrder m.units t.unit o steady.units.sound steady.units.order task_acts;
         reads = rw free ((reads_after-step actor o answer.condition m.units.reads steady.units.reads).rising);
@@ -277,7 +277,7 @@ module _ (m : Machine) (steady : IsSteady m) (t : Task) (there : task_at m.tasks
     others = λ w live other. rw taken (counted_other m.units actor value (outcomes_with t.unit m.units.outcomes) w steady.units.counts (acting_other m.units t.unit w other live));
     steady = record {
       units = record {
-        opening = rw taken steady.units.opening;
+        canonical = rw taken steady.units.canonical;
         sound = enqueue-IsSound m.units t.unit value steady.units.sound task_acts;
         order = enqueue-IsInOrder m.units steady.units.order t.unit value;
         reads = rw taken steady.units.reads;
@@ -329,7 +329,7 @@ module _ (m : Machine) (steady : IsSteady m) (t : Task) (there : task_at m.tasks
   step_unlocked f x has =
       step_units (after_unlock m.units x f) (own_unlocked f) (λ k next. next)
       (record {
-        opening = steady.units.opening;
+        canonical = steady.units.canonical;
         sound = unlock-IsSound m.units x f steady.units.sound;
         order = unlock-IsInOrder m.units steady.units.order x f;
         reads = rising-filter is_earlier (λ r. not (is_read_of x f r)) m.units.reads steady.units.reads;
@@ -343,7 +343,7 @@ module _ (m : Machine) (steady : IsSteady m) (t : Task) (there : task_at m.tasks
   step_dequeued value x has =
       step_units (after_dequeue m.units x value) (own_uncounted value) (λ k next. next)
       (record {
-        opening = steady.units.opening;
+        canonical = steady.units.canonical;
         sound = dequeue-IsSound m.units x value steady.units.sound;
         order = dequeue-IsInOrder m.units steady.units.order x value;
         reads = steady.units.reads;
@@ -357,7 +357,7 @@ module _ (m : Machine) (steady : IsSteady m) (t : Task) (there : task_at m.tasks
   step_item_read q item =
       step_units (after_ts_reading m.units q item) (λ y. y) (λ k next. cond (has_item (ts_queue k q) item) (with_value q item next) next)
       (record {
-        opening = item_read_is (λ s. IsOpeningInOrder s.opening) m.units q item steady.units.opening steady.units.opening;
+        canonical = item_read_is (λ s. IsCanonical (initial_store s.opening)) m.units q item steady.units.canonical steady.units.canonical;
         sound = ts_reading-IsSound m.units q item steady.units.sound;
         order = ts_reading-IsInOrder m.units steady.units.order q item;
         reads = item_read_is (λ s. AreRising is_earlier s.reads) m.units q item steady.units.reads steady.units.reads;
@@ -381,7 +381,7 @@ module _ (m : Machine) (steady : IsSteady m) (t : Task) (there : task_at m.tasks
     units_steady : (o : Option ℕ) → t.unit ≡ o → (outcome : UnitState) → is_open outcome ≡ false → AreUnitsSteady (units_after m.units o outcome)
     units_steady None has outcome closed = steady.units
     units_steady (Some u) has outcome closed = record {
-      opening = steady.units.opening;
+      canonical = steady.units.canonical;
       sound = end-IsSound m.units u outcome steady.units.sound live;
       order = order outcome closed;
       reads = rising-filter is_earlier (λ r. not (r.unit == u)) m.units.reads steady.units.reads;

@@ -19,7 +19,7 @@ use Rattle.cics_history.proofs.Executes.{open_kept}
 use Rattle.cics_history.proofs.Isolated.{unrecovered}
 use Rattle.cics_history.proofs.Joining.{after_at, apply-content}
 use Rattle.cics_history.proofs.SerialLists.{eqb-turned}
-use Rattle.cics_history.proofs.Stores.{same_store, replay-canonical, initial-canonical}
+use Rattle.cics_history.proofs.Stores.{same_store, replay-canonical}
 use Rattle.cics_waits.specs.Notes.{is_unit}
 use Rattle.cics_machine.specs.Machine.{Machine, Task, label_of}
 use Rattle.cics_machine.specs.Blockers.{unit_of}
@@ -154,8 +154,8 @@ module _ (m n : Machine) (first : IsSteady m) (second : IsSteady n) (look : Look
       own = look.own;
       stores = λ gone.
           same_store (store_if m gone) (store_if n gone)
-          (replay-canonical (initial_store m.units.opening) (left_by m.units.opening (ending m gone) m.units.trace) (initial-canonical m.units.opening first.units.opening))
-          (replay-canonical (initial_store n.units.opening) (left_by n.units.opening (ending n gone) n.units.trace) (initial-canonical n.units.opening second.units.opening))
+          (replay-canonical (initial_store m.units.opening) (left_by m.units.opening (ending m gone) m.units.trace) first.units.canonical)
+          (replay-canonical (initial_store n.units.opening) (left_by n.units.opening (ending n gone) n.units.trace) second.units.canonical)
           (cells_alike gone);
       next = look.next;
       waiting = look.waiting;

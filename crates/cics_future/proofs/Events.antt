@@ -12,6 +12,7 @@ use Rattle.cics_history.specs.Isolation.{store_by}
 use Rattle.cics_history.specs.declared.ops.UnitState.TheVariants.{BackedOut}
 use Rattle.cics_history.proofs.Outcomes.{same_function}
 use Rattle.cics_history.proofs.States.{beginning-IsSound}
+use Rattle.cics_history.proofs.Stores.{initial-canonical}
 use Rattle.cics_history.proofs.SerialRuns.{beginning-IsInOrder}
 use Rattle.cics_machine.specs.Machine.{Machine, Task, Suspended, beginning_region, task_at, label_of, is_waiting, not_waiting, with_waiting, unit_closed, timed_out}
 use Rattle.cics_machine.specs.Tasks.{own_label, own_unit, had_by, IsOwn}
@@ -44,7 +45,7 @@ pub same_begins : (o : OpeningState) → IsOpeningInOrder o → HaveSameFuture (
 same_begins o order =
     same_itself (beginning_region o)
     (record {
-      units = record { opening = order; sound = beginning-IsSound o order; order = beginning-IsInOrder o order; reads = tt; counts = tt };
+      units = record { canonical = initial-canonical o order; sound = beginning-IsSound o order; order = beginning-IsInOrder o order; reads = tt; counts = tt };
       tasks = kept_begins o;
       owned = owned_begins o;
     })

@@ -6,9 +6,9 @@ use Rattle.std.specs.List.{list_any}
 use Rattle.cics_names.specs.Keyed.{Bytes, is_below}
 use Rattle.cics_history.specs.declared.ops.Op.{Op}
 use Rattle.cics_history.specs.declared.ops.UnitState.TheVariants.{BackedOut}
-use Rattle.cics_history.specs.State.{UnitsState, UpdateRead, EnqCount, Store}
-use Rattle.cics_history.specs.Openings.{IsOpeningInOrder}
+use Rattle.cics_history.specs.State.{UnitsState, UpdateRead, EnqCount, Store, initial_store}
 use Rattle.cics_history.specs.Headline.{outcome_of, is_open}
+use Rattle.cics_history.specs.Cells.{IsCanonical}
 use Rattle.cics_history.specs.Isolation.{Outcomes, store_by, IsSound}
 use Rattle.cics_history.specs.Serial.{done_by, IsInOrder}
 use Rattle.cics_machine.specs.Machine.{Machine, Task, label_of, with_waiting}
@@ -103,7 +103,7 @@ is_lower c d = is_below c.value d.value
 
 -- open units are kept apart, those that committed are in their order, and so are the rows
 pub record AreUnitsSteady (s : UnitsState) : Type 0 where
-  pub opening : IsOpeningInOrder s.opening
+  pub canonical : IsCanonical (initial_store s.opening)
   pub sound : IsSound s
   pub order : IsInOrder s
   pub reads : AreRising is_earlier s.reads
