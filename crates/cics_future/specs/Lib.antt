@@ -1,0 +1,2 @@
+pub mod Futures
+pub mod Compared
