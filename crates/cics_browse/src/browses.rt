@@ -6,7 +6,7 @@ ghost use Rattle.std.specs.List.{list_all};
 ghost use Rattle.cics_ksds.specs.Files.{entry_of, fits_file, last_to};
 
 use cics_ksds::{FileDef, Ordered};
-use cics_names::{Condition, NoMemory, Record};
+use cics_names::{Condition, NoMemory, Record, stamp_number, stamp_text};
 use std::marker::Model;
 
 /// What the key of a position is.
@@ -100,6 +100,22 @@ impl Browse {
         ensures { result ≡ self.now.generic }
     {
         self.generic
+    }
+
+    /// Appends its stamp.
+    ///
+    /// Errors: `NoMemory`.
+    pub fn stamp(&self, out: &mut Vec<u8>) -> Result<(), NoMemory>
+    // ensures { OnOk result (out.new.items ≡ out.old.items ++ position_stamp self.now) }
+    {
+        let place = match self.place {
+            Place::Start => 0,
+            Place::Forward => 1,
+            Place::Back => 2,
+        };
+        stamp_text(out, self.key.bytes())?;
+        stamp_number(out, place)?;
+        stamp_number(out, u64::from(self.generic))
     }
 
     /// RESETBR: makes the key the position, as `start` with the same arguments would. If its start

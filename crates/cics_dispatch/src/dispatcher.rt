@@ -12,6 +12,7 @@ mod listing;
 mod performing;
 mod queues;
 mod shutdown;
+mod stamping;
 mod waking;
 
 ghost use Rattle.std.specs.Prelude.{◌≡◌, ◌<◌, ◌≤◌, true, false, Option, Some, None, length, IfOk};
@@ -127,6 +128,20 @@ impl Dispatcher {
             is_down: false,
             alloc,
         })
+    }
+
+    /// Goes back to the start, as `Region::restart` does.
+    pub(crate) fn restart(&mut self) -> Result<(), NoMemory>
+    // ensures machine { OnOk result (self.new.machine
+    //     ≡ beginning_region self.old.machine.units.opening) }
+    // ensures kept { OnOk result (IsRegionKept self.new) }
+    {
+        self.units.restart()?;
+        self.tasks = Tasks::new(self.alloc);
+        self.waits = Waits::new(self.alloc);
+        self.clock = 0;
+        self.is_down = false;
+        Ok(())
     }
 
     /// Returns whether the region is shut down.

@@ -116,6 +116,32 @@ impl Region {
         })
     }
 
+    /// Goes back to the start: the region of its opening, without a task, its clock at 0.
+    ///
+    /// Errors: `NoMemory`. Nothing changes.
+    pub fn restart(&mut self) -> Result<(), NoMemory>
+    // ensures machine { OnOk result (self.new.machine
+    //     ≡ beginning_region self.old.machine.units.opening) }
+    // ensures headline { OnOk result (IsHeadlineRegion self.new) }
+    // ensures serializable { OnOk result (IsSerializableRegion self.new) }
+    {
+        self.dispatcher.restart()?;
+        self.notes.clear();
+        self.is_settled = false;
+        self.is_in_time = false;
+        Ok(())
+    }
+
+    /// Appends the region's stamp: regions of one opening with the same stamp, whose commands wait
+    /// for the same lines, have the same future.
+    ///
+    /// Errors: `NoMemory`. Cost: a replay of the history.
+    pub fn stamp(&self, out: &mut Vec<u8>) -> Result<(), NoMemory>
+    // ensures { OnOk result (out.new.items ≡ out.old.items ++ region_stamp self.now.machine) }
+    {
+        self.dispatcher.stamp(out)
+    }
+
     // Returns the error `RegionDown` if the region is shut down.
     fn refuse_if_down(&self) -> Result<(), Refused>
         ensures up { OnOk result (self.now.machine.is_down ≡ false) }

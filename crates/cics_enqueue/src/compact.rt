@@ -31,6 +31,13 @@ const TD_WRITE: u8 = 4;
 
 const VALUE: u8 = 5;
 
+// Returns whether this is the table key of a value.
+pub(crate) fn is_value(key: &[u8]) -> bool
+// ensures { result ≡ is_user (resource_of key.now) }
+{
+    key.first() == Some(&VALUE)
+}
+
 // Adds bytes at the end of a table key that has room for them.
 //
 // It is filled in place: to return it would move all its bytes each time.

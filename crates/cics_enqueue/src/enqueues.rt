@@ -19,12 +19,12 @@ ghost use Rattle.cics_enqueue.specs.Table.{held_at, is_in_order, resource_key};
 ghost use Rattle.cics_enqueue.specs.Order.{resource_of};
 
 use crate::borrowed::{Kind, ResourceRef};
-use crate::compact::{compact, held, set_resource, set_value};
+use crate::compact::{compact, held, is_value, set_resource, set_value};
 use crate::conflicts::{Search, has_prefixes, other_unit};
 use crate::owned::{self, Owned};
 use cics_history::{Resource, UnitId};
 use cics_keys::Key;
-use cics_names::{Name8, NoMemory};
+use cics_names::{Name8, NoMemory, stamp_number, stamp_text};
 use indexmap::IndexMap;
 use std::alloc::{AllocError, Global};
 use std::cell::Cell;
@@ -240,6 +240,21 @@ impl Enqueues {
         };
         self.bound.set(key);
         count
+    }
+
+    /// Appends the stamp of the values that a unit owns by ENQ, in byte order, each with its count.
+    ///
+    /// Errors: `NoMemory`. Cost: O(owned resources).
+    pub fn stamp_values(&self, unit: UnitId, out: &mut Vec<u8>) -> Result<(), NoMemory>
+    // ensures { OnOk result (out.new.items ≡ out.old.items ++ counts_stamp (counts_of self.now unit)) }
+    {
+        for (key, holding) in &self.table {
+            if holding.unit == unit && is_value(key.as_slice()) {
+                stamp_number(out, u64::from(holding.count))?;
+                stamp_text(out, key.as_slice())?;
+            }
+        }
+        stamp_number(out, 0)
     }
 
     /// Returns the blocker at a resource: the owner, other than `but_not`, of the smallest

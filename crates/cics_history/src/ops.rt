@@ -8,7 +8,7 @@ ghost use Rattle.cics_history.specs.Records.{is_file_op, file_of, key_of};
 ghost use Rattle.cics_history.specs.Packed.{IsPackable, LiesIn, op_of};
 
 use crate::resources::UnitId;
-use cics_names::{Condition, Name4, Name8, NoMemory, Record};
+use cics_names::{Condition, Name4, Name8, NoMemory, Record, stamp_number, stamp_text};
 use std::alloc::Global;
 use std::marker::Model;
 
@@ -222,6 +222,36 @@ enum Kind {
     TdDelete(Name4),
 }
 
+impl Kind {
+    // Appends its stamp: a number from 1 on, and the name.
+    fn stamp(self, out: &mut Vec<u8>) -> Result<(), NoMemory>
+    // ensures { OnOk result (out.new.items ≡ out.old.items ++ kind_stamp self) }
+    {
+        match self {
+            Kind::Write(file) => stamp_named(out, 1, &file.bytes()),
+            Kind::Rewrite(file) => stamp_named(out, 2, &file.bytes()),
+            Kind::Delete(file) => stamp_named(out, 3, &file.bytes()),
+            Kind::DeleteGeneric(file) => stamp_named(out, 4, &file.bytes()),
+            Kind::ReadUpdate(file) => stamp_named(out, 5, &file.bytes()),
+            Kind::TsWrite(queue) => stamp_named(out, 6, &queue.bytes()),
+            Kind::TsRewrite(queue) => stamp_named(out, 7, &queue.bytes()),
+            Kind::TsDelete(queue) => stamp_named(out, 8, &queue.bytes()),
+            Kind::TdWrite(queue) => stamp_named(out, 9, &queue.bytes()),
+            Kind::TdRead(queue) => stamp_named(out, 10, &queue.bytes()),
+            Kind::TdDelete(queue) => stamp_named(out, 11, &queue.bytes()),
+        }
+    }
+}
+
+// Appends the stamps of a number and a name.
+fn stamp_named(out: &mut Vec<u8>, number: u64, name: &[u8]) -> Result<(), NoMemory>
+// ensures { OnOk result (out.new.items
+//     ≡ out.old.items ++ number_stamp number ++ text_stamp name.now) }
+{
+    stamp_number(out, number)?;
+    stamp_text(out, name)
+}
+
 /// A command that was executed: its unit, what it asked for, and what it was answered.
 ///
 /// Contracts see these three. A history is long, so an entry is packed. It has one text: a key that
@@ -393,6 +423,19 @@ impl Entry {
             Kind::TdRead(queue) => Op::TdRead { queue },
             Kind::TdDelete(queue) => Op::TdDelete { queue },
         })
+    }
+
+    /// Appends the stamp of what the command asked for. It begins with no 0.
+    ///
+    /// Errors: `NoMemory`.
+    pub fn stamp_op(&self, out: &mut Vec<u8>) -> Result<(), NoMemory>
+    // ensures { OnOk result (out.new.items ≡ out.old.items ++ entry_stamp self.now) }, with
+    // entry_stamp e ++ r ≡ entry_stamp f ++ s → e.op ≡ f.op × r ≡ s
+    {
+        self.kind.stamp(out)?;
+        stamp_number(out, u64::from(self.key_length))?;
+        stamp_number(out, self.number)?;
+        stamp_text(out, self.text.bytes())
     }
 
     /// Returns the condition that the command was answered with.

@@ -37,6 +37,10 @@ pub trait Walk {
     /// The start of the start is itself.
     ghost start_is_start: { (s : Self) → start (start s) ≡ start s };
 
+    // ghost stamp: { Bool → Self → List ℕ };
+    // ghost same_future: { (s t : Self) → start s ≡ start t → stamp false s ≡ stamp false t
+    //     → IsAlike lanes ending s t }, and so with `true` for the serial orders.
+
     /// Goes back to the start.
     fn restart(&mut self) -> Result<(), NoMemory>
         ensures { OnOk result (self.new ≡ start self.old) };
@@ -61,7 +65,12 @@ pub trait Walk {
     fn parts(&self) -> Result<Items<Record>, NoMemory>
         ensures { IfOk result (λ parts. parts ≡ ending self.now) };
 
-    /// Returns whether the order so far is serial.
-    fn is_serial(&self) -> bool
-        ensures { result ≡ serial self.now };
+    /// Returns whether a lane that may give must not, if the order is to become a serial one.
+    fn breaks_serial(&self, lane: usize) -> bool;
+    // ensures { OnTrue result: no serial order goes on from `lanes.given self.now lane` }
+
+    /// Appends the stamp of this state: from states with the same stamp the same orders lead to the
+    /// same endings. If `serial`, the same of them keep the order serial.
+    fn stamp(&self, serial: bool, out: &mut Vec<u8>) -> Result<(), NoMemory>;
+    // ensures { OnOk result (out.new.items ≡ out.old.items ++ stamp serial self.now) }
 }

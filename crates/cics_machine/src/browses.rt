@@ -9,7 +9,7 @@ ghost use Rattle.cics_machine.specs.BrowseLoans.{LendsBrowse};
 
 use cics_browse::{Browse, Browsed};
 use cics_ksds::File;
-use cics_names::{Name8, NoMemory, Record};
+use cics_names::{Name8, NoMemory, Record, stamp_number, stamp_text};
 use std::alloc::Global;
 use std::collections::BTreeMap;
 use std::marker::Model;
@@ -113,6 +113,20 @@ impl Browses {
         ensures { self.new ≡ without file.now self.old }
     {
         self.rows.remove(file);
+    }
+
+    /// Appends their stamp: how many there are, and for each its file and its position.
+    ///
+    /// Errors: `NoMemory`.
+    pub fn stamp(&self, out: &mut Vec<u8>) -> Result<(), NoMemory>
+    // ensures { OnOk result (out.new.items ≡ out.old.items ++ browses_stamp self.now) }
+    {
+        stamp_number(out, self.rows.len() as u64)?;
+        for (file, browse) in self.rows.iter() {
+            stamp_text(out, &file.bytes())?;
+            browse.stamp(out)?;
+        }
+        Ok(())
     }
 
     /// Ends every browse. Takes no memory.

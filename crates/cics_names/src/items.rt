@@ -75,6 +75,13 @@ impl<T> Items<T> {
 }
 
 impl<T: Drop> Items<T> {
+    /// Removes all values. It takes no memory, and leaves the room.
+    pub fn clear(&mut self)
+    // ensures { self.new ≡ [] }
+    {
+        self.items.clear();
+    }
+
     /// Adds a value at the end.
     ///
     /// The only error is `NoMemory`, if the list had to grow. The list is as before then, and the

@@ -17,6 +17,9 @@ pub trait Tells {
     /// The parts in which the ending of a state is told.
     ghost told: { State → Parts };
 
+    /// Returns whether the parts have all that tasks were told.
+    fn has_told(&self) -> bool;
+
     /// Returns the parts of the ending.
     ///
     /// Errors: `NoMemory`.
@@ -86,29 +89,28 @@ impl<T: Tells> Walk for Following<T> {
         self.teller.tell(&self.walker)
     }
 
-    fn is_serial(&self) -> bool {
-        self.walker.is_serial()
+    fn breaks_serial(&self, lane: usize) -> bool {
+        self.walker.breaks_serial(lane)
+    }
+
+    fn stamp(&self, serial: bool, out: &mut Vec<u8>) -> Result<(), NoMemory> {
+        self.walker.stamp(self.teller.has_told(), serial, out)
     }
 }
 
-/// Follows every order of a plan's lines, at most `limit`. Returns the endings that they lead to.
-///
-/// If the report is whole, the endings are those of all orders. Each stands once, with the first
-/// order that leads to it, and how many orders and serial orders do. They stand in the order of
-/// their first orders. Else they are the endings of the first `limit` orders.
+/// Follows every order of a plan's lines. Returns the endings that they lead to, as
+/// `cics_lanes::explore` does.
 ///
 /// Errors: `NoMemory`.
 ///
-/// Cost: each order is run from the start.
+/// Cost: the first order that leads to each state is run from the start, once for each lane that
+/// may give then.
 pub fn explore_script<T: Tells + Drop>(
     alloc: Global,
     plan: Plan,
     teller: T,
     limit: u64,
-) -> Result<Report, NoMemory>
-    ensures { IfOk result (λ report. IsReport lanes T.told (λ s. s.is_serial) (line_count plan)
-        limit (initial_state plan) report) }
-{
+) -> Result<Report, NoMemory> {
     let mut walk = Following {
         walker: Walker::new(alloc, plan)?,
         teller,

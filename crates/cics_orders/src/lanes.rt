@@ -6,9 +6,23 @@ ghost use Rattle.cics_plans.specs.Firsts.{first_place};
 ghost use Rattle.cics_orders.specs.Giving.{told_more, with_told, hearing, with_given, shut};
 
 use cics_dispatch::Outcome;
-use cics_names::{Items, Name8, NoMemory, Record};
-use cics_plans::{Plan, is_same};
+use cics_names::{Command, Items, Name8, NoMemory, Record};
+use cics_plans::{Plan, is_same, read};
+use cics_script::Line;
 use std::alloc::Global;
+
+/// What a line of a lane does.
+#[derive(Drop)]
+pub(crate) enum Step {
+    /// A command of the task of a label.
+    Issue(Name8, Command),
+    /// The clock is set.
+    Clock(u64),
+    /// The region is shut down.
+    Shutdown,
+    /// Nothing: no line of a plan's lane.
+    Nothing,
+}
 
 /// The lines of a task or of the clock, and how far they are given.
 #[derive(Drop)]
@@ -17,6 +31,8 @@ pub struct Lane {
     pub label: Option<Name8>,
     /// Its lines, each with its number.
     pub lines: Items<(u64, Record)>,
+    // What each of its lines does.
+    steps: Items<Step>,
     /// How many of its lines are given.
     pub given: usize,
     /// What its task was told, for each line that was answered.
@@ -48,6 +64,43 @@ fn copied(alloc: Global, lines: &[(u64, Record)]) -> Result<Items<(u64, Record)>
     Ok(copies)
 }
 
+// Returns what a line does. One that can't be read does nothing.
+fn step_of(alloc: Global, line: &[u8]) -> Result<Step, NoMemory>
+// ensures { IfOk result (λ step. step ≡ step_of (line line.now)) }
+{
+    Ok(match read(alloc, line)? {
+        Ok(Line::Issue(label, command)) => Step::Issue(label, command),
+        Ok(Line::Clock(seconds)) => Step::Clock(seconds),
+        Ok(Line::Shutdown) => Step::Shutdown,
+        _ => Step::Nothing,
+    })
+}
+
+// Returns what lines do.
+fn steps_of(alloc: Global, lines: &[(u64, Record)]) -> Result<Items<Step>, NoMemory>
+// ensures { IfOk result (λ steps. steps ≡ map (λ l. step_of (line l.1)) lines.now) }
+{
+    let mut steps = Items::new(alloc);
+    for (_, line) in lines {
+        steps.push(step_of(alloc, line.bytes())?)?;
+    }
+    Ok(steps)
+}
+
+impl Step {
+    // Returns a copy of it. The only error is `NoMemory`.
+    fn copy(&self) -> Result<Step, NoMemory>
+    // ensures { IfOk result (λ copy. copy ≡ self.now) }
+    {
+        Ok(match self {
+            Step::Issue(label, command) => Step::Issue(*label, command.copy()?),
+            Step::Clock(seconds) => Step::Clock(*seconds),
+            Step::Shutdown => Step::Shutdown,
+            Step::Nothing => Step::Nothing,
+        })
+    }
+}
+
 impl Lane {
     // Returns a lane of which no line is given.
     fn new(alloc: Global, label: Option<Name8>, lines: &[(u64, Record)]) -> Result<Lane, NoMemory>
@@ -56,11 +109,45 @@ impl Lane {
         Ok(Lane {
             label,
             lines: copied(alloc, lines)?,
+            steps: steps_of(alloc, lines)?,
             given: 0,
             told: Items::new(alloc),
             has_ended: false,
             is_in_turn: false,
         })
+    }
+
+    /// Returns a copy of what its next line does. `None` if it has none left.
+    pub(crate) fn next_step(&self) -> Result<Option<Step>, NoMemory>
+    // ensures { IfOk result (λ step. step ≡ next_step self.now) }
+    {
+        match self.steps.as_slice().get(self.given) {
+            Some(step) => Ok(Some(step.copy()?)),
+            None => Ok(None),
+        }
+    }
+
+    /// Returns whether a line that it has left shuts the region down.
+    pub(crate) fn has_shutdown_left(&self) -> bool
+    // ensures { result ≡ list_any is_shutdown (drop self.now.given self.now.steps) }
+    {
+        let steps = self.steps.as_slice();
+        for at in self.given..steps.len() {
+            if let Step::Shutdown = steps[at] {
+                return true;
+            }
+        }
+        false
+    }
+
+    /// Takes all lines back.
+    pub(crate) fn rewind(&mut self)
+    // ensures { self.new ≡ fresh_lane self.old.label self.old.lines }
+    {
+        self.given = 0;
+        self.told.clear();
+        self.has_ended = false;
+        self.is_in_turn = false;
     }
 
     // Returns whether it is the lane of the task of a label.

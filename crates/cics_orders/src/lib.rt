@@ -5,6 +5,7 @@ mod events;
 mod following;
 mod lanes;
 mod laws;
+mod stamps;
 mod starting;
 mod walks;
 

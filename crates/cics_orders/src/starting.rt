@@ -78,6 +78,17 @@ fn attach_all(region: &mut Region, tasks: &[TaskPlan]) -> Result<(), NoMemory>
     Ok(())
 }
 
+/// Takes a region of the plan back before the first line.
+///
+/// Errors: `NoMemory`.
+pub(crate) fn restart(region: &mut Region, plan: &Plan) -> Result<(), NoMemory>
+// requires: region.old.machine.units.opening ≡ opened plan.now.definitions
+// ensures { OnOk result (region.new.machine ≡ initial_machine plan.now) }
+{
+    region.restart()?;
+    attach_all(region, plan.tasks.as_slice())
+}
+
 /// Returns the region before the first line: what the plan defines and loads is there, and its
 /// tasks are attached.
 ///

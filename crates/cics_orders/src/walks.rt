@@ -10,12 +10,11 @@ ghost use Rattle.cics_orders.specs.Giving.{drained, drained_once, givers, given}
 ghost use Rattle.cics_orders.specs.Giving.{Takes, IsGivable, next_says};
 
 use crate::events;
-use crate::lanes::{Lane, hear, hear_step, initial_lanes, shut_all};
-use crate::starting::initial_region;
+use crate::lanes::{Lane, Step, hear, hear_step, initial_lanes, shut_all};
+use crate::starting::{initial_region, restart};
 use cics_dispatch::Region;
-use cics_names::{Command, Name8, NoMemory, Verb};
-use cics_plans::{Plan, read};
-use cics_script::{Line, LineFault};
+use cics_names::{Command, Name8, NoMemory, Verb, stamp_number};
+use cics_plans::Plan;
 use std::alloc::Global;
 use std::marker::Model;
 
@@ -32,8 +31,6 @@ pub struct Walker {
     lanes: Vec<Lane>,
     // The task's lane that gave last.
     last: Option<usize>,
-    // Whether the order so far is serial.
-    is_serial: bool,
 }
 
 impl Model for Walker {
@@ -106,13 +103,23 @@ fn is_end(verb: &Verb) -> bool
     )
 }
 
-// Returns whether a line ends its task's turn.
-fn ends_turn(says: &Result<Line, LineFault>) -> bool
-    ensures { result ≡ ends_turn says.now }
+// Returns whether a line that does this ends its task's turn.
+fn ends_turn(step: &Step) -> bool
+// ensures { result ≡ ends_turn step.now }
 {
-    match says {
-        Ok(Line::Issue(_, command)) => is_end(&command.verb),
+    match step {
+        Step::Issue(_, command) => is_end(&command.verb),
         _ => false,
+    }
+}
+
+// Returns the number of the lane that gave last, from 1 on, or 0.
+fn last_number(last: Option<usize>) -> u64
+// ensures { result ≡ last_number last }
+{
+    match last {
+        Some(number) => (number as u64).saturating_add(1),
+        None => 0,
     }
 }
 
@@ -126,24 +133,14 @@ fn is_lane(last: Option<usize>, number: usize) -> bool
     }
 }
 
-// Reads the next line of the lane of a number. `None` if it has none left.
-fn read_next(
-    alloc: Global,
-    lanes: &[Lane],
-    number: usize,
-) -> Result<Option<Result<Line, LineFault>>, NoMemory>
-    ensures { IfOk result (λ says. says ≡ next_says lanes.now number) }
+// Returns what the next line of the lane of a number does. `None` if it has none left.
+fn next_step(lanes: &[Lane], number: usize) -> Result<Option<Step>, NoMemory>
+// ensures { IfOk result (λ step. step ≡ next_step lanes.now number) }
 {
-    if number >= lanes.len() {
-        return Ok(None);
+    match lanes.get(number) {
+        Some(lane) => lane.next_step(),
+        None => Ok(None),
     }
-    let lane = &lanes[number];
-    let lines = lane.lines.as_slice();
-    if lane.given >= lines.len() {
-        return Ok(None);
-    }
-    let says = read(alloc, lines[lane.given].1.bytes())?;
-    Ok(Some(says))
 }
 
 impl Walker {
@@ -164,7 +161,6 @@ impl Walker {
             region,
             lanes,
             last: None,
-            is_serial: true,
         })
     }
 
@@ -196,10 +192,11 @@ impl Walker {
     pub fn restart(&mut self) -> Result<(), NoMemory>
         ensures { OnOk result (self.new ≡ initial_state self.old.plan) }
     {
-        self.lanes = initial_lanes(self.alloc, &self.plan)?;
-        self.region = initial_region(self.alloc, &self.plan)?;
+        for at in 0..self.lanes.len() {
+            self.lanes[at].rewind();
+        }
+        restart(&mut self.region, &self.plan)?;
         self.last = None;
-        self.is_serial = true;
         Ok(())
     }
 
@@ -228,12 +225,33 @@ impl Walker {
         }
     }
 
-    /// Returns whether the order so far is serial: no task within a turn gave a line after another
-    /// task's.
-    pub fn is_serial(&self) -> bool
-        ensures { result ≡ self.now.is_serial }
+    // Returns whether the task that gave last is within a turn and may go on with it. If another
+    // task gives then, only a shutdown can still keep the order serial.
+    fn is_in_turn(&self) -> bool
+    // ensures { result ≡ is_in_turn self.now }
     {
-        self.is_serial
+        let lanes = self.lanes.as_slice();
+        let last = self.last.and_then(|number| lanes.get(number));
+        let clock = lanes.last();
+        match (last, clock) {
+            (Some(lane), Some(clock)) => {
+                lane.is_in_turn && may_give(&self.region, lane) && !clock.has_shutdown_left()
+            }
+            _ => false,
+        }
+    }
+
+    /// Returns whether the order can't become a serial one if this lane gives next: its task is
+    /// within a turn and another gave since, or leaves one within a turn that may give.
+    pub fn breaks_serial(&self, number: usize) -> bool
+    // ensures { result ≡ breaks_serial self.now number }
+    {
+        match self.lanes.get(number) {
+            Some(lane) if lane.label.is_some() && !is_lane(self.last, number) => {
+                lane.is_in_turn || self.is_in_turn()
+            }
+            _ => false,
+        }
     }
 
     // Counts the next line of a lane as given, which may end its task's turn.
@@ -242,9 +260,7 @@ impl Walker {
         ensures { (lane : Lane) → slice_get self.old.lanes number ≡ Some lane →
             self.new ≡ counted self.old number lane ends_turn }
     {
-        let lane = &self.lanes[number];
-        self.is_serial = self.is_serial && (!lane.is_in_turn || is_lane(self.last, number));
-        if lane.label.is_some() {
+        if self.lanes[number].label.is_some() {
             self.last = Some(number);
         }
         self.lanes[number].give(ends_turn);
@@ -286,26 +302,15 @@ impl Walker {
         }
     }
 
-    // Does what a line says: a command, the clock and the shutdown are events, and no other line is
-    // one.
-    fn follow(&mut self, line: Line) -> Result<(), NoMemory>
-        ensures { OnOk result (self.new ≡ after_line self.old (Ok line)) }
+    // Does what a line does: a command, the clock and the shutdown are events.
+    fn follow(&mut self, step: Step) -> Result<(), NoMemory>
+    // ensures { OnOk result (self.new ≡ after_step self.old step) }
     {
-        match line {
-            Line::Issue(label, command) => self.issue(label, command),
-            Line::Clock(seconds) => self.set_clock(seconds),
-            Line::Shutdown => self.shut_down(),
-            _ => Ok(()),
-        }
-    }
-
-    // Does what a line says. A line that can't be read does nothing.
-    fn follow_read(&mut self, says: Result<Line, LineFault>) -> Result<(), NoMemory>
-        ensures { OnOk result (self.new ≡ after_line self.old says) }
-    {
-        match says {
-            Ok(line) => self.follow(line),
-            Err(_) => Ok(()),
+        match step {
+            Step::Issue(label, command) => self.issue(label, command),
+            Step::Clock(seconds) => self.set_clock(seconds),
+            Step::Shutdown => self.shut_down(),
+            Step::Nothing => Ok(()),
         }
     }
 
@@ -337,14 +342,29 @@ impl Walker {
     pub fn give(&mut self, number: usize) -> Result<(), NoMemory>
         ensures { OnOk result (self.new ≡ given self.old number) }
     {
-        let lanes = self.lanes.as_slice();
-        let next = read_next(self.alloc, lanes, number)?;
-        let Some(says) = next else {
+        let Some(step) = next_step(self.lanes.as_slice(), number)? else {
             return Ok(());
         };
-        self.count(number, ends_turn(&says));
-        self.follow_read(says)?;
+        self.count(number, ends_turn(&step));
+        self.follow(step)?;
         self.drain()?;
         Ok(())
+    }
+
+    /// Appends the stamp of this state: walkers of one plan with the same stamp have the same
+    /// future. With `told` it has all that tasks were told, else how they ended. With `serial` it
+    /// also has what tells whether an order that is serial so far stays so.
+    ///
+    /// Errors: `NoMemory`.
+    pub fn stamp(&self, told: bool, serial: bool, out: &mut Vec<u8>) -> Result<(), NoMemory>
+    // ensures { OnOk result (out.new.items ≡ out.old.items ++ state_stamp told serial self.now) }
+    {
+        for lane in self.lanes.as_slice() {
+            lane.stamp(told, out)?;
+        }
+        if serial {
+            stamp_number(out, last_number(self.last))?;
+        }
+        self.region.stamp(out)
     }
 }

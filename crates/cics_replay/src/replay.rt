@@ -67,6 +67,37 @@ fn replayed(
     Ok(store)
 }
 
+// Returns the outcomes of units if each open one was backed out.
+fn closed(alloc: Global, outcomes: &[UnitState]) -> Result<Vec<UnitState>, NoMemory>
+// ensures { IfOk result (λ states. states.items ≡ map closed outcomes.now) }
+{
+    let mut states = Vec::from_slice(alloc, outcomes)?;
+    for at in 0..states.len() {
+        if states[at] == UnitState::Open {
+            states[at] = UnitState::BackedOut;
+        }
+    }
+    Ok(states)
+}
+
+/// Appends the stamp of what the files and queues would hold if each open unit was backed out: a
+/// plain replay of the history.
+///
+/// Errors: `NoMemory`. Cost: that of `plain_replay`.
+pub fn stamp_committed(
+    out: &mut Vec<u8>,
+    opening: &Opening,
+    trace: &[Entry],
+    outcomes: &[UnitState],
+) -> Result<(), NoMemory>
+// ensures { OnOk result (out.new.items ≡ out.old.items ++ store_stamp (replay
+//     (initial_store opening.now) (kept opening.now trace.now (map closed outcomes.now)))) }
+{
+    let alloc = opening.allocator();
+    let states = closed(alloc, outcomes)?;
+    replayed(alloc, opening, trace, states.as_slice())?.stamp(out)
+}
+
 /// Returns the listing of a plain replay: the files and queues that were loaded, changed by each
 /// surviving entry, in the order of the entries. It has no tasks.
 ///

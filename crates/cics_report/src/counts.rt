@@ -10,73 +10,91 @@ use cics_lanes::{Ending, Report};
 use cics_names::NoMemory;
 use cics_spelling::{push_number, push_str};
 
-// Returns the words before a number, which is a lower bound if orders were left out.
-fn bound_text(is_whole: bool) -> &'static str
-    ensures { result.now ≡ bound_text is_whole }
+// Returns the words before a number. It is a lower bound if orders were left out, and so is the
+// greatest number that is kept.
+fn bound_text(is_whole: bool, count: u128) -> &'static str
+// ensures { result.now ≡ bound_text is_whole count }
 {
-    if is_whole { "" } else { "AT LEAST " }
+    if is_whole && count < u128::MAX {
+        return "";
+    }
+    "AT LEAST "
+}
+
+// Appends a number in decimal.
+fn push_wide(out: &mut Vec<u8>, number: u128) -> Result<(), NoMemory>
+// ensures { OnOk result (out.new.items ≡ out.old.items ++ decimal number) }
+{
+    if number >= 10 {
+        push_wide(out, number / 10)?;
+    }
+    out.push(b'0' + (number % 10) as u8)?;
+    Ok(())
 }
 
 /// Appends a number, which is a lower bound if orders were left out.
-pub(crate) fn push_count(out: &mut Vec<u8>, is_whole: bool, count: u64) -> Result<(), NoMemory>
-    ensures { OnOk result (out.new.items ≡ out.old.items ++ count_text is_whole count) }
+pub(crate) fn push_count(out: &mut Vec<u8>, is_whole: bool, count: u128) -> Result<(), NoMemory>
+// ensures { OnOk result (out.new.items ≡ out.old.items ++ count_text is_whole count) }
 {
-    push_str(out, bound_text(is_whole))?;
-    push_number(out, count)
+    push_str(out, bound_text(is_whole, count))?;
+    push_wide(out, count)
 }
 
 // Appends two numbers: of all, and of the serial ones.
-fn push_both(out: &mut Vec<u8>, is_whole: bool, all: u64, serial: u64) -> Result<(), NoMemory>
-    ensures { OnOk result (out.new.items ≡ out.old.items ++ both_text is_whole all serial) }
+fn push_both(out: &mut Vec<u8>, report: &Report, all: u128, serial: u128) -> Result<(), NoMemory>
+// ensures { OnOk result (out.new.items ≡ out.old.items ++ both_text report.now all serial) }
 {
-    push_count(out, is_whole, all)?;
+    push_count(out, report.is_whole, all)?;
     push_str(out, " SERIAL ")?;
-    push_count(out, is_whole, serial)
+    push_count(out, report.has_all_serial, serial)
 }
 
 /// Appends how many orders lead to an ending, and its mark.
 pub(crate) fn push_heading(
     out: &mut Vec<u8>,
-    is_whole: bool,
+    report: &Report,
     ending: &Ending,
 ) -> Result<(), NoMemory>
-    ensures { OnOk result (out.new.items ≡ out.old.items ++ heading_text is_whole ending.now) }
+// ensures { OnOk result (out.new.items ≡ out.old.items ++ heading_text report.now ending.now) }
 {
     push_str(out, " ORDERS ")?;
-    push_both(out, is_whole, ending.orders(), ending.serial())?;
+    push_both(out, report, ending.orders(), ending.serial())?;
     out.extend_from_slice(mark_in(ending.parts()))?;
     push_str(out, "\n")
 }
 
-// Returns how many serial orders lead to endings.
-fn serial_orders(endings: &[Ending]) -> u64
-    ensures { result ≡ serial_orders endings.now }
-{
-    let mut count = 0u64;
-    for i in 0..endings.len() {
-        count = count.saturating_add(endings[i].serial());
-    }
-    count
+// How many orders lead to endings, how many serial ones do, and to how many endings these lead.
+#[derive(Clone, Copy)]
+struct Totals {
+    orders: u128,
+    serial: u128,
+    serial_endings: u64,
 }
 
-// Returns to how many endings a serial order leads.
-fn serial_endings(endings: &[Ending]) -> usize
-    ensures { result ≡ serial_endings endings.now }
+// Returns the totals of endings.
+fn totals(endings: &[Ending]) -> Totals
+// ensures { result ≡ totals endings.now }
 {
-    let mut count = 0;
-    for i in 0..endings.len() {
-        if endings[i].serial() > 0 {
-            count += 1;
+    let mut totals = Totals {
+        orders: 0,
+        serial: 0,
+        serial_endings: 0,
+    };
+    for ending in endings {
+        totals.orders = totals.orders.saturating_add(ending.orders());
+        totals.serial = totals.serial.saturating_add(ending.serial());
+        if ending.serial() > 0 {
+            totals.serial_endings = totals.serial_endings.saturating_add(1);
         }
     }
-    count
+    totals
 }
 
 /// Appends the line on a limit, if it left orders out.
-pub(crate) fn push_limit(out: &mut Vec<u8>, is_whole: bool, limit: u64) -> Result<(), NoMemory>
-    ensures { OnOk result (out.new.items ≡ out.old.items ++ limit_text is_whole limit) }
+pub(crate) fn push_limit(out: &mut Vec<u8>, report: &Report, limit: u64) -> Result<(), NoMemory>
+// ensures { OnOk result (out.new.items ≡ out.old.items ++ limit_text report.now limit) }
 {
-    if is_whole {
+    if report.is_whole && report.has_all_serial {
         return Ok(());
     }
     push_str(out, "LIMIT ")?;
@@ -86,18 +104,18 @@ pub(crate) fn push_limit(out: &mut Vec<u8>, is_whole: bool, limit: u64) -> Resul
 
 /// Appends the numbers of orders and endings.
 pub(crate) fn push_totals(out: &mut Vec<u8>, report: &Report) -> Result<(), NoMemory>
-    ensures { OnOk result (out.new.items ≡ out.old.items ++ totals_text report.now) }
+// ensures { OnOk result (out.new.items ≡ out.old.items ++ totals_text report.now) }
 {
     let endings = report.endings.as_slice();
-    let is_whole = report.is_whole;
+    let totals = totals(endings);
     push_str(out, "ORDERS ")?;
-    push_both(out, is_whole, report.orders, serial_orders(endings))?;
+    push_both(out, report, totals.orders, totals.serial)?;
     push_str(out, "\nENDINGS ")?;
     push_both(
         out,
-        is_whole,
-        endings.len() as u64,
-        serial_endings(endings) as u64,
+        report,
+        endings.len() as u128,
+        u128::from(totals.serial_endings),
     )?;
     push_str(out, "\n")
 }

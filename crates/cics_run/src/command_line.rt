@@ -75,7 +75,7 @@ T1 EXEC CICS SYNCPOINT ROLLBACK
 END";
 
 /// How many orders are followed at most, if the command line doesn't say.
-const ORDERS: u64 = 20_000;
+const ORDERS: u64 = 200_000;
 
 /// What a command line asks for.
 ///
@@ -186,7 +186,7 @@ fn with_orders<'a>(
 ) -> Result<Command<'a>, AllocError> {
     let orders = "Print a report on every order of the tasks' lines instead";
     let told = "Tell endings apart by what tasks are answered too";
-    let limit = "Follow at most N orders (20000)";
+    let limit = "Follow at most N states (200000)";
     let ending = "Print the first order of ending N as a script";
     let command = with(runs, apart_from_runs(flag(alloc, "orders", orders)));
     let command = with(command, told_flag(flag(alloc, "told", told)));

@@ -23,6 +23,10 @@ impl Tells for States {
 
     ghost told = { told_of false };
 
+    fn has_told(&self) -> bool {
+        false
+    }
+
     fn tell(&self, walker: &Walker) -> Result<Items<Record>, NoMemory> {
         parts_of(self.alloc, walker.region(), false, walker.lanes())
     }
@@ -33,6 +37,10 @@ impl Tells for Answers {
     ghost use Rattle.cics_survey.specs.Surveys.{told_of};
 
     ghost told = { told_of true };
+
+    fn has_told(&self) -> bool {
+        true
+    }
 
     fn tell(&self, walker: &Walker) -> Result<Items<Record>, NoMemory> {
         parts_of(self.alloc, walker.region(), true, walker.lanes())

@@ -12,7 +12,7 @@ use crate::answers::{TsRead, TsWritten};
 use crate::images::{Before, TsImage, image_of};
 use crate::queue_rows::{Row, not_deleted, not_read, not_written, written};
 use cics_images::Changed;
-use cics_names::{Condition, Items, Name8, NoMemory, Record};
+use cics_names::{Condition, Items, Name8, NoMemory, Record, stamp_number, stamp_text};
 use indexmap::IndexMap;
 use std::alloc::Global;
 use std::collections::BTreeMap;
@@ -237,6 +237,23 @@ impl TempStore {
             Some(row) => row.place(),
             None => 0,
         }
+    }
+
+    /// Appends the stamp of the NEXT cursors that aren't 0, in the order of the names.
+    ///
+    /// Errors: `NoMemory`. Cost: that of `listing`.
+    pub fn stamp_places(&self, out: &mut Vec<u8>) -> Result<(), NoMemory>
+    // ensures { OnOk result (out.new.items ≡ out.old.items ++ places_stamp (places_of self.now)) }
+    {
+        let queues = self.listing()?;
+        for (name, _) in queues.as_slice() {
+            let place = self.next_place(name);
+            if place > 0 {
+                stamp_number(out, u64::from(place))?;
+                stamp_text(out, &name.bytes())?;
+            }
+        }
+        stamp_number(out, 0)
     }
 
     /// Removes the empty row of a name, if there is one: no image of the name will be undone any

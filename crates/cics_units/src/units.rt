@@ -30,9 +30,9 @@ use cics_enqueue::{ResourceRef, TakeFault};
 use cics_history::{Answer, Done, Enqueued, Entry, Op, UnitId, UnitState};
 use cics_images::{Images, Stores};
 use cics_ksds::File;
-use cics_names::{Name4, Name8, NoMemory};
+use cics_names::{Condition, Name4, Name8, NoMemory, stamp_number};
 use cics_opening::Opening;
-use cics_replay::Listing;
+use cics_replay::{Listing, stamp_committed};
 use cics_tempstor::{TempStore, TsRead};
 use cics_transdata::Recovery;
 use std::alloc::Global;
@@ -512,6 +512,66 @@ impl Units {
         ensures lawful { IfSome result (λ f. is_key f.now.definition ≡ true) }
     {
         self.core.store.files.get(name)
+    }
+
+    /// Goes back to the start, with the files and queues of the opening. It leaves its room.
+    ///
+    /// Errors: `NoMemory`. Nothing changes.
+    pub fn restart(&mut self) -> Result<(), NoMemory>
+    // ensures state { OnOk result (self.new.state ≡ beginning self.old.state.opening) }
+    // ensures headline { OnOk result (IsHeadline self.new) }
+    // ensures serializable { OnOk result (IsSerializable self.new) }
+    // ensures err { OnErr result (self.new ≡ self.old) }
+    {
+        let store = Stores {
+            files: self.opening.files().copy()?,
+            temp_storage: TempStore::new(self.alloc),
+            trans_data: self.opening.queues().copy()?,
+        };
+        self.core = UnitsCore::new(self.alloc, store);
+        self.trace.clear();
+        self.outcomes.clear();
+        self.commits.clear();
+        Ok(())
+    }
+
+    // Appends the stamps of what a unit did to recoverable files and queues, and was answered
+    // NORMAL.
+    fn stamp_ops(&self, unit: UnitId, out: &mut Vec<u8>) -> Result<(), NoMemory>
+    // ensures { OnOk result (out.new.items
+    //     ≡ out.old.items ++ ops_stamp (ops_of self.now.state unit)) }
+    {
+        for entry in self.trace.as_slice() {
+            let is_done = entry.unit() == unit && entry.condition() == Condition::Normal;
+            if is_done && self.opening.is_recoverable(&entry.op()?) {
+                entry.stamp_op(out)?;
+            }
+        }
+        stamp_number(out, 0)
+    }
+
+    /// Appends the stamp of a unit: what it did to recoverable files and queues, its open update
+    /// reads, and the values that it has enqueued on.
+    ///
+    /// Errors: `NoMemory`. Cost: O(executed commands + owned resources).
+    pub fn stamp_unit(&self, unit: UnitId, out: &mut Vec<u8>) -> Result<(), NoMemory>
+    // ensures { OnOk result (out.new.items ≡ out.old.items ++ unit_stamp self.now.state unit) }
+    {
+        self.stamp_ops(unit, out)?;
+        self.core.reads.stamp(unit, out)?;
+        self.core.locks.stamp_values(unit, out)
+    }
+
+    /// Appends the stamp of what units share: files and queues as they would stand if each open
+    /// unit was backed out, and the NEXT cursors.
+    ///
+    /// Errors: `NoMemory`. Cost: a replay of the history.
+    pub fn stamp_shared(&self, out: &mut Vec<u8>) -> Result<(), NoMemory>
+    // ensures { OnOk result (out.new.items ≡ out.old.items ++ shared_stamp self.now.state) }
+    {
+        let trace = self.trace.as_slice();
+        stamp_committed(out, &self.opening, trace, self.outcomes.as_slice())?;
+        self.core.store.temp_storage.stamp_places(out)
     }
 
     /// Returns what the units started with.

@@ -14,7 +14,7 @@ use super::queues::PlainQueue;
 use super::records::PlainRecords;
 use crate::listings::Listing;
 use cics_history::Op;
-use cics_names::{Items, Name4, Name8, NoMemory, Record};
+use cics_names::{Items, Name4, Name8, NoMemory, Record, stamp_number, stamp_records, stamp_text};
 use cics_opening::Opening;
 use cics_transdata::Recovery;
 use std::alloc::Global;
@@ -106,7 +106,58 @@ fn td_listed(
     Ok(listed)
 }
 
+// Appends the stamps of files by name.
+fn stamp_files(
+    out: &mut Vec<u8>,
+    files: &BTreeMap<Name8, PlainRecords>,
+) -> Result<(), NoMemory>
+// ensures { OnOk result (out.new.items
+//     ≡ out.old.items ++ map_stamp (map_stamp text_stamp) files.now.entries) }
+{
+    stamp_number(out, files.len() as u64)?;
+    for (name, records) in files.iter() {
+        stamp_text(out, &name.bytes())?;
+        records.stamp(out)?;
+    }
+    Ok(())
+}
+
+// Appends the stamps of temporary storage queues by name.
+fn stamp_ts(out: &mut Vec<u8>, queues: &BTreeMap<Name8, Items<Record>>) -> Result<(), NoMemory>
+// ensures { OnOk result (out.new.items
+//     ≡ out.old.items ++ map_stamp records_stamp queues.now.entries) }
+{
+    stamp_number(out, queues.len() as u64)?;
+    for (name, items) in queues.iter() {
+        stamp_text(out, &name.bytes())?;
+        stamp_records(out, items.as_slice())?;
+    }
+    Ok(())
+}
+
+// Appends the stamps of transient data queues by name.
+fn stamp_td(out: &mut Vec<u8>, queues: &BTreeMap<Name4, PlainQueue>) -> Result<(), NoMemory>
+// ensures { OnOk result (out.new.items
+//     ≡ out.old.items ++ map_stamp records_stamp queues.now.entries) }
+{
+    stamp_number(out, queues.len() as u64)?;
+    for (name, records) in queues.iter() {
+        stamp_text(out, &name.bytes())?;
+        records.stamp(out)?;
+    }
+    Ok(())
+}
+
 impl PlainStore {
+    /// Appends the stamp of the files and queues.
+    pub(crate) fn stamp(&self, out: &mut Vec<u8>) -> Result<(), NoMemory>
+    // ensures { OnOk result (out.new.items ≡ out.old.items ++ store_stamp self.now) }
+    {
+        stamp_files(out, &self.files)?;
+        stamp_ts(out, &self.temp_storage)?;
+        stamp_td(out, &self.trans_data)
+    }
+
     /// Returns a store without files and queues.
     fn new(alloc: Global) -> PlainStore
         ensures { result ≡ record { files = []; ts = []; td = [] } }

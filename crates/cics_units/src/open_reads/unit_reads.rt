@@ -5,7 +5,7 @@ ghost use Rattle.std.specs.Option.{option_copied};
 ghost use Rattle.cics_names.specs.Keyed.{value_at, with_value, without};
 ghost use Rattle.cics_units.specs.OpenReads.{place_of, IsFoundAt};
 
-use cics_names::{Name8, NoMemory, Record};
+use cics_names::{Name8, NoMemory, Record, stamp_number, stamp_text};
 use std::alloc::Global;
 use std::marker::Model;
 
@@ -39,6 +39,18 @@ impl UnitReads {
         UnitReads {
             entries: Vec::new(alloc),
         }
+    }
+
+    /// Appends its stamp.
+    pub(crate) fn stamp(&self, out: &mut Vec<u8>) -> Result<(), NoMemory>
+    // ensures { OnOk result (out.new.items ≡ out.old.items ++ map_stamp text_stamp self.now) }
+    {
+        stamp_number(out, self.entries.len() as u64)?;
+        for (file, key) in self.entries.as_slice() {
+            stamp_text(out, &file.bytes())?;
+            stamp_text(out, key.bytes())?;
+        }
+        Ok(())
     }
 
     // Returns how many entries have files that come before this one.
