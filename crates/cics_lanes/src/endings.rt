@@ -3,13 +3,45 @@
 use crate::stamps::Stamp;
 use cics_names::{Items, NoMemory, Record};
 use indexmap::IndexMap;
+use std::alloc::Global;
+
+/// Orders that lead to one state, or to one ending: the first of them, and how many there are;
+/// `u128::MAX` is that many or more.
+#[derive(Drop)]
+pub(crate) struct Orders {
+    pub(crate) first: Items<usize>,
+    pub(crate) count: u128,
+}
+
+impl Orders {
+    /// Returns no orders.
+    pub(crate) fn none(alloc: Global) -> Orders
+    // ensures { result ≡ record { first = []; count = 0 } }
+    {
+        Orders {
+            first: Items::new(alloc),
+            count: 0,
+        }
+    }
+
+    /// Adds others, of which there is one at least.
+    pub(crate) fn join(&mut self, others: Orders)
+    // requires { 0 < others.count }
+    // ensures { self.new ≡ joined self.old others }
+    {
+        let Orders { first, count } = others;
+        if self.count == 0 || first.as_slice().cmp(self.first.as_slice()).is_lt() {
+            self.first = first;
+        }
+        self.count = self.count.saturating_add(count);
+    }
+}
 
 /// An ending, with its first order and how many orders lead to it.
 #[derive(Drop)]
 pub struct Ending {
-    order: Items<usize>,
     parts: Items<Record>,
-    orders: u128,
+    orders: Orders,
     serial: u128,
 }
 
@@ -18,7 +50,7 @@ impl Ending {
     pub fn order(&self) -> &[usize]
     // ensures { result.now ≡ self.now.order }
     {
-        self.order.as_slice()
+        self.orders.first.as_slice()
     }
 
     /// Returns the parts in which it is told.
@@ -32,7 +64,7 @@ impl Ending {
     pub fn orders(&self) -> u128
     // ensures { result ≡ self.now.orders }
     {
-        self.orders
+        self.orders.count
     }
 
     /// Returns how many serial orders lead to it; `u128::MAX` is that many or more.
@@ -43,62 +75,47 @@ impl Ending {
     }
 }
 
-/// Orders that lead to one state: the first of them, and how many there are; `u128::MAX` is that
-/// many or more.
-#[derive(Drop)]
-pub(crate) struct Orders {
-    pub(crate) first: Items<usize>,
-    pub(crate) count: u128,
-}
-
-/// The endings that were met, by the stamps of their parts. Each has the orders that lead to it as
-/// its serial ones too.
+/// The endings that were met, by the stamps of their parts. No serial orders are counted yet.
 pub(crate) type Met = IndexMap<Stamp, Ending>;
 
 /// Adds the orders that lead to a state to those of the ending that it is.
 pub(crate) fn tell(met: &mut Met, parts: Items<Record>, orders: Orders) -> Result<(), NoMemory>
 // ensures { OnOk result (met.new.entries ≡ told met.old.entries parts orders) }
 {
-    let Orders { first, count } = orders;
     let stamp = Stamp::of_parts(*met.allocator(), parts.as_slice())?;
-    let Some(known) = met.get_mut(&stamp) else {
-        met.insert(
-            stamp,
-            Ending {
-                order: first,
-                parts,
-                orders: count,
-                serial: 0,
-            },
-        )?;
+    if let Some(known) = met.get_mut(&stamp) {
+        known.orders.join(orders);
         return Ok(());
-    };
-    known.orders = known.orders.saturating_add(count);
-    if first.as_slice().cmp(known.order()).is_lt() {
-        known.order = first;
     }
+    let serial = 0;
+    met.insert(
+        stamp,
+        Ending {
+            parts,
+            orders,
+            serial,
+        },
+    )?;
     Ok(())
 }
 
-// Returns the endings that orders met, in the order of their first orders, each with how many
-// serial orders met it. Behind them are those that only serial orders met.
+/// Returns the endings that orders met, in the order of their first orders, each with how many
+/// serial orders met it. Behind them are those that only serial orders met.
 pub(crate) fn joined(all: Met, serial: Met) -> Result<Items<Ending>, NoMemory>
 // ensures { IfOk result (λ endings. endings ≡ joined all.entries serial.entries) }
 {
     let mut all = all;
     all.sort_by(|_, one, _, other| one.order().cmp(other.order()))?;
     for (stamp, ending) in serial {
-        let count = ending.orders;
+        let mut ending = ending;
+        let count = ending.orders.count;
         if let Some(known) = all.get_mut(&stamp) {
             known.serial = count;
-            known.orders = known.orders.max(count);
+            known.orders.count = known.orders.count.max(count);
             continue;
         }
-        let serial = Ending {
-            serial: count,
-            ..ending
-        };
-        all.insert(stamp, serial)?;
+        ending.serial = count;
+        all.insert(stamp, ending)?;
     }
     let mut endings = Items::new(*all.allocator());
     for ending in all.into_values() {
