@@ -4,6 +4,7 @@ use crate::stamps::Stamp;
 use cics_names::{Items, NoMemory, Record};
 use indexmap::IndexMap;
 use std::alloc::Global;
+use std::cmp::Ordering;
 
 /// Orders that lead to one state, or to one ending: the first of them, and how many there are;
 /// `u128::MAX` is that many or more.
@@ -24,16 +25,23 @@ impl Orders {
         }
     }
 
+    /// Compares the first one with that of others.
+    pub(crate) fn cmp_first(&self, others: &Orders) -> Ordering
+    // ensures { result ≡ slice_cmp nat_cmp self.now.first others.now.first }
+    {
+        self.first.as_slice().cmp(others.first.as_slice())
+    }
+
     /// Adds others, of which there is one at least.
     pub(crate) fn join(&mut self, others: Orders)
     // requires { 0 < others.count }
     // ensures { self.new ≡ joined self.old others }
     {
-        let Orders { first, count } = others;
-        if self.count == 0 || first.as_slice().cmp(self.first.as_slice()).is_lt() {
-            self.first = first;
+        let count = self.count.saturating_add(others.count);
+        if self.count == 0 || others.cmp_first(self).is_lt() {
+            *self = others;
         }
-        self.count = self.count.saturating_add(count);
+        self.count = count;
     }
 }
 
@@ -105,7 +113,7 @@ pub(crate) fn joined(all: Met, serial: Met) -> Result<Items<Ending>, NoMemory>
 // ensures { IfOk result (λ endings. endings ≡ joined all.entries serial.entries) }
 {
     let mut all = all;
-    all.sort_by(|_, one, _, other| one.order().cmp(other.order()))?;
+    all.sort_by(|_, one, _, other| one.orders.cmp_first(&other.orders))?;
     for (stamp, ending) in serial {
         let mut ending = ending;
         let count = ending.orders.count;

@@ -43,34 +43,28 @@ struct Node {
     orders: Orders,
 }
 
-impl Node {
-    // Returns the first lane that isn't followed yet.
-    fn next_lane(&self) -> Option<usize>
-    // ensures { result ≡ slice_get self.now.lanes (length self.now.next) }
-    {
-        self.lanes.as_slice().get(self.next.len()).copied()
-    }
-}
-
 // The states of a level, by their stamps.
 type Level = IndexMap<Stamp, Node>;
 
 // A search of orders.
+//
+// Between calls, the endings that were met and the states of all levels stand for all orders: each
+// order that leads to an ending is counted there, or leads through a state that it is counted for.
 #[derive(Drop)]
-struct Search<'a, W> {
+struct Search<W> {
     alloc: Global,
-    walk: &'a mut W,
-    // Whether only serial orders are followed.
-    is_serial: bool,
+    walk: W,
     // How many states it may follow, before it follows only some of each level.
     limit: u64,
-    // How many it follows so far.
+    // Whether only serial orders are followed.
+    is_serial: bool,
+    // How many states it follows so far.
     states: u64,
     // How many are found, but not followed yet.
     found: u64,
     // Whether it has left out no state.
     is_whole: bool,
-    // The states of each level that is found and not followed yet.
+    // The states of each level that are found and not followed yet.
     levels: Vec<Level>,
     met: Met,
     // Room for a stamp.
@@ -92,8 +86,8 @@ fn go_to<W: Walk>(walk: &mut W, order: &[usize]) -> Result<(), NoMemory>
 // ensures at { OnOk result (walk.new ≡ after W.lanes (W.start walk.old) order.now) }
 {
     walk.restart()?;
-    for lane in order {
-        walk.give(*lane)?;
+    for i in 0..order.len() {
+        walk.give(order[i])?;
     }
     Ok(())
 }
@@ -113,11 +107,41 @@ fn lanes_of<W: Walk>(alloc: Global, walk: &W, is_serial: bool) -> Result<Items<u
     Ok(lanes)
 }
 
-impl<'a, W: Walk> Search<'a, W> {
+// Returns whether the state of an index is kept, if `most` of `count` are: they are spread evenly.
+fn is_kept(at: u64, most: u64, count: u64) -> bool
+// requires { at < count }
+{
+    let (at, most, count) = (u128::from(at), u128::from(most), u128::from(count));
+    at * most / count != (at + 1) * most / count
+}
+
+// Returns `most` states of a level, or all if there are no more, spread evenly in the order of their
+// first orders.
+fn thinned(alloc: Global, level: Level, most: u64) -> Result<Level, NoMemory>
+// ensures { IfOk result (λ kept. some permutation of level.entries has kept.entries as a sublist) }
+{
+    let mut level = level;
+    let count = level.len() as u64;
+    if count <= most {
+        return Ok(level);
+    }
+    level.sort_by(|_, one, _, other| one.orders.cmp_first(&other.orders))?;
+    let mut kept = IndexMap::new(alloc);
+    let mut at = 0;
+    for (stamp, node) in level {
+        if is_kept(at, most, count) {
+            kept.insert(stamp, node)?;
+        }
+        at += 1;
+    }
+    Ok(kept)
+}
+
+impl<W: Walk> Search<W> {
     // Returns the index of the state of the walk in a level, to which it is added if it isn't
     // there.
     fn place(&mut self, level: usize) -> Result<usize, NoMemory>
-    // ensures: the level has the stamp of the walk at the index, the others stay
+    // ensures: the level has the stamp of the walk at the index, what was there stays
     {
         self.stamp.bytes.clear();
         self.walk.stamp(self.is_serial, &mut self.stamp.bytes)?;
@@ -125,27 +149,29 @@ impl<'a, W: Walk> Search<'a, W> {
         if let Some(at) = states.get_index_of(&self.stamp) {
             return Ok(at);
         }
+        let at = states.len();
         let node = Node {
-            lanes: lanes_of(self.alloc, self.walk, self.is_serial)?,
+            lanes: lanes_of(self.alloc, &self.walk, self.is_serial)?,
             next: Items::new(self.alloc),
             orders: Orders::none(self.alloc),
         };
-        let at = states.len();
         states.insert(self.stamp.copy()?, node)?;
-        self.found += 1;
+        self.found = self.found.saturating_add(1);
         Ok(at)
     }
 
     // Returns the first lane of a state that isn't followed yet.
-    fn next_lane(&self, level: usize, at: usize) -> Option<usize> {
+    fn next_lane(&self, level: usize, at: usize) -> Option<usize>
+    // ensures { result ≡ slice_get lanes (length next), of the node }
+    {
         let (_, node) = self.levels[level].get_index(at)?;
-        node.next_lane()
+        node.lanes.as_slice().get(node.next.len()).copied()
     }
 
     // Gives the next line of a lane, from the state of the walk, which is in a level. Returns the
     // index of the state that this leads to.
     fn step(&mut self, level: usize, at: usize, lane: usize) -> Result<usize, NoMemory>
-    // ensures: the node has one `next` more, the place of the state of the walk
+    // ensures: the node has one `next` more, which is the place of the state of the walk
     {
         self.walk.give(lane)?;
         let to = self.place(level + 1)?;
@@ -173,75 +199,69 @@ impl<'a, W: Walk> Search<'a, W> {
     }
 
     // Follows the lanes of a state that aren't followed yet.
-    fn follow(&mut self, level: usize, at: usize) -> Result<(), NoMemory> {
+    fn follow(&mut self, level: usize, at: usize) -> Result<(), NoMemory>
+    // ensures: the node has a `next` for each lane
+    {
         while self.next_lane(level, at).is_some() {
             if let Some((_, node)) = self.levels[level].get_index(at) {
-                go_to(self.walk, node.orders.first.as_slice())?;
+                go_to(&mut self.walk, node.orders.first.as_slice())?;
             }
             self.go_on(level, at)?;
         }
         Ok(())
     }
 
-    // Tells the ending that a state is, if no lane may give there.
+    // Counts orders as those of the ending that they lead to, if no lane may give then.
     fn tell(&mut self, orders: Orders) -> Result<(), NoMemory> {
-        go_to(self.walk, orders.first.as_slice())?;
+        go_to(&mut self.walk, orders.first.as_slice())?;
         if self.walk.first_giver().is_some() {
             return Ok(());
         }
         tell(&mut self.met, self.walk.parts()?, orders)
     }
 
-    // Counts the orders that lead to a state for those that it leads to in the next level.
+    // Counts the orders that lead to a state, as orders that lead to the states after it in the
+    // next level, or to an ending.
     fn count(&mut self, next: usize, node: Node) -> Result<(), NoMemory>
-    // ensures: met.new + sum next.new ≡ met.old + sum next.old + count * tally (state)
+    // ensures: met.new + sum levels.new ≡ met.old + sum levels.old + count * tally (state)
     {
-        let Node {
-            lanes,
-            next: places,
-            orders,
-        } = node;
-        let order = orders.first.as_slice();
-        let count = orders.count;
-        for (lane, at) in lanes.as_slice().iter().zip(places.as_slice()) {
-            let first = with_lane(self.alloc, order, *lane)?;
-            if let Some(node) = self.levels[next].get_index_mut(*at) {
-                node.orders.join(Orders { first, count });
+        if node.lanes.is_empty() {
+            return self.tell(node.orders);
+        }
+        let (lanes, places) = (node.lanes.as_slice(), node.next.as_slice());
+        for i in 0..lanes.len().min(places.len()) {
+            let first = with_lane(self.alloc, node.orders.first.as_slice(), lanes[i])?;
+            let count = node.orders.count;
+            if let Some(after) = self.levels[next].get_index_mut(places[i]) {
+                after.orders.join(Orders { first, count });
             }
         }
-        if lanes.is_empty() {
-            return self.tell(orders);
-        }
         Ok(())
     }
 
-    // Leaves states of a level out if there are more than the limit leaves: keeps some, spread
-    // evenly in the order of their first orders. Leaves out those that no order leads to.
-    fn thin(&mut self, level: usize) -> Result<(), NoMemory>
-    // ensures: the new level is a sublist of the old one, whole if is_whole.new
-    {
-        let most = (self.limit / self.levels.len() as u64).max(1);
-        let states = &mut self.levels[level];
+    // Takes a level's states out, but those that no order leads to.
+    fn take(&mut self, level: usize) -> Level {
+        let mut states = mem::replace(&mut self.levels[level], IndexMap::new(self.alloc));
+        self.found = self.found.saturating_sub(states.len() as u64);
         states.retain(|_, node| node.orders.count > 0);
-        let count = states.len() as u64;
-        if self.states.saturating_add(count) > self.limit {
+        states
+    }
+
+    // Leaves states of a level out, if there are more than the limit leaves.
+    fn thin(&mut self, level: usize) -> Result<(), NoMemory> {
+        let mut states = self.take(level);
+        if self.states.saturating_add(states.len() as u64) > self.limit {
+            let most = (self.limit / self.levels.len() as u64).max(1);
+            states = thinned(self.alloc, states, most)?;
             self.is_whole = false;
-            states.sort_by(|_, one, _, other| {
-                one.orders.first.as_slice().cmp(other.orders.first.as_slice())
-            })?;
-            let mut at = 0;
-            states.retain(|_, _| {
-                at += 1;
-                count <= most || (at - 1) * most / count != at * most / count
-            });
         }
         self.states = self.states.saturating_add(states.len() as u64);
+        self.levels[level] = states;
         Ok(())
     }
 
-    // Follows the orders from a level on.
+    // Follows the states of a level, and counts their orders for the next one.
     fn run(&mut self, level: usize) -> Result<(), NoMemory> {
-        let found = self.levels[level].len() as u64;
         self.thin(level)?;
         for at in 0..self.levels[level].len() {
             self.follow(level, at)?;
@@ -250,44 +270,34 @@ impl<'a, W: Walk> Search<'a, W> {
         for node in states.into_values() {
             self.count(level + 1, node)?;
         }
-        self.found = self.found.saturating_sub(found);
         Ok(())
     }
-}
 
-// Follows the orders from the start of a walk, or only the serial ones. Returns the endings that
-// they lead to, and whether these are all orders.
-fn search<W: Walk>(
-    alloc: Global,
-    walk: &mut W,
-    limit: u64,
-    is_serial: bool,
-) -> Result<(Met, bool), NoMemory> {
-    walk.restart()?;
-    let lines = walk.line_count();
-    let mut search = Search {
-        alloc,
-        walk,
-        is_serial,
-        limit,
-        states: 0,
-        found: 0,
-        is_whole: true,
-        levels: Vec::new(alloc),
-        met: IndexMap::new(alloc),
-        stamp: Stamp::new(alloc),
-    };
-    for _ in 0..lines + 1 {
-        search.levels.push(IndexMap::new(alloc))?;
+    // Begins at the start of the walk: one order leads there, that of no line.
+    fn begin(&mut self, is_serial: bool) -> Result<(), NoMemory> {
+        self.walk.restart()?;
+        self.is_serial = is_serial;
+        self.states = 0;
+        self.is_whole = true;
+        for _ in self.levels.len()..self.walk.line_count() + 1 {
+            self.levels.push(IndexMap::new(self.alloc))?;
+        }
+        let at = self.place(0)?;
+        if let Some(node) = self.levels[0].get_index_mut(at) {
+            node.orders.count = 1;
+        }
+        Ok(())
     }
-    let at = search.place(0)?;
-    if let Some(node) = search.levels[0].get_index_mut(at) {
-        node.orders.count = 1;
+
+    // Follows the orders from the start of the walk, or only the serial ones. Returns the endings
+    // that they lead to.
+    fn search(&mut self, is_serial: bool) -> Result<Met, NoMemory> {
+        self.begin(is_serial)?;
+        for level in 0..self.levels.len() {
+            self.run(level)?;
+        }
+        Ok(mem::replace(&mut self.met, IndexMap::new(self.alloc)))
     }
-    for level in 0..lines + 1 {
-        search.run(level)?;
-    }
-    Ok((search.met, search.is_whole))
 }
 
 /// Follows the orders from the start of a walk. Returns the endings that they lead to.
@@ -301,12 +311,25 @@ fn search<W: Walk>(
 /// Errors: `NoMemory`.
 ///
 /// Cost: O(states * lanes * stamp), and O(lines) for each time that a state is made again.
-pub fn explore<W: Walk>(alloc: Global, walk: &mut W, limit: u64) -> Result<Report, NoMemory> {
-    let (all, is_whole) = search(alloc, walk, limit, false)?;
-    let (serial, has_all_serial) = search(alloc, walk, limit, true)?;
+pub fn explore<W: Walk + Drop>(alloc: Global, walk: W, limit: u64) -> Result<Report, NoMemory> {
+    let mut search = Search {
+        alloc,
+        walk,
+        limit,
+        is_serial: false,
+        states: 0,
+        found: 0,
+        is_whole: true,
+        levels: Vec::new(alloc),
+        met: IndexMap::new(alloc),
+        stamp: Stamp::new(alloc),
+    };
+    let all = search.search(false)?;
+    let is_whole = search.is_whole;
+    let serial = search.search(true)?;
     Ok(Report {
         endings: joined(all, serial)?,
         is_whole,
-        has_all_serial,
+        has_all_serial: search.is_whole,
     })
 }

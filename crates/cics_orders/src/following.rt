@@ -111,9 +111,9 @@ pub fn explore_script<T: Tells + Drop>(
     teller: T,
     limit: u64,
 ) -> Result<Report, NoMemory> {
-    let mut walk = Following {
+    let walk = Following {
         walker: Walker::new(alloc, plan)?,
         teller,
     };
-    explore(alloc, &mut walk, limit)
+    explore(alloc, walk, limit)
 }

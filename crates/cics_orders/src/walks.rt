@@ -225,10 +225,10 @@ impl Walker {
         }
     }
 
-    // Returns whether the task that gave last is within a turn and may go on with it. If another
-    // task gives then, only a shutdown can still keep the order serial.
-    fn is_in_turn(&self) -> bool
-    // ensures { result ≡ is_in_turn self.now }
+    // Returns whether the task that gave last is within a turn and may go on with it, and no
+    // shutdown is to come. If another task gives then, the order can't become serial.
+    fn turn_goes_on(&self) -> bool
+    // ensures { result ≡ turn_goes_on self.now }
     {
         let lanes = self.lanes.as_slice();
         let last = self.last.and_then(|number| lanes.get(number));
@@ -248,7 +248,7 @@ impl Walker {
     {
         match self.lanes.get(number) {
             Some(lane) if lane.label.is_some() && !is_lane(self.last, number) => {
-                lane.is_in_turn || self.is_in_turn()
+                lane.is_in_turn || self.turn_goes_on()
             }
             _ => false,
         }
