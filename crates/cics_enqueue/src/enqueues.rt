@@ -246,7 +246,8 @@ impl Enqueues {
     ///
     /// Errors: `NoMemory`. Cost: O(owned resources).
     pub fn stamp_values(&self, unit: UnitId, out: &mut Vec<u8>) -> Result<(), NoMemory>
-    // ensures { OnOk result (out.new.items ≡ out.old.items ++ counts_stamp (counts_of self.now unit)) }
+    // ensures { OnOk result (out.new.items
+    //     ≡ out.old.items ++ counts_stamp (counts_of self.now unit)) }
     {
         for (key, holding) in &self.table {
             if holding.unit == unit && is_value(key.as_slice()) {

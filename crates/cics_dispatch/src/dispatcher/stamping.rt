@@ -7,7 +7,8 @@ use cics_names::{NoMemory, stamp_number, stamp_text};
 impl Dispatcher {
     // Appends the stamp of a task: its unit, its browses, and whether it has ended.
     fn stamp_task(&self, out: &mut Vec<u8>, task: &Task) -> Result<(), NoMemory>
-    // ensures { OnOk result (out.new.items ≡ out.old.items ++ task_stamp self.now.machine task.now) }
+    // ensures { OnOk result (out.new.items
+    //     ≡ out.old.items ++ task_stamp self.now.machine task.now) }
     {
         stamp_number(out, u64::from(task.has_ended()))?;
         stamp_number(out, u64::from(task.unit().is_some()))?;
@@ -20,7 +21,8 @@ impl Dispatcher {
     // Appends the stamps of the waits, in the order in which they began: whose they are, and since
     // when.
     fn stamp_waits(&self, out: &mut Vec<u8>) -> Result<(), NoMemory>
-    // ensures { OnOk result (out.new.items ≡ out.old.items ++ waits_stamp self.now.machine.waiting) }
+    // ensures { OnOk result (out.new.items
+    //     ≡ out.old.items ++ waits_stamp self.now.machine.waiting) }
     {
         stamp_number(out, self.waits.len() as u64)?;
         for wait in self.waits.iter() {
