@@ -5,11 +5,14 @@ use cics_machine::Task;
 use cics_names::{NoMemory, stamp_number, stamp_text};
 
 impl Dispatcher {
-    // Appends the stamp of a task: its unit, its browses, and whether it has ended.
+    // Appends the stamp of a task: its label, how long it may wait, whether it has ended, its unit
+    // and its browses.
     fn stamp_task(&self, out: &mut Vec<u8>, task: &Task) -> Result<(), NoMemory>
     // ensures { OnOk result (out.new.items
     //     ≡ out.old.items ++ task_stamp self.now.machine task.now) }
     {
+        stamp_text(out, &task.label().bytes())?;
+        stamp_number(out, task.dtimout())?;
         stamp_number(out, u64::from(task.has_ended()))?;
         stamp_number(out, u64::from(task.unit().is_some()))?;
         if let Some(unit) = task.unit() {
@@ -36,6 +39,7 @@ impl Dispatcher {
     pub(crate) fn stamp(&self, out: &mut Vec<u8>) -> Result<(), NoMemory>
     // ensures { OnOk result (out.new.items ≡ out.old.items ++ region_stamp self.now.machine) }
     {
+        stamp_number(out, self.tasks.len() as u64)?;
         for at in 0..self.tasks.len() {
             self.stamp_task(out, self.tasks.get(at))?;
         }
