@@ -10,8 +10,8 @@ use cics_names::{Items, Name4, Name8, NoMemory, Record};
 use cics_transdata::Recovery;
 use std::alloc::Global;
 
-// Adds the blocks of files or temporary storage queues: what they are called, what is counted of
-// each, and their rows.
+// Adds the blocks of files or of temporary storage queues. `kind` is what they are called, and
+// `counted` what is counted of each.
 fn add_kept(
     alloc: Global,
     parts: &mut Items<Record>,

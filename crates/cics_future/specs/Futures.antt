@@ -1,6 +1,5 @@
--- Two regions that have the same future: what the tasks of the one are told from now on, those of
--- the other are told too, whatever the numbers of their units are, and however their files and
--- queues came to hold what they hold.
+-- Two regions that have the same future: from now on their tasks are told the same. The numbers of
+-- their units may differ, and so may their histories.
 use Rattle.std.specs.Prelude.{◌≡◌, ℕ, ◌==◌, Bool, false, ◌&&◌, if◌then◌else◌, Option, Some, None, option_map, filter, map, nat_lt, List, [], ◌∷◌}
 use Rattle.std.specs.List.{list_any}
 use Rattle.cics_names.specs.Keyed.{Bytes, is_below}
@@ -37,8 +36,8 @@ counter c = c.unit
 abbrev pub any_count : EnqCount → EnqCount
 any_count c = record { value = c.value; unit = 0; count = c.count }
 
--- what an open unit has: what it did to recoverable files and queues, in its order, its update reads,
--- and its counts
+-- what an open unit has: its commands on recoverable files and queues that were answered NORMAL, in
+-- their order, its update reads and its counts
 pub record Own : Type 0 where
   pub ops : List Op
   pub reads : List UpdateRead
@@ -63,7 +62,7 @@ own m label = own_by m.units (unit_of m label)
 abbrev pub unnumbered : Task → Task
 unnumbered t = record t { unit = option_map (λ u. 0) t.unit }
 
--- the outcomes if of the open units those of these labels are backed out
+-- the outcomes if the open units of the tasks with these labels are backed out
 abbrev pub ending : Machine → (Bytes → Bool) → Outcomes
 ending m gone = λ u.
     if is_open (outcome_of m.units.outcomes u) && gone (label_of m.tasks u) then BackedOut
@@ -73,9 +72,9 @@ ending m gone = λ u.
 abbrev pub store_if : Machine → (Bytes → Bool) → Store
 store_if m gone = store_by m.units.opening (ending m gone) m.units.trace
 
--- The regions are alike: their tasks but for the numbers of units, what the units of the same tasks
--- have, the waits, the clock, the NEXT cursors, and the files and queues, whichever tasks' units are
--- backed out.
+-- The regions are alike: in their openings, tasks, NEXT cursors, waits, clock and shutdown, but not
+-- in the numbers of units. The units of the same tasks have the same. Files and queues hold the
+-- same, whichever tasks' units are backed out.
 pub record AreAlike (m n : Machine) : Type 0 where
   pub opening : m.units.opening ≡ n.units.opening
   pub tasks : map unnumbered m.tasks ≡ map unnumbered n.tasks
@@ -101,7 +100,8 @@ is_earlier r x = nat_lt r.unit x.unit
 abbrev pub is_lower : EnqCount → EnqCount → Bool
 is_lower c d = is_below c.value d.value
 
--- open units are kept apart, those that committed are in their order, and so are the rows
+-- what was loaded is in order, open units are kept apart, and those that committed are in their
+-- order; so are the rows
 pub record AreUnitsSteady (s : UnitsState) : Type 0 where
   pub canonical : IsCanonical (initial_store s.opening)
   pub sound : IsSound s
@@ -109,7 +109,7 @@ pub record AreUnitsSteady (s : UnitsState) : Type 0 where
   pub reads : AreRising is_earlier s.reads
   pub counts : AreRising is_lower s.counts
 
--- the units are steady, and each open unit is that of one task
+-- the units are steady, and each open unit is that of one task, whatever commands wait
 pub record IsSteady (m : Machine) : Type 0 where
   pub units : AreUnitsSteady m.units
   pub tasks : AreTasksKept (with_waiting m [])

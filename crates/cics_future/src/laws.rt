@@ -16,10 +16,10 @@ ghost use Rattle.cics_machine.specs.Blockers.{waiting_command, blocker_of};
 ghost use Rattle.cics_future.specs.Futures.{IsSteady, HaveSameFuture, AreSameSteps, unnumbered};
 ghost use Rattle.cics_future.specs.Compared.{LookAlike};
 
-/// In two regions that have the same future each event answers the same, and leaves regions that
-/// have the same future.
+/// In two regions that have the same future each event is answered the same, and leaves regions
+/// that have the same future.
 ///
-/// - `begins`: a region has its own future when it begins.
+/// - `begins`: a region that begins is steady, and has the same future as itself.
 /// - `attaches`, `issues`, `sets`, `shuts`: the events that a caller makes, each refused once the
 ///   region is shut down.
 /// - `wakes`, `expires`: the steps that a region takes by itself.
@@ -43,7 +43,8 @@ pub fn events_keep_the_future()
 ///
 /// - `stores`: files and queues hold the same.
 /// - `tasks`: the tasks are the same but for the numbers of their units.
-/// - `waits`: the same commands wait, and each for the same task.
+/// - `waits`: the same commands wait.
+/// - `blockers`: each waits for the same task.
 pub fn futures_tell_the_same()
     ensures stores { (m n : Machine) → HaveSameFuture m n → store_of m.units ≡ store_of n.units }
     ensures tasks { (m n : Machine) → HaveSameFuture m n →
@@ -58,7 +59,7 @@ pub fn futures_tell_the_same()
 ///
 /// - `alike`: no before image is compared. Each ending of the open units is what those that
 ///   committed left, and behind it what the units that it keeps did, one unit after the other.
-/// - `itself`: a region has its own future.
+/// - `itself`: a steady region has the same future as itself.
 pub fn looks_tell_the_future()
     ensures alike { (m n : Machine) → IsSteady m → IsSteady n → LookAlike m n →
         HaveSameFuture m n }

@@ -340,9 +340,9 @@ impl Op {
 impl Entry {
     /// Returns the entry of a command and its answer. It takes no memory: a record moves in.
     ///
-    /// A key beside a record must lie in it, and has at most 255 bytes. Only READ UPDATE and READQ TD may be answered with a
-    /// record. WRITE, REWRITE and READ UPDATE may be answered with no number, and a rewrite of an
-    /// item with none but the item's.
+    /// A key or a prefix has at most 255 bytes. A key beside a record must lie in it. Only READ
+    /// UPDATE and READQ TD may be answered with a record. WRITE, REWRITE and READ UPDATE may be
+    /// answered with no number, and a rewrite of an item with none but the item's.
     ///
     /// Cost: O(k * p), for a key of k bytes behind p bytes of its record.
     pub fn pack(alloc: Global, unit: UnitId, op: Op, answer: Answer) -> Entry

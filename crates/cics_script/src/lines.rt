@@ -74,9 +74,12 @@ fn recovery_of(found: &[Found<'_>]) -> Option<bool>
     ensures { result ≡ recovery_in (entries found.now) }
 {
     if has_option(found, OptionWord::Recoverable) {
-        return Some(true);
+        Some(true)
+    } else if has_option(found, OptionWord::Unrecoverable) {
+        Some(false)
+    } else {
+        None
     }
-    has_option(found, OptionWord::Unrecoverable).then_some(false)
 }
 
 // Returns how far a transient data queue's changes are undone, if the line says it.
@@ -84,12 +87,14 @@ fn queue_recovery_of(found: &[Found<'_>]) -> Option<Recovery>
     ensures { result ≡ queue_recovery_in (entries found.now) }
 {
     if has_option(found, OptionWord::Logical) {
-        return Some(Recovery::Logical);
+        Some(Recovery::Logical)
+    } else if has_option(found, OptionWord::Physical) {
+        Some(Recovery::Physical)
+    } else if has_option(found, OptionWord::Unrecovered) {
+        Some(Recovery::Unrecovered)
+    } else {
+        None
     }
-    if has_option(found, OptionWord::Physical) {
-        return Some(Recovery::Physical);
-    }
-    has_option(found, OptionWord::Unrecovered).then_some(Recovery::Unrecovered)
 }
 
 // Returns what a DEFINE line defines, if its options are all that it needs.
@@ -115,7 +120,7 @@ fn definition_of(object: DefineObject, found: &[Found<'_>]) -> Option<Line>
     })
 }
 
-// Returns what a LOAD line loads, from its options.
+// Returns what a LOAD line loads, from its options. Errors: `MissingOption`, `NoMemory`.
 fn load_of(alloc: Global, object: LoadObject, found: &[Found<'_>]) -> Result<Line, LineFault>
     ensures { Reads (load_in object (entries found.now)) result }
 {

@@ -302,7 +302,7 @@ pub fn skip_one_blank(bytes: &[u8]) -> &[u8]
 }
 
 // Returns the next option and the line after its word, or `None` at the line's end. `last` is what
-// the option before it takes, `None` if there is none. Every option of a line passes through it.
+// the option before it takes, `None` if there is none. Inlined: each option passes through it.
 #[inline(always)]
 fn next_option(last: Option<Kind>, bytes: &[u8]) -> Result<Option<(OptionWord, &[u8])>, LineFault>
     ensures none { IfOk result (λ found.

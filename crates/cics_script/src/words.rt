@@ -298,9 +298,12 @@ pub fn queue_command(verb: CommandWord, word: &[u8]) -> Option<CommandWord>
 {
     let of_td = td_command(verb)?;
     if is_spelled(word, b"TS") {
-        return Some(verb);
+        Some(verb)
+    } else if is_spelled(word, b"TD") {
+        Some(of_td)
+    } else {
+        None
     }
-    is_spelled(word, b"TD").then_some(of_td)
 }
 
 /// Returns the command of a verb and TD, or `None` if the verb takes neither TS nor TD. With TS the

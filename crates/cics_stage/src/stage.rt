@@ -310,7 +310,7 @@ fn issue(
     ensures { Happens (command_issued region.old.machine label command) region.new out.old.items
         out.new.items result }
 {
-    // The outcome is dropped here, before the function may end.
+    // Drops the outcome at this statement, once for both ways out.
     let told = tell_issued(label, &region.issue(label, command), out);
     told?;
     go_on(region, out)

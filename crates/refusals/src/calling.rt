@@ -35,7 +35,7 @@ fn delete(alloc: Global) -> Option<Command> {
     })
 }
 
-// Issues a command of a task.
+// Issues a command of a task, and drops its outcome.
 fn issue(region: &mut Region, label: Name8, command: Command) -> Option<()> {
     region.issue(label, command).ok()?;
     Some(())

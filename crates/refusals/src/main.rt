@@ -1,5 +1,5 @@
-//! Runs over bytes in memory, each read and write of which fails in turn (`trials`). Then scripts on
-//! units of work and on regions, each event of which is refused memory.
+//! Tries runs over bytes in memory: each read and each write fails in turn (`trials`). Then tries
+//! scripts on units of work and on regions: each event is refused memory.
 //!
 //! The scripts come from standard input, with a blank line between them; the first text stands
 //! before each of them (`scripts`). Where `tools/refuse_memory` is loaded, each request of each
@@ -7,8 +7,9 @@
 //! stays refused, and the open units of work are ended. With ample memory a script runs alone and
 //! among 300 more of everything, and no request is refused.
 //!
-//! Prints what came of each run, and what stands at the end of each script. The exit status is 0 if
-//! each script came out as it has to, and 1 otherwise, with the line on standard error.
+//! Prints the result of each run, and what stands at the end of each script. If a script comes out
+//! otherwise than it has to, the exit status is 1, and standard error has the line. If a run does,
+//! the output says so, and the status stays 0.
 #![tactic(auto)]
 
 mod calling;
@@ -110,7 +111,7 @@ fn run_each(rt: &HostRuntime, texts: [&str; 2]) -> Result<(), ExitCode> {
     Ok(())
 }
 
-// Makes the runs in memory, and runs the scripts of a text, each behind its first text.
+// Tries the runs in memory, and then the scripts of a text, each behind its first text.
 fn run_text(rt: &HostRuntime, text: &str) -> Result<(), ExitCode> {
     if try_all(rt).is_err() {
         return Err(ExitCode::FAILURE);

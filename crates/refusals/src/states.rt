@@ -6,7 +6,7 @@ use cics_names::NoMemory;
 use cics_spelling::{push_number, push_str, push_text};
 use cics_units::{Entry, Listing, Op, UnitState, Units};
 
-/// Puts a listing at the end, unless there was no memory for it.
+/// Appends a listing. It takes the result of the call: so the caller drops no listing.
 pub(crate) fn push_listed(
     out: &mut Vec<u8>,
     listing: Result<Listing, NoMemory>,

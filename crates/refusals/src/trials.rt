@@ -1,5 +1,5 @@
-//! Runs of scripts over bytes in memory, with each answer of a run but `NoMemory`. Each read and each
-//! write fails in turn. A region is called without a script too.
+//! Runs scripts over bytes in memory, with each answer of a run but `NoMemory`. Lets each read and
+//! each write fail in turn. Calls a region without a script too.
 
 ghost use Rattle.std.specs.Prelude.{◌≡◌};
 
@@ -243,7 +243,7 @@ fn try_long_script(rt: &HostRuntime) -> io::Result<()> {
     try_script(rt, shows, (&lines, CHUNK), ("InputTooLong", &[]))
 }
 
-/// Makes the runs and the calls, and prints what came of each.
+/// Runs the scripts, calls a region, and prints each result.
 pub(crate) fn try_all(rt: &HostRuntime) -> io::Result<()> {
     try_reader(rt, "a listing", (SCRIPT, false), LISTED)?;
     try_reader(rt, "a replay", (SCRIPT, true), REPLAYED)?;
