@@ -57,8 +57,8 @@ pub fn futures_tell_the_same()
 
 /// Two regions that look alike have the same future.
 ///
-/// - `alike`: no before image is compared. Each ending of the open units is what those that
-///   committed left, and behind it what the units that it keeps did, one unit after the other.
+/// - `alike`: no before image is compared. Each ending is what the committed units left, and
+///   behind it what the units that it keeps did, one after the other.
 /// - `itself`: a steady region has the same future as itself.
 pub fn looks_tell_the_future()
     ensures alike { (m n : Machine) → IsSteady m → IsSteady n → LookAlike m n →

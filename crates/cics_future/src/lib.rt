@@ -1,8 +1,8 @@
 //! Regions that have the same future.
 //!
-//! `specs/Futures` says when two regions are alike, whatever the numbers of their units are and
-//! however their files and queues came to hold what they hold. The laws say that each event then
-//! answers the same in both, and leaves regions that are alike again. Nothing is computed here.
+//! `specs/Futures` says when two regions are alike, whatever the numbers of their units and their
+//! histories are. The laws say that each event is then answered the same in both, and leaves
+//! regions that are alike again. Nothing is computed here.
 #![tactic(auto)]
 
 mod laws;
