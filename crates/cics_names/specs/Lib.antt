@@ -7,3 +7,4 @@ pub mod Keyed
 pub mod KeyedLaws
 pub mod RisingLaws
 pub mod Records
+pub mod Stamps
