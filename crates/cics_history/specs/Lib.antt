@@ -19,3 +19,4 @@ pub mod Ends
 pub mod InPlace
 pub mod Records
 pub mod Packed
+pub mod Stamps
