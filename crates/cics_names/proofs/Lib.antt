@@ -1,3 +1,5 @@
 mod Filled
 mod Rows
 mod EbcdicTables
+pub mod Stamps
+pub mod Each
