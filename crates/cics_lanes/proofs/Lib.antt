@@ -1,7 +1,2 @@
-pub mod Branching
-pub mod Followed
-pub mod Fronts
 pub mod Givers
 pub mod Parts
-mod Rows
-pub mod Telling

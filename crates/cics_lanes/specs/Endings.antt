@@ -1,5 +1,5 @@
 -- The endings that runs lead to: each once, with the first run that leads to it and how many do.
-use Rattle.std.specs.Prelude.{ℕ, suc, ◌+◌, Bool, not, ◌&&◌, min, if◌then◌else◌, List, [], ◌∷◌, map, filter, Option, Some, None, option_map}
+use Rattle.std.specs.Prelude.{ℕ, ◌+◌, Bool, not, ◌&&◌, min, max, if◌then◌else◌, List, [], ◌∷◌, ◌++◌, map, filter}
 use Rattle.std.specs.List.{count_by}
 use Rattle.std.specs.Str.{bytes_eq}
 use Rattle.std.specs.Cmp.Lexicographic.{pointwise}
@@ -33,9 +33,9 @@ abbrev pub firsts : List Run → List Run
 firsts [] = []
 firsts (r ∷ rs) = r ∷ filter (λ s. not (are_same s.ending r.ending)) (firsts rs)
 
--- a number as it is kept: no more than 2^64 - 1
+-- a number as it is kept: no more than 2^128 - 1
 abbrev pub kept_number : ℕ → ℕ
-kept_number n = min n 18446744073709551615
+kept_number n = min n 340282366920938463463374607431768211455
 
 -- the ending of a run as it is reported, counted over all runs
 abbrev pub reported : List Run → Run → Reported
@@ -54,20 +54,17 @@ report rs = map (reported rs) (firsts rs)
 abbrev pub run_to : {S : Type 0} → (S → Parts) → (S → Bool) → Order → S → Run
 run_to ending serial o s = record { order = o; ending = ending s; is_serial = serial s }
 
--- an ending for which one more run is counted
-abbrev pub counted : Reported → Bool → Reported
-counted f is_serial = record f { orders = kept_number (f.orders + 1); serial = if is_serial then kept_number (f.serial + 1) else f.serial }
+-- the ending of a run as it is reported, if serial runs are counted by themselves: each of them is
+-- one more that leads there, unless the others count more
+abbrev pub joined_of : List Run → List Run → Run → Reported
+joined_of rs ss r = record {
+  order = r.order;
+  ending = r.ending;
+  orders = max (kept_number (count_by (λ s. are_same s.ending r.ending) rs)) (kept_number (count_by (λ s. are_same s.ending r.ending) ss));
+  serial = kept_number (count_by (λ s. are_same s.ending r.ending) ss);
+}
 
--- the ending of the first run that leads to it
-abbrev pub first_run : Run → Reported
-first_run r = record { order = r.order; ending = r.ending; orders = 1; serial = if r.is_serial then 1 else 0 }
-
--- the index of the ending that has these parts, if there is one
-abbrev pub place_of : List Reported → Parts → Option ℕ
-place_of [] ps = None
-place_of (f ∷ fs) ps = if are_same f.ending ps then Some 0 else option_map suc (place_of fs ps)
-
--- endings after one more run, which is counted for its ending or adds it
-abbrev pub told : List Reported → Run → List Reported
-told [] r = first_run r ∷ []
-told (f ∷ fs) r = if are_same f.ending r.ending then counted f r.is_serial ∷ fs else f ∷ told fs r
+-- the endings of runs and of serial runs: each once, in the order of the first runs that lead to
+-- them, of which the serial ones come last
+abbrev pub joined : List Run → List Run → List Reported
+joined rs ss = map (joined_of rs ss) (firsts (rs ++ ss))

@@ -1,7 +1,6 @@
--- The orders in which lanes may give their lines: all of them, and those from one of them on.
-use Rattle.std.specs.Prelude.{◌≡◌, ◌≤◌, ◌<◌, length, ℕ, zero, suc, List, [], ◌∷◌, ◌++◌, map, take, drop, Bool, if◌then◌else◌, Option, Some, None}
+-- The orders in which lanes may give their lines.
+use Rattle.std.specs.Prelude.{◌≡◌, ◌≤◌, ◌⊎◌, ℕ, zero, suc, List, [], ◌∷◌, map, drop, Bool, true, if◌then◌else◌, Option, Some, None}
 use Rattle.std.specs.List.{flat_map}
-use Rattle.cics_lanes.specs.declared.exploring.Branch.{Branch}
 
 -- an order: for each line that is given, the lane that gives it
 abbrev pub Order : Type 0
@@ -38,48 +37,24 @@ abbrev pub orders : {S : Type 0} → Lanes S → ℕ → S → List Order
 orders lanes zero s = [] ∷ []
 orders lanes (suc n) s = led_by_any (λ l. orders lanes n (lanes.given s l)) (lanes.givers s 0)
 
--- the orders that begin with a lane after this one
-abbrev pub led_after : {S : Type 0} → Lanes S → ℕ → S → ℕ → List Order
-led_after lanes n s l = led_by (λ l. orders lanes n (lanes.given s l)) (lanes.givers s (suc l))
+-- one of these lanes
+abbrev pub IsOneOf : ℕ → List ℕ → Type 0
+IsOneOf l [] = ⊥
+IsOneOf l (k ∷ ks) = (l ≡ k) ⊎ IsOneOf l ks
 
--- the orders from the first one that begins with these lanes
-abbrev pub orders_from : {S : Type 0} → Lanes S → ℕ → S → Order → List Order
-orders_from lanes n s [] = orders lanes n s
-orders_from lanes zero s (l ∷ o) = []
-orders_from lanes (suc n) s (l ∷ o) = map (λ p. l ∷ p) (orders_from lanes n (lanes.given s l) o) ++ led_after lanes n s l
+-- each lane of these may give in its turn
+abbrev pub IsWay : {S : Type 0} → Lanes S → S → Order → Type 0
+IsWay lanes s [] = Unit {0}
+IsWay lanes s (l ∷ o) = IsOneOf l (lanes.givers s 0) × IsWay lanes (lanes.given s l) o
 
--- the orders after those that begin with these lanes
-abbrev pub orders_after : {S : Type 0} → Lanes S → ℕ → S → Order → List Order
-orders_after lanes n s [] = []
-orders_after lanes zero s (l ∷ o) = []
-orders_after lanes (suc n) s (l ∷ o) = map (λ p. l ∷ p) (orders_after lanes n (lanes.given s l) o) ++ led_after lanes n s l
-
--- how the next order begins: with this one's lanes up to a depth, and then another lane
-abbrev pub branched : Order → Branch → Order
-branched o b = take b.depth o ++ b.lane ∷ []
-
--- where the next order branches off: the orders after this one are those from there on. None: it is
--- the last
-abbrev pub BranchesAt : {S : Type 0} → Lanes S → ℕ → S → Order → Option Branch → Type 0
-BranchesAt lanes n s o None = orders_after lanes n s o ≡ []
-BranchesAt lanes n s o (Some b) = (b.depth < length o) × (orders_after lanes n s o ≡ orders_from lanes n s (branched o b))
-
--- The lanes `begun` have led to the lanes `o`, which may lead on: the orders from `begun` on are
--- those from `o` on. `now` is the state after `o`, and `branch` says where the next order branches
--- off.
-pub record Reaches {S : Type 0} (lanes : Lanes S) (n : ℕ) (s : S) (begun : Order) (now : S) (o : Order) (branch : Option Branch) : Type 0 where
-  pub state : now ≡ after lanes s o
-  pub same : orders_from lanes n s begun ≡ orders_from lanes n s o
-  pub short : length o ≤ n
-  pub branches : BranchesAt lanes n s o branch
-
--- The lanes `begun` have led to the whole order `o`: it is the first one that begins with them.
--- `now` and `branch` are as above.
-pub record IsFollowed {S : Type 0} (lanes : Lanes S) (n : ℕ) (s : S) (begun : Order) (now : S) (o : Order) (branch : Option Branch) : Type 0 where
-  pub state : now ≡ after lanes s o
-  pub first : orders_from lanes n s begun ≡ o ∷ orders_after lanes n s o
-  pub short : length o ≤ n
-  pub branches : BranchesAt lanes n s o branch
+-- Two states of one stamp: the same lanes may give, which lead to states of one stamp again, and
+-- the states end in the same parts. If the stamp tells serial orders (`b`), the same lanes break
+-- them.
+pub record AreStampedAlike {S : Type 0} (lanes : Lanes S) (ending : S → List (List ℕ)) (breaks : S → ℕ → Bool) (stamp : S → List ℕ) (b : Bool) (x y : S) : Type 0 where
+  pub givers : lanes.givers x 0 ≡ lanes.givers y 0
+  pub next : (l : ℕ) → IsOneOf l (lanes.givers x 0) → stamp (lanes.given x l) ≡ stamp (lanes.given y l)
+  pub ends : ending x ≡ ending y
+  pub broken : b ≡ true → (l : ℕ) → IsOneOf l (lanes.givers x 0) → breaks x l ≡ breaks y l
 
 -- the numbers of the lanes that may give; the first lane of the list has the number `l`
 abbrev pub numbered : {X : Type 0} → (X → Bool) → ℕ → List X → List ℕ
@@ -94,3 +69,8 @@ numbered_from may xs from = numbered may from (drop from xs)
 abbrev pub IsFirst : Option ℕ → List ℕ → Type 0
 IsFirst None ls = ls ≡ []
 IsFirst (Some l) ls = (more : List ℕ) × (ls ≡ l ∷ more)
+
+-- some of these, in the same order
+abbrev pub AreAmong : {X : Type 0} → List X → List X → Type 0
+AreAmong xs [] = xs ≡ []
+AreAmong {X} xs (y ∷ ys) = AreAmong xs ys ⊎ ((more : List X) × (xs ≡ y ∷ more) × AreAmong more ys)

@@ -1,9 +1,14 @@
-//! Gathers the endings that runs lead to, each once.
+//! Gathers the endings that orders lead to, each once.
 
-ghost use Rattle.std.specs.Prelude.{◌≡◌, OnOk};
-ghost use Rattle.cics_lanes.specs.Endings.{are_same, counted, first_run, place_of, told};
+ghost use Rattle.std.specs.Prelude.{◌≡◌, map, IfOk};
+ghost use Rattle.cics_lanes.specs.Endings.{are_same};
+ghost use Rattle.cics_lanes.specs.Tallies.{tally_joined, ending_of};
 
+use crate::groups::Join;
 use cics_names::{Items, NoMemory, Record};
+use indexmap::IndexMap;
+use std::alloc::Global;
+use std::hash::{Hash, Hasher};
 use std::marker::Model;
 
 /// An ending, with its first order and how many orders lead to it.
@@ -11,8 +16,8 @@ use std::marker::Model;
 pub struct Ending {
     order: Items<usize>,
     parts: Items<Record>,
-    orders: u64,
-    serial: u64,
+    orders: u128,
+    serial: u128,
 }
 
 impl Model for Ending {
@@ -43,39 +48,87 @@ impl Ending {
         self.parts.as_slice()
     }
 
-    /// Returns how many orders lead to it; `u64::MAX` is that many or more.
-    pub fn orders(&self) -> u64
+    /// Returns how many orders lead to it; `u128::MAX` is that many or more.
+    pub fn orders(&self) -> u128
         ensures { result ≡ self.now.orders }
     {
         self.orders
     }
 
-    /// Returns how many serial orders lead to it; `u64::MAX` is that many or more.
-    pub fn serial(&self) -> u64
+    /// Returns how many serial orders lead to it; `u128::MAX` is that many or more.
+    pub fn serial(&self) -> u128
         ensures { result ≡ self.now.serial }
     {
         self.serial
     }
 
-    // Returns the ending of the first run that leads to it.
-    fn new(run: Run) -> Ending
-        ensures { result ≡ first_run run }
+    // Returns the ending that has these parts and this tally.
+    fn new(parts: Parts, tally: Tally) -> Ending
+        ensures { result ≡ ending_of (parts, tally) }
     {
         Ending {
-            order: run.order,
-            parts: run.parts,
-            orders: 1,
-            serial: u64::from(run.is_serial),
+            order: tally.order,
+            parts: parts.parts,
+            orders: tally.orders.max(tally.serial),
+            serial: tally.serial,
         }
     }
+}
 
-    // Counts one more order that leads to it.
-    fn count(&mut self, is_serial: bool)
-        ensures { self.new ≡ counted self.old is_serial }
+/// The parts in which an ending is told.
+#[derive(Drop)]
+pub(crate) struct Parts {
+    parts: Items<Record>,
+}
+
+impl Model for Parts {
+    ghost use Rattle.std.specs.Prelude.{ℕ, List};
+
+    ghost Value = { List (List ℕ) };
+
+    ghost view = { λ p. p.parts };
+}
+
+impl Parts {
+    /// Returns these parts.
+    pub(crate) fn new(parts: Items<Record>) -> Parts
+        ensures { result ≡ parts }
     {
-        self.orders = self.orders.saturating_add(1);
-        if is_serial {
-            self.serial = self.serial.saturating_add(1);
+        Parts { parts }
+    }
+}
+
+impl PartialEq for Parts {
+    ghost use Rattle.cics_lanes.specs.Endings.{are_same};
+    ghost use Rattle.std.proofs.Common.{rules};
+    ghost use Rattle.std.specs.Cmp.Rules.{comparing};
+
+    ghost eq = { are_same };
+
+    ghost laws = { Prim.search (comparing, rules) };
+
+    fn eq(&self, other: &Parts) -> bool {
+        are_same(self.parts.as_slice(), other.parts.as_slice())
+    }
+}
+
+impl Eq for Parts {
+    ghost use Rattle.std.proofs.Common.{rules};
+    ghost use Rattle.std.specs.Cmp.Rules.{comparing};
+
+    ghost laws = { Prim.search (comparing, rules) };
+}
+
+impl Hash for Parts {
+    ghost use Rattle.cics_lanes.specs.EndingLaws.{same_parts};
+
+    ghost hash_input = { λ p. p };
+
+    ghost respects_eq = { same_parts };
+
+    fn hash<H: Hasher>(&self, state: &mut H) {
+        for part in self.parts.as_slice() {
+            state.write(part.bytes());
         }
     }
 }
@@ -95,50 +148,34 @@ fn are_same(parts: &[Record], others: &[Record]) -> bool
     true
 }
 
-/// A run: an order, the parts of the ending that it leads to, and whether it is serial.
+/// The orders that lead to an ending: the first, how many were followed, and how many serial ones,
+/// which are followed by themselves. `u128::MAX` is that many or more.
 #[derive(Drop)]
-pub(crate) struct Run {
+pub(crate) struct Tally {
     pub(crate) order: Items<usize>,
-    pub(crate) parts: Items<Record>,
-    pub(crate) is_serial: bool,
+    pub(crate) orders: u128,
+    pub(crate) serial: u128,
 }
 
-impl Model for Run {
-    ghost use Rattle.cics_lanes.specs.Endings.{Run as RunValue};
+impl Join for Tally {
+    ghost joined = { tally_joined };
 
-    ghost Value = { RunValue };
-
-    ghost view = { λ r. record {
-      order = r.order;
-      ending = r.parts;
-      is_serial = r.is_serial;
-    } };
-}
-
-// Returns the index of the ending that has these parts, if there is one.
-fn find(endings: &[Ending], parts: &[Record]) -> Option<usize>
-    ensures { result ≡ place_of endings.now parts.now }
-{
-    for i in 0..endings.len() {
-        if are_same(endings[i].parts(), parts) {
-            return Some(i);
-        }
+    fn join(&mut self, other: Tally) {
+        self.orders = self.orders.saturating_add(other.orders);
+        self.serial = self.serial.saturating_add(other.serial);
     }
-    None
 }
 
-/// Counts one more run for its ending, or adds the ending. Errors: `NoMemory`. Cost: O(endings).
-pub(crate) fn tell(endings: &mut Vec<Ending>, run: Run) -> Result<(), NoMemory>
-    ensures { OnOk result (endings.new.items ≡ told endings.old.items run) }
+/// The endings that were met, by their parts.
+pub(crate) type Met = IndexMap<Parts, Tally>;
+
+/// Returns the endings that were met, in their order. Errors: `NoMemory`.
+pub(crate) fn endings_of(alloc: Global, met: Met) -> Result<Items<Ending>, NoMemory>
+    ensures { IfOk result (λ endings. endings ≡ map ending_of met.entries) }
 {
-    match find(endings.as_slice(), run.parts.as_slice()) {
-        Some(at) => {
-            endings[at].count(run.is_serial);
-            Ok(())
-        }
-        None => {
-            endings.push(Ending::new(run))?;
-            Ok(())
-        }
+    let mut endings = Items::new(alloc);
+    for (parts, tally) in met {
+        endings.push(Ending::new(parts, tally))?;
     }
+    Ok(endings)
 }

@@ -1,148 +1,169 @@
-//! Follows every order, one after the other.
+//! Follows orders level by level, and counts those that lead to each ending.
 
-ghost use Rattle.std.specs.Prelude.{◌≡◌, ◌≤◌, ◌<◌, ℕ, [], ◌∷◌, ◌++◌, IfOk, length};
-ghost use Rattle.cics_lanes.specs.Orders.{Order, BranchesAt, Reaches, IsFollowed, after, orders};
-ghost use Rattle.cics_lanes.specs.Endings.{run_to};
+ghost use Rattle.std.specs.Prelude.{◌≡◌, [], ◌∷◌, ◌++◌, true, false, List, IfOk, OnOk};
+ghost use Rattle.std.specs.List.{flat_map};
+ghost use Rattle.cics_lanes.specs.Groups.{added_all};
+ghost use Rattle.cics_lanes.specs.Levels.{entry, spread};
 ghost use Rattle.cics_lanes.specs.Reports.{IsReport};
+ghost use Rattle.std.specs.Str.{bytes_eq};
 
-use crate::endings::{Ending, Run, tell};
+use crate::endings::{Ending, Met, Parts, Tally, endings_of};
+use crate::groups::add;
+use crate::levels::{Led, Level, Stamp, entry, go_to};
 use crate::walks::Walk;
 use cics_names::{Items, NoMemory};
+use indexmap::IndexMap;
 use std::alloc::Global;
-
-/// Where the next order branches off: its first `depth` lanes are those of this one, and then
-/// `lane` gives.
-#[derive(Clone, Copy)]
-pub(crate) struct Branch {
-    pub(crate) depth: usize,
-    pub(crate) lane: usize,
-}
 
 /// The endings of the orders that were followed.
 #[derive(Drop)]
 pub struct Report {
-    /// The endings, in the order of their first orders.
+    /// The endings, in the order of their first orders. Behind them are those that only serial
+    /// orders met, if not all orders were followed.
     pub endings: Items<Ending>,
-    /// How many orders were followed.
-    pub orders: u64,
-    /// Whether these are all orders.
+    /// Whether all orders were followed.
     pub is_whole: bool,
+    /// Whether all serial orders were followed.
+    pub has_all_serial: bool,
 }
 
-// Returns where the next order branches off, if `lane` gives now. That is here if a later lane may
-// give instead, else `before`.
-fn branch_at<W: Walk>(walk: &W, depth: usize, lane: usize, before: Option<Branch>) -> Option<Branch>
-    ensures { (n : ℕ) (s : W) (o : Order) → walk.now ≡ after W.lanes s o → length o ≡ depth →
-        length o < n → BranchesAt W.lanes n s o before →
-        BranchesAt W.lanes n s (o ++ lane ∷ []) result }
+// A search: which orders it follows, and how many states.
+#[derive(Drop)]
+struct Search {
+    alloc: Global,
+    // Whether it follows serial orders alone.
+    is_serial: bool,
+    // How many states it follows, before it follows only some of each level.
+    limit: u64,
+    // How many of each level it follows then.
+    share: u64,
+    // How many it has followed.
+    followed: u64,
+    // Whether it has left out no state.
+    is_whole: bool,
+}
+
+// Returns whether the state of an index is followed, if `most` of `count` are: they are spread
+// evenly.
+fn is_kept(at: usize, most: u64, count: usize) -> bool {
+    let (at, most, count) = (at as u128, u128::from(most), (count as u128).max(1));
+    at * most / count != (at + 1) * most / count
+}
+
+// Returns an order with one lane more.
+fn with_lane(alloc: Global, order: &[usize], lane: usize) -> Result<Items<usize>, NoMemory>
+    ensures { IfOk result (λ longer. longer ≡ order.now ++ lane ∷ []) }
 {
-    match walk.giver_after(lane) {
-        Some(lane) => Some(Branch { depth, lane }),
-        None => before,
+    let mut longer = Items::new(alloc);
+    for i in 0..order.len() {
+        longer.push(order[i])?;
+    }
+    longer.push(lane)?;
+    Ok(longer)
+}
+
+impl Search {
+    // Returns a search that has followed nothing yet.
+    fn new(alloc: Global, is_serial: bool, limit: u64, lines: usize) -> Search {
+        Search {
+            alloc,
+            is_serial,
+            limit,
+            share: (limit / (lines as u64).max(1)).max(1),
+            followed: 0,
+            is_whole: true,
+        }
+    }
+
+    // Returns whether only some states are followed of a level that has so many.
+    fn is_over(&self, count: usize) -> bool {
+        self.followed.saturating_add(count as u64) > self.limit
+    }
+
+    // Follows the lanes of a state: adds the states that they lead to to the next level.
+    fn follow<W: Walk>(&self, walk: &mut W, led: &Led, next: &mut Level) -> Result<(), NoMemory> {
+        for i in 0..led.lanes.len() {
+            let lane = led.lanes.as_slice()[i];
+            go_to(walk, led.first.as_slice())?;
+            walk.give(lane)?;
+            let first = with_lane(self.alloc, led.first.as_slice(), lane)?;
+            let (stamp, mut reached) = entry(self.alloc, walk, self.is_serial, first)?;
+            reached.count = led.count;
+            add(next, stamp, reached)?;
+        }
+        Ok(())
+    }
+
+    // Follows the states of a level, or some of them. Returns the next level.
+    fn next<W: Walk>(&mut self, walk: &mut W, level: Level) -> Result<Level, NoMemory> {
+        let count = level.len();
+        let is_over = self.is_over(count);
+        let mut next = IndexMap::new(self.alloc);
+        let mut at = 0;
+        for (stamp, led) in level {
+            if led.has_ended {
+                add(&mut next, stamp, led)?;
+            } else if is_over && !is_kept(at, self.share, count) {
+                self.is_whole = false;
+            } else {
+                self.followed = self.followed.saturating_add(1);
+                self.follow(walk, &led, &mut next)?;
+            }
+            at += 1;
+        }
+        Ok(next)
+    }
+
+    // Follows the orders from the start of a walk. Returns the last level.
+    fn run<W: Walk>(&mut self, walk: &mut W, lines: usize) -> Result<Level, NoMemory> {
+        walk.restart()?;
+        let (stamp, led) = entry(self.alloc, walk, self.is_serial, Items::new(self.alloc))?;
+        let mut level = IndexMap::new(self.alloc);
+        add(&mut level, stamp, led)?;
+        for _ in 0..lines {
+            level = self.next(walk, level)?;
+        }
+        Ok(level)
+    }
+
+    // Counts the orders of a level for the endings that they lead to.
+    fn tell<W: Walk>(&self, walk: &mut W, level: Level, met: &mut Met) -> Result<(), NoMemory> {
+        for (_, led) in level {
+            go_to(walk, led.first.as_slice())?;
+            let parts = Parts::new(walk.parts()?);
+            let (orders, serial) = if self.is_serial {
+                (0, led.count)
+            } else {
+                (led.count, 0)
+            };
+            let tally = Tally {
+                order: led.first,
+                orders,
+                serial,
+            };
+            add(met, parts, tally)?;
+        }
+        Ok(())
     }
 }
 
-// Gives the lines of an order. Returns where the next order branches off.
-fn retrace<W: Walk>(walk: &mut W, order: &[usize]) -> Result<Option<Branch>, NoMemory>
-    ensures { IfOk result (λ branch. (n : ℕ) → length order.now ≤ n →
-        Reaches W.lanes n walk.old order.now walk.new order.now branch) }
-{
-    let mut branch = None;
-    for depth in 0..order.len() {
-        let lane = order[depth];
-        branch = branch_at(walk, depth, lane, branch);
-        walk.give(lane)?;
-    }
-    Ok(branch)
-}
-
-// Follows an order to its end, at most to `lines` lines: in each state the first lane that may give
-// does. Returns where the next order branches off.
-fn go_on<W: Walk>(
-    walk: &mut W,
-    lines: usize,
-    order: &mut Vec<usize>,
-    branch: Option<Branch>,
-) -> Result<Option<Branch>, NoMemory>
-    ensures { IfOk result (λ last. (s : W) (begun : Order) →
-        Reaches W.lanes lines s begun walk.old order.old.items branch →
-        IsFollowed W.lanes lines s begun walk.new order.new.items last) }
-{
-    let mut branch = branch;
-    for depth in order.len()..lines {
-        let Some(lane) = walk.first_giver() else {
-            break;
-        };
-        branch = branch_at(walk, depth, lane, branch);
-        order.push(lane)?;
-        walk.give(lane)?;
-    }
-    Ok(branch)
-}
-
-// Gives the lines of an order from the start, and follows it to its end. Returns where the next
-// order branches off.
-fn follow<W: Walk>(
-    walk: &mut W,
-    lines: usize,
-    order: &mut Vec<usize>,
-) -> Result<Option<Branch>, NoMemory>
-    ensures { IfOk result (λ branch. length order.old.items ≤ lines →
-        IsFollowed W.lanes lines (W.start walk.old) order.old.items walk.new order.new.items
-        branch) }
-{
-    walk.restart()?;
-    let branch = retrace(walk, order.as_slice())?;
-    go_on(walk, lines, order, branch)
-}
-
-// Returns the run of an order that was followed.
-fn run_to<W: Walk>(alloc: Global, walk: &W, order: &[usize]) -> Result<Run, NoMemory>
-    ensures { IfOk result (λ run. run ≡ run_to W.ending W.serial order.now walk.now) }
-{
-    let order = Vec::from_slice(alloc, order)?;
-    Ok(Run {
-        order: Items::from_vec(order),
-        parts: walk.parts()?,
-        is_serial: walk.is_serial(),
-    })
-}
-
-/// Follows the orders from the start of a walk, at most `limit` of them. Returns the endings that
-/// they lead to.
-///
-/// The first order has in each state the first lane that may give. The next one branches off as
-/// late as it can, to the next lane that may. Each ending stands once, with the first order that
-/// leads to it, and how many orders and serial orders do. Endings stand in the order of these first
-/// orders.
-///
-/// Errors: `NoMemory`.
-///
-/// Cost: O(orders * (lines + endings)).
+/// Follows the orders from the start of a walk. Returns the endings that they lead to.
 pub fn explore<W: Walk>(alloc: Global, walk: &mut W, limit: u64) -> Result<Report, NoMemory>
     ensures { IfOk result (λ report. IsReport W.lanes W.ending W.serial
-        (W.most (W.start walk.old)) limit (W.start walk.old) report) }
+        (W.most (W.start walk.old)) (W.start walk.old) report) }
 {
     walk.restart()?;
     let lines = walk.line_count();
-    let mut endings = Vec::new(alloc);
-    let mut order = Vec::new(alloc);
-    for told in 0..limit {
-        let branch = follow(walk, lines, &mut order)?;
-        tell(&mut endings, run_to(alloc, walk, order.as_slice())?)?;
-        let Some(branch) = branch else {
-            return Ok(Report {
-                endings: Items::from_vec(endings),
-                orders: told + 1,
-                is_whole: true,
-            });
-        };
-        order.truncate(branch.depth);
-        order.push(branch.lane)?;
-    }
+    let mut met = IndexMap::new(alloc);
+    let mut all = Search::new(alloc, false, limit, lines);
+    let level = all.run(walk, lines)?;
+    all.tell(walk, level, &mut met)?;
+    let mut serial = Search::new(alloc, true, limit, lines);
+    let level = serial.run(walk, lines)?;
+    serial.tell(walk, level, &mut met)?;
     Ok(Report {
-        endings: Items::from_vec(endings),
-        orders: limit,
-        is_whole: false,
+        endings: endings_of(alloc, met)?,
+        is_whole: all.is_whole,
+        has_all_serial: serial.is_whole,
     })
 }

@@ -1,7 +1,9 @@
 //! What `explore` walks along an order.
 
-ghost use Rattle.std.specs.Prelude.{◌≡◌, ℕ, suc, Bool, [], All, IfOk, OnOk};
-ghost use Rattle.cics_lanes.specs.Orders.{Lanes, IsFirst, IsOrdered, after, orders};
+ghost use Rattle.std.specs.Prelude.{◌≡◌, ℕ, suc, Bool, true, false, [], ◌++◌, List, All};
+ghost use Rattle.std.specs.Prelude.{IfOk, OnOk};
+ghost use Rattle.cics_lanes.specs.Orders.{Order, Lanes, IsFirst, IsOrdered, IsOneOf, IsWay};
+ghost use Rattle.cics_lanes.specs.Orders.{AreStampedAlike, after, orders};
 ghost use Rattle.cics_lanes.specs.Endings.{Parts};
 
 use cics_names::{Items, NoMemory, Record};
@@ -21,6 +23,12 @@ pub trait Walk {
     /// Whether the order that led to a state is serial.
     ghost serial: { Self → Bool };
 
+    /// Whether a lane that may give must not, if the order is to become a serial one.
+    ghost breaks: { Self → ℕ → Bool };
+
+    /// The stamp of a state: states of one stamp go on alike. If true, serial orders do too.
+    ghost stamp: { Bool → Self → List ℕ };
+
     /// The most lines of an order.
     ghost most: { Self → ℕ };
 
@@ -36,6 +44,31 @@ pub trait Walk {
 
     /// The start of the start is itself.
     ghost start_is_start: { (s : Self) → start (start s) ≡ start s };
+
+    /// Two ways from the start that lead to states of one stamp go on alike.
+    ghost stamps_tell: { (b : Bool) (s : Self) (o p : Order) →
+        IsWay lanes (start s) o → IsWay lanes (start s) p →
+        stamp b (after lanes (start s) o) ≡ stamp b (after lanes (start s) p) →
+        AreStampedAlike lanes ending breaks (stamp b) b
+        (after lanes (start s) o) (after lanes (start s) p) };
+
+    /// The empty order is serial.
+    ghost serial_starts: { (s : Self) → serial (start s) ≡ true };
+
+    /// A lane that doesn't break it leaves an order serial or not.
+    ghost keeps_serial: { (s : Self) (o : Order) (l : ℕ) → IsWay lanes (start s) o →
+        IsOneOf l (lanes.givers (after lanes (start s) o) 0) →
+        breaks (after lanes (start s) o) l ≡ false →
+        serial (lanes.given (after lanes (start s) o) l) ≡ serial (after lanes (start s) o) };
+
+    /// After a lane that breaks it no order that ends is serial.
+    ghost breaks_serial: { (s : Self) (o : Order) (l : ℕ) (q : Order) →
+        IsWay lanes (start s) o →
+        IsOneOf l (lanes.givers (after lanes (start s) o) 0) →
+        breaks (after lanes (start s) o) l ≡ true →
+        IsWay lanes (lanes.given (after lanes (start s) o) l) q →
+        lanes.givers (after lanes (lanes.given (after lanes (start s) o) l) q) 0 ≡ [] →
+        serial (after lanes (lanes.given (after lanes (start s) o) l) q) ≡ false };
 
     /// Goes back to the start.
     fn restart(&mut self) -> Result<(), NoMemory>
@@ -61,7 +94,11 @@ pub trait Walk {
     fn parts(&self) -> Result<Items<Record>, NoMemory>
         ensures { IfOk result (λ parts. parts ≡ ending self.now) };
 
-    /// Returns whether the order so far is serial.
-    fn is_serial(&self) -> bool
-        ensures { result ≡ serial self.now };
+    /// Returns whether a lane that may give must not, if the order is to become a serial one.
+    fn breaks_serial(&self, lane: usize) -> bool
+        ensures { result ≡ breaks self.now lane };
+
+    /// Appends the stamp of this state to `out`. If `with_serial`, it tells serial orders.
+    fn stamp(&self, with_serial: bool, out: &mut Vec<u8>) -> Result<(), NoMemory>
+        ensures { OnOk result (out.new.items ≡ out.old.items ++ stamp with_serial self.now) };
 }

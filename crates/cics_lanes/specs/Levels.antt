@@ -1,0 +1,44 @@
+-- The levels of a search: the states after orders of so many lines, states of one stamp once.
+use Rattle.std.specs.Prelude.{◌≡◌, ℕ, zero, suc, ◌+◌, Bool, true, false, not, if◌then◌else◌, List, [], ◌∷◌, ◌++◌, map, filter}
+use Rattle.cics_names.specs.Keyed.{Bytes}
+use Rattle.cics_lanes.specs.Orders.{Order, Lanes, after, led_by, AreAmong}
+use Rattle.cics_lanes.specs.Endings.{Parts, kept_number}
+use Rattle.cics_lanes.specs.Groups.{added_all}
+use Rattle.std.specs.Str.{bytes_eq}
+use Rattle.cics_lanes.specs.declared.levels.Led.{Led}
+
+-- no lane is left
+abbrev pub is_none_left : List ℕ → Bool
+is_none_left [] = true
+is_none_left (l ∷ ls) = false
+
+-- orders that lead to one stamp, and more of them
+abbrev pub led_joined : Led → Led → Led
+led_joined l m = record l { count = kept_number (l.count + m.count) }
+
+-- the lanes that are followed from a state: those that may give, or of them only those that don't
+-- break a serial order
+abbrev pub lanes_of : {S : Type 0} → Lanes S → (S → ℕ → Bool) → Bool → S → List ℕ
+lanes_of lanes breaks b x = if b then filter (λ l. not (breaks x l)) (lanes.givers x 0) else lanes.givers x 0
+
+-- the orders that are followed, of at most so many lines
+abbrev pub followed : {S : Type 0} → Lanes S → (S → ℕ → Bool) → Bool → ℕ → S → List Order
+followed lanes breaks b zero s = [] ∷ []
+followed lanes breaks b (suc n) s =
+    if is_none_left (lanes.givers s 0) then [] ∷ [] else led_by (λ l. followed lanes breaks b n (lanes.given s l)) (lanes_of lanes breaks b s)
+
+-- an entry of a level: the stamp of a state, and so many orders that lead to it, with the first
+abbrev pub entry : {S : Type 0} → Lanes S → (S → ℕ → Bool) → (Bool → S → Bytes) → Bool → Order → ℕ → S → Bytes × Led
+entry lanes breaks stamp b o n x =
+    (stamp b x, record { first = o; lanes = lanes_of lanes breaks b x; has_ended = is_none_left (lanes.givers x 0); count = n })
+
+-- the entries of the next level that an entry leads to, from the start `s`
+abbrev pub spread : {S : Type 0} → Lanes S → (S → ℕ → Bool) → (Bool → S → Bytes) → Bool → S → Bytes × Led → List (Bytes × Led)
+spread lanes breaks stamp b s e =
+    if e.1.has_ended then e ∷ []
+    else map (λ l. entry lanes breaks stamp b (e.1.first ++ l ∷ []) e.1.count (lanes.given (after lanes s e.1.first) l)) e.1.lanes
+
+-- a level: the entries of orders from the start `s`, each counted once
+abbrev pub level : {S : Type 0} → Lanes S → (S → ℕ → Bool) → (Bool → S → Bytes) → Bool → S → List Order → List (Bytes × Led)
+level lanes breaks stamp b s os =
+    added_all bytes_eq led_joined [] (map (λ o. entry lanes breaks stamp b o 1 (after lanes s o)) os)

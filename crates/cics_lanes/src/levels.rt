@@ -1,0 +1,142 @@
+//! The states that orders lead to, level by level, states of one stamp once.
+//!
+//! A *level* has the states after orders of so many lines, in the order of their first orders. No
+//! state is kept: it is made again by its first order from the start.
+
+ghost use Rattle.std.specs.Prelude.{◌≡◌, [], ◌∷◌, ◌++◌, List, IfOk, OnOk};
+ghost use Rattle.std.specs.List.{flat_map};
+ghost use Rattle.cics_lanes.specs.Orders.{after};
+ghost use Rattle.cics_lanes.specs.Groups.{added_all};
+ghost use Rattle.cics_lanes.specs.Levels.{led_joined, lanes_of, entry};
+
+use crate::groups::Join;
+use crate::walks::Walk;
+use cics_names::{Items, NoMemory};
+use indexmap::IndexMap;
+use std::alloc::Global;
+use std::hash::{Hash, Hasher};
+use std::marker::Model;
+
+/// The stamp of a state: bytes that tell how it goes on.
+#[derive(Drop)]
+pub(crate) struct Stamp {
+    bytes: Vec<u8>,
+}
+
+impl Model for Stamp {
+    ghost use Rattle.std.specs.Prelude.{ℕ, List};
+
+    ghost Value = { List ℕ };
+
+    ghost view = { λ s. s.bytes.items };
+}
+
+impl PartialEq for Stamp {
+    ghost use Rattle.std.specs.Str.{bytes_eq};
+    ghost use Rattle.std.proofs.Common.{rules};
+    ghost use Rattle.std.specs.Cmp.Rules.{comparing};
+
+    ghost eq = { bytes_eq };
+
+    ghost laws = { Prim.search (comparing, rules) };
+
+    fn eq(&self, other: &Stamp) -> bool {
+        self.bytes.as_slice() == other.bytes.as_slice()
+    }
+}
+
+impl Eq for Stamp {
+    ghost use Rattle.std.proofs.Common.{rules};
+    ghost use Rattle.std.specs.Cmp.Rules.{comparing};
+
+    ghost laws = { Prim.search (comparing, rules) };
+}
+
+impl Hash for Stamp {
+    ghost use Rattle.std.specs.Prelude.{[], ◌∷◌};
+    ghost use Rattle.std.proofs.Common.{rules};
+    ghost use Rattle.std.specs.Cmp.Rules.{hashing};
+
+    ghost hash_input = { λ s. s ∷ [] };
+
+    ghost respects_eq = { Prim.search (hashing, rules) };
+
+    // In one call, which a hasher takes faster than byte by byte.
+    fn hash<H: Hasher>(&self, state: &mut H) {
+        state.write(self.bytes.as_slice());
+    }
+}
+
+/// Orders that lead to states of one stamp.
+#[derive(Drop)]
+pub(crate) struct Led {
+    /// The first of these orders.
+    pub(crate) first: Items<usize>,
+    /// The lanes that are followed from there.
+    pub(crate) lanes: Items<usize>,
+    /// Whether no lane may give there.
+    pub(crate) has_ended: bool,
+    /// How many orders there are; `u128::MAX` is that many or more.
+    pub(crate) count: u128,
+}
+
+impl Join for Led {
+    ghost joined = { led_joined };
+
+    fn join(&mut self, other: Led) {
+        self.count = self.count.saturating_add(other.count);
+    }
+}
+
+/// A level: the orders that lead to each of its states, by the stamps of these.
+pub(crate) type Level = IndexMap<Stamp, Led>;
+
+/// Goes to the state after an order from the start.
+pub(crate) fn go_to<W: Walk>(walk: &mut W, order: &[usize]) -> Result<(), NoMemory>
+    ensures { OnOk result (walk.new ≡ after W.lanes (W.start walk.old) order.now) }
+{
+    walk.restart()?;
+    for i in 0..order.len() {
+        walk.give(order[i])?;
+    }
+    Ok(())
+}
+
+// Returns the lanes that are followed: those that may give, or if `is_serial` only those that don't
+// break a serial order.
+fn lanes_of<W: Walk>(alloc: Global, walk: &W, is_serial: bool) -> Result<Items<usize>, NoMemory>
+    ensures { IfOk result (λ lanes. lanes ≡ lanes_of W.lanes W.breaks is_serial walk.now) }
+{
+    let mut lanes = Items::new(alloc);
+    let mut giver = walk.first_giver();
+    while let Some(lane) = giver {
+        if !is_serial || !walk.breaks_serial(lane) {
+            lanes.push(lane)?;
+        }
+        giver = walk.giver_after(lane);
+    }
+    Ok(lanes)
+}
+
+/// Returns the entry of the state of a walk, to which one order leads.
+pub(crate) fn entry<W: Walk>(
+    alloc: Global,
+    walk: &W,
+    is_serial: bool,
+    first: Items<usize>,
+) -> Result<(Stamp, Led), NoMemory>
+    ensures { IfOk result (λ made.
+        made ≡ entry W.lanes W.breaks W.stamp is_serial first 1 walk.now) }
+{
+    let mut bytes = Vec::new(alloc);
+    walk.stamp(is_serial, &mut bytes)?;
+    let lanes = lanes_of(alloc, walk, is_serial)?;
+    let has_ended = walk.first_giver().is_none();
+    let led = Led {
+        first,
+        lanes,
+        has_ended,
+        count: 1,
+    };
+    Ok((Stamp { bytes }, led))
+}
