@@ -1,3 +1,4 @@
+pub mod ListStamps
 mod Filled
 mod Rows
 mod EbcdicTables
