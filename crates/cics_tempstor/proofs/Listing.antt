@@ -1,6 +1,6 @@
 -- A listing: the items of the rows, in the order of their names.
 use Rattle.std.proofs.Common.{◌≡◌, ◌<◌, ◌-◌, ℕ, zero, suc, drop, slice_get, arith, Some, Bool, true, false, cond, List, [], ◌∷◌, map, refl, sym, ap, ◌∙◌}
-use Rattle.std.specs.Prelude.{if◌then◌else◌}
+use Rattle.std.specs.Prelude.{if◌then◌else◌, nat_lt}
 use Rattle.std.specs.declared.cmp.Ordering.{Ordering}
 use Rattle.std.specs.declared.cmp.Ordering.TheVariants.{Less, Equal, Greater}
 use Rattle.std.specs.FinMap.Entries.{by_order}
@@ -8,28 +8,33 @@ use Rattle.std.specs.BTreeMap.{insert_entry}
 use Rattle.std.specs.Ordering.{match_ordering}
 use Rattle.cics_names.specs.Keyed.{Bytes, Map, bytes_cmp, with_value}
 use Rattle.cics_tempstor.specs.declared.queue_rows.Row.{Row}
-use Rattle.cics_tempstor.specs.Queues.{Queue, queues_of, is_there}
-use Rattle.cics_tempstor.specs.Tables.{in_order, rows_of, lists_of, those_there}
+use Rattle.cics_tempstor.specs.Queues.{Queue, queues_of, is_there, place_of, places_of}
+use Rattle.cics_tempstor.specs.Tables.{in_order, rows_of, lists_of, those_there, cursors_of, those_set}
+
+module _ {X : Type 0} (f : Row → X) where
+  -- a value of each row
+  abbrev each : Map Row → Map X
+  each rows = map (λ e. (e.0, f e.1)) rows
+
+  -- one more row is one more value
+  each-with_value : (k : Bytes) (r : Row) (rows : Map Row) → each (with_value k r rows) ≡ with_value k (f r) (each rows)
+  each-with_value k r [] = refl
+  each-with_value k r (e ∷ es) = by (bytes_cmp k e.0) (each-with_value k r es)
+    where
+      by : (o : Ordering) → each (with_value k r es) ≡ with_value k (f r) (each es) →
+          each (by_order o ((k, r) ∷ e ∷ es) ((e.0, r) ∷ es) (e ∷ with_value k r es))
+          ≡ by_order o ((k, f r) ∷ each (e ∷ es)) ((e.0, f r) ∷ each es) ((e.0, f e.1) ∷ with_value k (f r) (each es))
+      by Less rest = refl
+      by Equal rest = refl
+      by Greater rest = ap (λ t. (e.0, f e.1) ∷ t) rest
+
+  in_order-rows : (es : List (Bytes × Row)) → in_order f es ≡ each (rows_of es)
+  in_order-rows [] = refl
+  in_order-rows (e ∷ es) = ap (with_value e.0 (f e.1)) (in_order-rows es) ∙ sym (each-with_value e.0 e.1 (rows_of es))
 
 -- the items of each row
 abbrev items_of : Map Row → Map Queue
-items_of rows = map (λ e. (e.0, e.1.items)) rows
-
--- one more row is one more list
-items_of-with_value : (k : Bytes) (r : Row) (rows : Map Row) → items_of (with_value k r rows) ≡ with_value k r.items (items_of rows)
-items_of-with_value k r [] = refl
-items_of-with_value k r (e ∷ es) = by (bytes_cmp k e.0) (items_of-with_value k r es)
-  where
-    by : (o : Ordering) → items_of (with_value k r es) ≡ with_value k r.items (items_of es) →
-        items_of (by_order o ((k, r) ∷ e ∷ es) ((e.0, r) ∷ es) (e ∷ with_value k r es))
-        ≡ by_order o ((k, r.items) ∷ items_of (e ∷ es)) ((e.0, r.items) ∷ items_of es) ((e.0, e.1.items) ∷ with_value k r.items (items_of es))
-    by Less rest = refl
-    by Equal rest = refl
-    by Greater rest = ap (λ t. (e.0, e.1.items) ∷ t) rest
-
-lists_of-rows : (es : List (Bytes × Row)) → lists_of es ≡ items_of (rows_of es)
-lists_of-rows [] = refl
-lists_of-rows (e ∷ es) = ap (with_value e.0 e.1.items) (lists_of-rows es) ∙ sym (items_of-with_value e.0 e.1 (rows_of es))
+items_of rows = each (λ row. row.items) rows
 
 those_there-items : (rows : Map Row) → those_there (items_of rows) ≡ queues_of rows
 those_there-items [] = refl
@@ -41,7 +46,19 @@ those_there-items (e ∷ es) = by (is_there e.1.items) (those_there-items es)
 
 -- what is listed are the queues that are there
 pub those_there-lists_of : (es : List (Bytes × Row)) → those_there (lists_of es) ≡ queues_of (rows_of es)
-those_there-lists_of es = ap those_there (lists_of-rows es) ∙ those_there-items (rows_of es)
+those_there-lists_of es = ap those_there (in_order-rows (λ row. row.items) es) ∙ those_there-items (rows_of es)
+
+those_set-each : (rows : Map Row) → those_set (each place_of rows) ≡ places_of rows
+those_set-each [] = refl
+those_set-each (e ∷ es) = by (nat_lt 0 (place_of e.1)) (those_set-each es)
+  where
+    by : (b : Bool) → those_set (each place_of es) ≡ places_of es → cond b ((e.0, place_of e.1) ∷ those_set (each place_of es)) (those_set (each place_of es)) ≡ (if b then (e.0, place_of e.1) ∷ places_of es else places_of es)
+    by true rest = ap (λ t. (e.0, place_of e.1) ∷ t) rest
+    by false rest = rest
+
+-- the cursors that aren't 0
+pub those_set-cursors_of : (es : List (Bytes × Row)) → those_set (cursors_of es) ≡ places_of (rows_of es)
+those_set-cursors_of es = ap those_set (in_order-rows place_of es) ∙ those_set-each (rows_of es)
 
 -- ---- the map that a listing is made with
 -- what the map has after an insertion

@@ -1,18 +1,19 @@
 //! Temporary storage.
 
 ghost use Rattle.std.specs.Prelude.{◌≡◌, [], true, Some, T, IfOk, IfSome, OnOk};
-ghost use Rattle.std.specs.Prelude.{OnErr};
+ghost use Rattle.std.specs.Prelude.{OnErr, ◌++◌};
 ghost use Rattle.cics_names.specs.Keyed.{with_value, without, is_rising};
 ghost use Rattle.cics_tempstor.specs.Queues.{is_there, queue_at, next_place, queues_of};
 ghost use Rattle.cics_tempstor.specs.Queues.{places_of};
-ghost use Rattle.cics_tempstor.specs.Tables.{rows_of, those_there};
+ghost use Rattle.cics_tempstor.specs.Stamps.{places_stamp};
+ghost use Rattle.cics_tempstor.specs.Tables.{rows_of, those_there, those_set};
 ghost use Rattle.cics_tempstor.specs.Undo.{undone_at};
 
 use crate::answers::{TsRead, TsWritten};
 use crate::images::{Before, TsImage, image_of};
 use crate::queue_rows::{Row, not_deleted, not_read, not_written, written};
 use cics_images::Changed;
-use cics_names::{Condition, Items, Name8, NoMemory, Record};
+use cics_names::{Condition, Items, Name8, NoMemory, Record, stamp_number, stamp_text};
 use indexmap::IndexMap;
 use std::alloc::Global;
 use std::collections::BTreeMap;
@@ -237,6 +238,38 @@ impl TempStore {
             Some(row) => row.place(),
             None => 0,
         }
+    }
+
+    // Returns the NEXT cursors, those that are 0 as well, in the order of the names.
+    fn cursors(&self) -> Result<BTreeMap<Name8, u16>, NoMemory>
+        ensures { IfOk result (λ cursors. those_set cursors.entries ≡ places_of self.now) }
+    {
+        let mut sorted = BTreeMap::new(self.alloc);
+        let mut index = self.queues.len();
+        while index > 0 {
+            index -= 1;
+            if let Some((name, row)) = self.queues.get_index(index) {
+                sorted.insert(*name, row.place())?;
+            }
+        }
+        Ok(sorted)
+    }
+
+    /// Appends the stamp of the NEXT cursors that aren't 0, in the order of the names.
+    ///
+    /// Errors: `NoMemory`. Cost: O(queues log queues).
+    pub fn stamp_places(&self, out: &mut Vec<u8>) -> Result<(), NoMemory>
+        ensures { OnOk result (out.new.items ≡ out.old.items ++ places_stamp (places_of self.now)) }
+    {
+        let cursors = self.cursors()?;
+        for (name, place) in &cursors {
+            if *place > 0 {
+                stamp_number(out, 1)?;
+                stamp_text(out, &name.bytes())?;
+                stamp_number(out, u64::from(*place))?;
+            }
+        }
+        stamp_number(out, 0)
     }
 
     /// Removes the empty row of a name, if there is one: no image of the name will be undone any
