@@ -8,4 +8,4 @@ mod listings;
 mod replay;
 
 pub use listings::{Listing, TaskState};
-pub use replay::plain_replay;
+pub use replay::{plain_replay, stamp_committed};

@@ -7,8 +7,12 @@ mod queues;
 mod records;
 mod store;
 
-ghost use Rattle.std.specs.Prelude.{◌≡◌, if◌then◌else◌, IfOk, OnOk};
-ghost use Rattle.cics_history.specs.Headline.{outcome_of, is_backed_out, is_kept, kept, replay};
+ghost use Rattle.std.specs.Prelude.{◌≡◌, [], ◌++◌, if◌then◌else◌, IfOk, OnOk};
+ghost use Rattle.cics_history.specs.Headline.{outcome_of, is_backed_out, is_committed, is_kept};
+ghost use Rattle.cics_history.specs.Headline.{kept, replay};
+ghost use Rattle.cics_history.specs.Isolation.{stays, store_by};
+ghost use Rattle.cics_history.specs.Serial.{are_backed_out_but};
+ghost use Rattle.cics_history.specs.Stamps.{store_stamp};
 ghost use Rattle.cics_replay.specs.Listings.{replayed_listing};
 ghost use Rattle.cics_history.specs.Store.{apply};
 ghost use Rattle.cics_history.specs.State.{initial_store};
@@ -92,4 +96,72 @@ pub fn plain_replay(
         ≡ replayed_listing opening.now trace.now outcomes.now) }
 {
     replayed(alloc, opening, trace, outcomes)?.into_listing(opening)
+}
+
+/// Returns whether a unit of work committed.
+fn has_committed(outcomes: &[UnitState], unit: UnitId) -> bool
+    ensures { result ≡ is_committed (outcome_of outcomes.now unit) }
+{
+    if let Some(state) = outcomes.get(unit.number() as usize) {
+        *state == UnitState::Committed
+    } else {
+        false
+    }
+}
+
+/// Applies an entry, unless it acts on something recoverable and its unit didn't commit.
+fn replay_committed_entry(
+    store: &mut PlainStore,
+    opening: &Opening,
+    outcomes: &[UnitState],
+    entry: &Entry,
+) -> Result<(), NoMemory>
+    ensures { OnOk result (store.new
+        ≡ (if stays opening.now (are_backed_out_but [] (outcome_of outcomes.now)) entry.now
+        then (apply store.old entry.now.op).store
+        else store.old)) }
+{
+    let op = entry.op()?;
+    if opening.is_recoverable(&op) && !has_committed(outcomes, entry.unit()) {
+        return Ok(());
+    }
+    store.apply(&op)
+}
+
+/// Returns what the files and queues would hold at the end of a history if each open unit was
+/// backed out.
+fn replayed_committed(
+    opening: &Opening,
+    trace: &[Entry],
+    outcomes: &[UnitState],
+) -> Result<PlainStore, NoMemory>
+    ensures { IfOk result (λ store. store
+        ≡ store_by opening.now (are_backed_out_but [] (outcome_of outcomes.now)) trace.now) }
+{
+    let mut store = PlainStore::loaded(opening.allocator(), opening)?;
+    for entry in trace {
+        replay_committed_entry(&mut store, opening, outcomes, entry)?;
+    }
+    Ok(store)
+}
+
+/// Appends the stamp of what the files and queues would hold if each open unit was backed out.
+///
+/// This is a plain replay of the history. An entry on something recoverable is applied only if its
+/// unit committed. `trace` and `outcomes` are those of `plain_replay`.
+///
+/// Errors: `NoMemory`.
+///
+/// Cost: that of `plain_replay`.
+pub fn stamp_committed(
+    opening: &Opening,
+    trace: &[Entry],
+    outcomes: &[UnitState],
+    out: &mut Vec<u8>,
+) -> Result<(), NoMemory>
+    ensures { OnOk result (out.new.items
+        ≡ out.old.items ++ store_stamp (store_by opening.now
+        (are_backed_out_but [] (outcome_of outcomes.now)) trace.now)) }
+{
+    replayed_committed(opening, trace, outcomes)?.stamp(out)
 }

@@ -1,10 +1,12 @@
 //! The files and queues of a plain replay.
 
-ghost use Rattle.std.specs.Prelude.{◌≡◌, [], ◌∷◌, IfOk, OnOk};
+ghost use Rattle.std.specs.Prelude.{◌≡◌, [], ◌∷◌, ◌++◌, IfOk, OnOk};
 ghost use Rattle.cics_names.specs.Keyed.{value_at, with_value};
+ghost use Rattle.cics_names.specs.Stamps.{text_stamp, list_stamp};
 ghost use Rattle.cics_tempstor.specs.Queues.{has_item};
 ghost use Rattle.cics_replay.specs.Listings.{listed_files, listed_ts, listed_td, listing_of};
 ghost use Rattle.cics_history.specs.State.{initial_store};
+ghost use Rattle.cics_history.specs.Stamps.{file_stamp, queue_stamp, store_stamp};
 ghost use Rattle.cics_history.specs.Store.{apply, apply_write, apply_rewrite, apply_delete};
 ghost use Rattle.cics_history.specs.Store.{apply_delete_generic, apply_ts_write, apply_ts_rewrite};
 ghost use Rattle.cics_history.specs.Store.{apply_ts_delete, ts_queue, with_ts, apply_td_write};
@@ -14,7 +16,7 @@ use super::queues::PlainQueue;
 use super::records::PlainRecords;
 use crate::listings::Listing;
 use cics_history::Op;
-use cics_names::{Items, Name4, Name8, NoMemory, Record};
+use cics_names::{Items, Name4, Name8, NoMemory, Record, stamp_number, stamp_text};
 use cics_opening::Opening;
 use cics_transdata::Recovery;
 use std::alloc::Global;
@@ -104,6 +106,56 @@ fn td_listed(
         listed.push((name, recovery, records.into_contents(alloc)?))?;
     }
     Ok(listed)
+}
+
+/// Appends the stamp of the items of a temporary storage queue, first to last.
+fn stamp_items(out: &mut Vec<u8>, items: &Items<Record>) -> Result<(), NoMemory>
+    ensures { OnOk result (out.new.items ≡ out.old.items ++ list_stamp text_stamp items.now) }
+{
+    for item in items.as_slice() {
+        stamp_number(out, 1)?;
+        stamp_text(out, item.bytes())?;
+    }
+    stamp_number(out, 0)
+}
+
+/// Appends the stamp of files by name.
+fn stamp_files(out: &mut Vec<u8>, files: &BTreeMap<Name8, PlainRecords>) -> Result<(), NoMemory>
+    ensures { OnOk result (out.new.items
+        ≡ out.old.items ++ list_stamp file_stamp files.now.entries) }
+{
+    for (name, records) in files.iter() {
+        stamp_number(out, 1)?;
+        stamp_text(out, &name.bytes())?;
+        records.stamp(out)?;
+    }
+    stamp_number(out, 0)
+}
+
+/// Appends the stamp of temporary storage queues by name.
+fn stamp_ts(out: &mut Vec<u8>, queues: &BTreeMap<Name8, Items<Record>>) -> Result<(), NoMemory>
+    ensures { OnOk result (out.new.items
+        ≡ out.old.items ++ list_stamp queue_stamp queues.now.entries) }
+{
+    for (name, items) in queues.iter() {
+        stamp_number(out, 1)?;
+        stamp_text(out, &name.bytes())?;
+        stamp_items(out, items)?;
+    }
+    stamp_number(out, 0)
+}
+
+/// Appends the stamp of transient data queues by name.
+fn stamp_td(out: &mut Vec<u8>, queues: &BTreeMap<Name4, PlainQueue>) -> Result<(), NoMemory>
+    ensures { OnOk result (out.new.items
+        ≡ out.old.items ++ list_stamp queue_stamp queues.now.entries) }
+{
+    for (name, records) in queues.iter() {
+        stamp_number(out, 1)?;
+        stamp_text(out, &name.bytes())?;
+        records.stamp(out)?;
+    }
+    stamp_number(out, 0)
 }
 
 impl PlainStore {
@@ -330,6 +382,15 @@ impl PlainStore {
                 Ok(())
             }
         }
+    }
+
+    /// Appends the stamp of the files and queues.
+    pub(crate) fn stamp(&self, out: &mut Vec<u8>) -> Result<(), NoMemory>
+        ensures { OnOk result (out.new.items ≡ out.old.items ++ store_stamp self.now) }
+    {
+        stamp_files(out, &self.files)?;
+        stamp_ts(out, &self.temp_storage)?;
+        stamp_td(out, &self.trans_data)
     }
 
     /// Returns the listing of the files and queues. `opening` says which of them are recoverable.
