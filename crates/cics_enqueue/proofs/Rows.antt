@@ -1,11 +1,12 @@
--- Worked rows: which unit is a blocker.
-use Rattle.std.specs.Prelude.{◌≡◌, Some, None, true, false, [], ◌∷◌, refl}
+-- Worked rows: which unit is a blocker, and which values a unit owns.
+use Rattle.std.specs.Prelude.{◌≡◌, ℕ, Some, None, true, false, [], ◌∷◌, refl}
 use Rattle.cics_names.specs.Keyed.{Bytes}
 use Rattle.cics_history.specs.declared.resources.Resource.{Resource}
-use Rattle.cics_history.specs.declared.resources.Resource.TheVariants.{FileKey, FilePrefix}
+use Rattle.cics_history.specs.declared.resources.Resource.TheVariants.{FileKey, FilePrefix, User}
 use Rattle.cics_history.specs.Resources.{bytes_of}
 use Rattle.cics_history.specs.Holding.{conflicts}
 use Rattle.cics_enqueue.specs.Table.{Table, held_with_prefix, holder_over, taken, released}
+use Rattle.cics_enqueue.specs.Values.{values_of}
 
 -- two files, and keys and prefixes of theirs
 abbrev accounts : Bytes
@@ -88,3 +89,17 @@ whole_file = refl
 -- what is left once a unit has released all that it owned
 left : held_with_prefix accounts (7 ∷ []) None (released (released table 2) 3) ≡ Some 1
 left = refl
+
+-- unit 1 has enqueued twice on the value 9, then once on 7, and unit 2 on 8
+abbrev value : ℕ → Resource
+value b = User (bytes_of (b ∷ []))
+
+abbrev enqueued : Table
+enqueued = taken (taken (taken (taken table (value 9) 1) (value 9) 1) (value 7) 1) (value 8) 2
+
+-- a unit's values are in byte order, each with its count, and nothing else that it owns is there
+own_values : values_of 1 enqueued ≡ (7 ∷ [], 1) ∷ (9 ∷ [], 2) ∷ []
+own_values = refl
+
+no_values : values_of 3 enqueued ≡ []
+no_values = refl

@@ -3,3 +3,4 @@ pub mod FreedomLaws
 pub mod Kept
 pub mod Table
 pub mod Order
+pub mod Values

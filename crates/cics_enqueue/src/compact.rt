@@ -3,11 +3,12 @@
 //! A table key is the kind of the resource, a byte, and its names and bytes. The name of a file
 //! comes behind its length, 8.
 
-ghost use Rattle.std.specs.Prelude.{◌≡◌, ◌≤◌, ◌+◌, ◌∷◌, ◌++◌, OnOk, [], length};
+ghost use Rattle.std.specs.Prelude.{◌≡◌, ◌≤◌, ◌+◌, ◌∷◌, ◌++◌, OnOk, [], length, option_map};
 ghost use Rattle.std.specs.Option.{option_copied};
 ghost use Rattle.std.specs.Map.{lookup};
 ghost use Rattle.cics_enqueue.specs.Kept.{finds};
 ghost use Rattle.cics_enqueue.specs.Table.{resource_key};
+ghost use Rattle.cics_enqueue.specs.Values.{value_in};
 
 use crate::borrowed::{Kind, ResourceRef};
 use crate::enqueues::Holding;
@@ -30,6 +31,16 @@ const TD_READ: u8 = 3;
 const TD_WRITE: u8 = 4;
 
 const VALUE: u8 = 5;
+
+// Returns the bytes of the user's value of a table key, or None if it is of another kind.
+pub(crate) fn value_in(key: &[u8]) -> Option<&[u8]>
+    ensures { option_map (λ value. value.now) result ≡ value_in key.now }
+{
+    match key {
+        [] => None,
+        [kind, value @ ..] => { if *kind == VALUE { Some(value) } else { None } }
+    }
+}
 
 // Adds bytes at the end of a table key that has room for them.
 //

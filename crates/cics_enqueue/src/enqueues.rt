@@ -4,7 +4,7 @@ ghost use Rattle.cics_history.specs.declared.resources.Resource.TheVariants.{Fil
 ghost use Rattle.cics_history.specs.declared.resources.Resource.TheVariants.{User};
 ghost use Rattle.std.specs.Prelude.{◌≡◌, ◌≤◌, IfNone, IfSome, length, [], ◌+◌};
 ghost use Rattle.std.specs.Prelude.{if◌then◌else◌, IsTrue, true, false, ◌↔◌, OnOk, OnErr, IfErr};
-ghost use Rattle.std.specs.Prelude.{IfOk, List, T, None, Some, ℕ, is_some, not, option_map};
+ghost use Rattle.std.specs.Prelude.{IfOk, List, T, None, Some, ℕ, is_some, not, option_map, ◌++◌};
 ghost use Rattle.cics_enqueue.specs.Kept.{count_after, is_held_full, without_own, Frees, seen};
 ghost use Rattle.cics_enqueue.specs.Kept.{finds, key_cmp, PutsNew, IsKept, table_of};
 ghost use Rattle.std.specs.Map.{lookup};
@@ -17,14 +17,16 @@ ghost use Rattle.cics_enqueue.specs.Table.{count_of, IsFreeFor, IsFreeBut, Holds
 ghost use Rattle.cics_enqueue.specs.Table.{taken, given_back, released, other_than};
 ghost use Rattle.cics_enqueue.specs.Table.{held_at, is_in_order, resource_key};
 ghost use Rattle.cics_enqueue.specs.Order.{resource_of};
+ghost use Rattle.cics_enqueue.specs.Values.{values_of, value_stamp};
+ghost use Rattle.cics_names.specs.Stamps.{list_stamp};
 
 use crate::borrowed::{Kind, ResourceRef};
-use crate::compact::{compact, held, set_resource, set_value};
+use crate::compact::{compact, held, set_resource, set_value, value_in};
 use crate::conflicts::{Search, has_prefixes, other_unit};
 use crate::owned::{self, Owned};
 use cics_history::{Resource, UnitId};
 use cics_keys::Key;
-use cics_names::{Name8, NoMemory};
+use cics_names::{Name8, NoMemory, stamp_number, stamp_text};
 use indexmap::IndexMap;
 use std::alloc::{AllocError, Global};
 use std::cell::Cell;
@@ -240,6 +242,25 @@ impl Enqueues {
         };
         self.bound.set(key);
         count
+    }
+
+    /// Appends the stamp of the values that a unit owns by ENQ, in their order, each with its count.
+    ///
+    /// Errors: `NoMemory`. Cost: O(owned resources).
+    pub fn stamp_values(&self, unit: UnitId, out: &mut Vec<u8>) -> Result<(), NoMemory>
+        ensures { OnOk result (out.new.items
+            ≡ out.old.items ++ list_stamp value_stamp (values_of unit self.now)) }
+    {
+        for (key, holding) in &self.table {
+            if let Some(value) = value_in(key.as_slice()) {
+                if holding.unit == unit {
+                    stamp_number(out, 1)?;
+                    stamp_text(out, value)?;
+                    stamp_number(out, u64::from(holding.count))?;
+                }
+            }
+        }
+        stamp_number(out, 0)
     }
 
     /// Returns the blocker at a resource: the owner, other than `but_not`, of the smallest
