@@ -36,3 +36,4 @@ pub mod Marking
 pub mod InPlace
 pub mod MarkedParts
 pub mod CarriedImages
+pub mod Stamps

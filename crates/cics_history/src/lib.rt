@@ -8,6 +8,8 @@
 pub mod laws;
 mod ops;
 mod resources;
+mod stamping;
 
 pub use ops::{Answer, Done, Enqueued, Entry, Op, UnitState};
 pub use resources::{Resource, UnitId};
+pub use stamping::stamp_op;

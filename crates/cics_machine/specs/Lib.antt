@@ -23,3 +23,4 @@ pub mod Notes
 pub mod First
 pub mod Deadlines
 pub mod Blockers
+pub mod Stamps

@@ -1,8 +1,9 @@
 -- Stamps tell values, whatever bytes follow.
-use Rattle.std.proofs.Common.{◌≡◌, ℕ, zero, suc, ◌^◌, ◌<◌, ◌≤◌, Bool, true, false, Option, Some, None, List, [], ◌∷◌, ◌++◌, ◌⊎◌, inl, inr, length, take, drop, replicate, refl, sym, ap, ◌∙◌, append_assoc, arith}
+use Rattle.std.proofs.Common.{◌≡◌, ℕ, zero, suc, ◌^◌, ◌<◌, ◌≤◌, Bool, true, false, Option, Some, None, List, [], ◌∷◌, ◌++◌, ◌⊎◌, inl, inr, length, take, drop, replicate, refl, sym, ap, ◌∙◌, append_assoc, map, arith}
 use Rattle.std.proofs.lemmas.Bool.{lt-ltb, le-ltb, cases_lt}
 use Rattle.std.proofs.lemmas.Nat.{from_be_bytes-to_be_bytes_8}
 use Rattle.std.specs.List.{flat_map}
+use Rattle.std.specs.Option.{option_map}
 use Rattle.std.specs.Int.{w64, to_be_bytes, from_be_bytes}
 use Rattle.cics_names.specs.Stamps.{Splits, number_stamp, flag_stamp, text_stamp, option_stamp, item_stamp, list_stamp}
 
@@ -111,37 +112,65 @@ splits_text x y r s e =
 
 -- ---- Optional values and lists
 
-module _ {X : Type 0} (f : X → List ℕ) (sf : Splits f) where
-  options : (a b : Option X) (r s : List ℕ) → option_stamp f a ++ r ≡ option_stamp f b ++ s → (a ≡ b) × (r ≡ s)
-  options None None r s e = (refl, (splits_number 0 0 r s e).1)
-  options None (Some y) r s e = let same : ◌≡◌ {A = ℕ} 0 1 = (splits_number 0 1 r (f y ++ s) (e ∙ append_assoc (number_stamp 1) (f y) s)).0 in absurd (omega arith)
-  options (Some x) None r s e = let same : ◌≡◌ {A = ℕ} 1 0 = (splits_number 1 0 (f x ++ r) s (sym (append_assoc (number_stamp 1) (f x) r) ∙ e)).0 in absurd (omega arith)
-  options (Some x) (Some y) r s e =
-      let both = split_two number_stamp f splits_number sf 1 1 x y r s e in
-      (ap Some both.1, both.2)
+-- the bytes of a list, with what follows, from its first value on
+first_of_list : {X : Type 0} (f : X → List ℕ) (x : X) (xs : List X) (r : List ℕ) → flat_map (item_stamp f) (x ∷ xs) ++ r ≡ number_stamp 1 ++ (f x ++ (flat_map (item_stamp f) xs ++ r))
+first_of_list f x xs r =
+    append_assoc (item_stamp f x) (flat_map (item_stamp f) xs) r
+    ∙ append_assoc (number_stamp 1) (f x) (flat_map (item_stamp f) xs ++ r)
 
-  pub splits_option : Splits (option_stamp f)
-  splits_option = options
+-- What the stamps of two types tell: f x and g y begin the same bytes only if h x ≡ k y. The stamps
+-- of optional values and of lists then tell as much of each value
+module _ {X Y Z : Type 0} (f : X → List ℕ) (g : Y → List ℕ) (h : X → Z) (k : Y → Z) (tell : (x : X) (y : Y) (r s : List ℕ) → f x ++ r ≡ g y ++ s → (h x ≡ k y) × (r ≡ s)) where
+  pub split_options : (a : Option X) (b : Option Y) (r s : List ℕ) → option_stamp f a ++ r ≡ option_stamp g b ++ s → (option_map h a ≡ option_map k b) × (r ≡ s)
+  split_options None None r s e = (refl, (splits_number 0 0 r s e).1)
+  split_options None (Some y) r s e =
+      let same : ◌≡◌ {A = ℕ} 0 1 = (splits_number 0 1 r (g y ++ s) (e ∙ append_assoc (number_stamp 1) (g y) s)).0 in
+      absurd (omega arith)
+  split_options (Some x) None r s e =
+      let same : ◌≡◌ {A = ℕ} 1 0 = (splits_number 1 0 (f x ++ r) s (sym (append_assoc (number_stamp 1) (f x) r) ∙ e)).0 in
+      absurd (omega arith)
+  split_options (Some x) (Some y) r s e =
+      let front = splits_number 1 1 (f x ++ r) (g y ++ s) (sym (append_assoc (number_stamp 1) (f x) r) ∙ e ∙ append_assoc (number_stamp 1) (g y) s) in
+      let both = tell x y r s front.1 in
+      (ap Some both.0, both.1)
 
-  -- each value of two lists in its turn
-  values : (xs ys : List X) (r s : List ℕ) → flat_map (item_stamp f) xs ++ (number_stamp 0 ++ r) ≡ flat_map (item_stamp f) ys ++ (number_stamp 0 ++ s) → (xs ≡ ys) × (r ≡ s)
+  values : (xs : List X) (ys : List Y) (r s : List ℕ) → flat_map (item_stamp f) xs ++ (number_stamp 0 ++ r) ≡ flat_map (item_stamp g) ys ++ (number_stamp 0 ++ s) → (map h xs ≡ map k ys) × (r ≡ s)
   values [] [] r s e = (refl, (splits_number 0 0 r s e).1)
   values [] (y ∷ ys) r s e =
-      let tail : List ℕ = flat_map (item_stamp f) ys ++ (number_stamp 0 ++ s) in
-      let same : ◌≡◌ {A = ℕ} 0 1 = (splits_number 0 1 r (f y ++ tail) (e ∙ append_assoc (item_stamp f y) (flat_map (item_stamp f) ys) (number_stamp 0 ++ s) ∙ append_assoc (number_stamp 1) (f y) tail)).0 in
+      let same : ◌≡◌ {A = ℕ} 0 1 = (splits_number 0 1 r (g y ++ (flat_map (item_stamp g) ys ++ (number_stamp 0 ++ s))) (e ∙ first_of_list g y ys (number_stamp 0 ++ s))).0 in
       absurd (omega arith)
   values (x ∷ xs) [] r s e =
-      let tail : List ℕ = flat_map (item_stamp f) xs ++ (number_stamp 0 ++ r) in
-      let same : ◌≡◌ {A = ℕ} 1 0 = (splits_number 1 0 (f x ++ tail) s (sym (append_assoc (item_stamp f x) (flat_map (item_stamp f) xs) (number_stamp 0 ++ r) ∙ append_assoc (number_stamp 1) (f x) tail) ∙ e)).0 in
+      let same : ◌≡◌ {A = ℕ} 1 0 = (splits_number 1 0 (f x ++ (flat_map (item_stamp f) xs ++ (number_stamp 0 ++ r))) s (sym (first_of_list f x xs (number_stamp 0 ++ r)) ∙ e)).0 in
       absurd (omega arith)
   values (x ∷ xs) (y ∷ ys) r s e =
-      let front = split_two number_stamp f splits_number sf 1 1 x y (flat_map (item_stamp f) xs ++ (number_stamp 0 ++ r)) (flat_map (item_stamp f) ys ++ (number_stamp 0 ++ s))
-      (sym (append_assoc (item_stamp f x) (flat_map (item_stamp f) xs) (number_stamp 0 ++ r)) ∙ e ∙ append_assoc (item_stamp f y) (flat_map (item_stamp f) ys) (number_stamp 0 ++ s)) in
-      let rest = values xs ys r s front.2 in
+      let front = splits_number 1 1 (f x ++ (flat_map (item_stamp f) xs ++ (number_stamp 0 ++ r))) (g y ++ (flat_map (item_stamp g) ys ++ (number_stamp 0 ++ s)))
+      (sym (first_of_list f x xs (number_stamp 0 ++ r)) ∙ e ∙ first_of_list g y ys (number_stamp 0 ++ s)) in
+      let first = tell x y (flat_map (item_stamp f) xs ++ (number_stamp 0 ++ r)) (flat_map (item_stamp g) ys ++ (number_stamp 0 ++ s)) front.1 in
+      let rest = values xs ys r s first.1 in
       (cc, rest.1)
 
+  pub split_lists : (xs : List X) (ys : List Y) (r s : List ℕ) → list_stamp f xs ++ r ≡ list_stamp g ys ++ s → (map h xs ≡ map k ys) × (r ≡ s)
+  split_lists xs ys r s e =
+      values xs ys r s (sym (append_assoc (flat_map (item_stamp f) xs) (number_stamp 0) r) ∙ e ∙ append_assoc (flat_map (item_stamp g) ys) (number_stamp 0) s)
+
+same_option : {X : Type 0} (a : Option X) → option_map (λ x. x) a ≡ a
+same_option None = refl
+same_option (Some x) = refl
+
+same_list : {X : Type 0} (xs : List X) → map (λ x. x) xs ≡ xs
+same_list [] = refl
+same_list (x ∷ xs) = ap (λ t. x ∷ t) (same_list xs)
+
+module _ {X : Type 0} (f : X → List ℕ) (sf : Splits f) where
+  pub splits_option : Splits (option_stamp f)
+  splits_option a b r s e =
+      let both = split_options f f (λ x. x) (λ x. x) sf a b r s e in
+      (sym (same_option a) ∙ both.0 ∙ same_option b, both.1)
+
   pub splits_list : Splits (list_stamp f)
-  splits_list xs ys r s e = values xs ys r s (sym (append_assoc (flat_map (item_stamp f) xs) (number_stamp 0) r) ∙ e ∙ append_assoc (flat_map (item_stamp f) ys) (number_stamp 0) s)
+  splits_list xs ys r s e =
+      let both = split_lists f f (λ x. x) (λ x. x) sf xs ys r s e in
+      (sym (same_list xs) ∙ both.0 ∙ same_list ys, both.1)
 
   pub same_stamp : (x y : X) → f x ≡ f y → x ≡ y
   same_stamp x y e = (sf x y [] [] (ap (λ t. t ++ []) e)).0
