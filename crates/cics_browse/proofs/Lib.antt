@@ -1,2 +1,3 @@
 mod Prev
 mod Rows
+pub mod Stamps

@@ -1,12 +1,12 @@
 //! A browse: a position in a file, which any call may have changed in between.
 
-ghost use Rattle.std.specs.Prelude.{◌≡◌, ◌==◌, IfOk, OnOk, OnErr, IfSome, IsTrue};
+ghost use Rattle.std.specs.Prelude.{◌≡◌, ◌==◌, ◌++◌, IfOk, OnOk, OnErr, IfSome, IsTrue};
 ghost use Rattle.std.specs.Prelude.{Some, None, if◌then◌else◌, option_map, option_copied, false};
 ghost use Rattle.std.specs.List.{list_all};
 ghost use Rattle.cics_ksds.specs.Files.{entry_of, fits_file, last_to};
 
 use cics_ksds::{FileDef, Ordered};
-use cics_names::{Condition, NoMemory, Record};
+use cics_names::{Condition, NoMemory, Record, stamp_flag, stamp_number, stamp_text};
 use std::marker::Model;
 
 /// What the key of a position is.
@@ -18,6 +18,21 @@ pub enum Place {
     Forward,
     /// The key last read, by READPREV.
     Back,
+}
+
+impl Place {
+    ghost use Rattle.cics_browse.specs.Stamps.{place_number};
+
+    // Returns the number that its stamp has.
+    fn number(self) -> u64
+        ensures { result ≡ place_number self }
+    {
+        match self {
+            Place::Start => 0,
+            Place::Forward => 1,
+            Place::Back => 2,
+        }
+    }
 }
 
 /// What a read of a browse is answered.
@@ -64,6 +79,7 @@ fn nothing(condition: Condition) -> Browsed
 }
 
 impl Browse {
+    ghost use Rattle.cics_browse.specs.Stamps.{position_stamp};
     ghost use Rattle.cics_browse.specs.Positions.{finds_start, start_at, reset_condition};
     ghost use Rattle.cics_browse.specs.Positions.{after_reset};
     ghost use Rattle.cics_browse.specs.Positions.{read_next, after_next, read_prev, after_prev};
@@ -100,6 +116,17 @@ impl Browse {
         ensures { result ≡ self.now.generic }
     {
         self.generic
+    }
+
+    /// Appends the stamp of its position.
+    ///
+    /// Errors: `NoMemory`.
+    pub fn stamp(&self, out: &mut Vec<u8>) -> Result<(), NoMemory>
+        ensures { OnOk result (out.new.items ≡ out.old.items ++ position_stamp self.now) }
+    {
+        stamp_text(out, self.key.bytes())?;
+        stamp_number(out, self.place.number())?;
+        stamp_flag(out, self.generic)
     }
 
     /// RESETBR: makes the key the position, as `start` with the same arguments would. If its start
