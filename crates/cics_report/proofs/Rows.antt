@@ -1,4 +1,4 @@
--- Worked rows: the reports on two endings and on one, and an order as a script.
+-- Worked rows: reports on two endings and on one, and an order as a script.
 use Rattle.std.proofs.Common.{◌≡◌, [], ◌∷◌, ◌++◌, refl, Some, None, true, false}
 use Rattle.std.specs.Fmt.{digits}
 use lib.Chars.{codes}
@@ -8,7 +8,7 @@ use Rattle.cics_machine.specs.declared.outcomes.Refused.TheVariants.{NoTask}
 use Rattle.cics_lanes.specs.declared.exploring.Report.{Report}
 use Rattle.cics_plans.specs.declared.plans.Planned.{Planned}
 use Rattle.cics_report.specs.Parts.{mark}
-use Rattle.cics_report.specs.Reporting.{report_text, endings_text, script_at}
+use Rattle.cics_report.specs.Reporting.{greatest, report_text, endings_text, script_at}
 
 -- the label A
 abbrev a : Bytes
@@ -37,13 +37,35 @@ two = record {
   endings =
       record { order = 0 ∷ 2 ∷ 1 ∷ 0 ∷ 2 ∷ []; ending = mark false ∷ codes "ONE\n" ∷ codes "BOTH\n" ∷ []; orders = 3; serial = 0 }
       ∷ record { order = 1 ∷ []; ending = mark true ∷ codes "BOTH\n" ∷ codes "OTHER\n" ∷ []; orders = 9; serial = 2 } ∷ [];
-  orders = 12;
   is_whole = true;
+  has_all_serial = true;
 }
 
--- one ending, and orders that were left out
+-- one ending, and orders that were left out, serial ones too
 abbrev cut : Report
-cut = record { endings = record { order = []; ending = mark false ∷ codes "ONE\n" ∷ []; orders = 7; serial = 7 } ∷ []; orders = 7; is_whole = false }
+cut = record {
+  endings = record { order = []; ending = mark false ∷ codes "ONE\n" ∷ []; orders = 7; serial = 7 } ∷ [];
+  is_whole = false;
+  has_all_serial = false;
+}
+
+-- one ending, and orders that were left out, but no serial ones
+abbrev cut_but_serial : Report
+cut_but_serial = record {
+  endings = record { order = []; ending = mark false ∷ codes "ONE\n" ∷ []; orders = 7; serial = 2 } ∷ [];
+  is_whole = false;
+  has_all_serial = true;
+}
+
+-- two endings, the first of as many orders as are counted
+abbrev many : Report
+many = record {
+  endings =
+      record { order = []; ending = mark false ∷ codes "ONE\n" ∷ []; orders = greatest; serial = 2 }
+      ∷ record { order = 1 ∷ []; ending = mark false ∷ codes "OTHER\n" ∷ []; orders = 18446744073709551616; serial = 0 } ∷ [];
+  is_whole = true;
+  has_all_serial = true;
+}
 
 -- the parts of every ending are told once
 two_endings : report_text planned 200000 two ≡
@@ -72,6 +94,32 @@ cut_off : report_text planned 7 cut ≡
     ++ codes "ONE\n"
 unfolding endings_text digits code_of character_of
 cut_off = refl
+
+-- numbers of serial orders are exact if all of these were followed
+serial_exact : report_text planned 7 cut_but_serial ≡
+    codes "LINE 4 B REFUSED 2 NoTask\n"
+    ++ codes "LIMIT 7 REACHED\n"
+    ++ codes "ORDERS AT LEAST 7 SERIAL 2\n"
+    ++ codes "ENDINGS AT LEAST 1 SERIAL 1\n"
+    ++ codes "ENDING 1 ORDERS AT LEAST 7 SERIAL 2\n"
+    ++ codes "ORDER\n"
+    ++ codes "ONE\n"
+unfolding endings_text digits code_of character_of
+serial_exact = refl
+
+-- the greatest number that is kept is a lower bound
+counted_far : report_text planned 7 many ≡
+    codes "LINE 4 B REFUSED 2 NoTask\n"
+    ++ codes "ORDERS AT LEAST 340282366920938463463374607431768211455 SERIAL 2\n"
+    ++ codes "ENDINGS 2 SERIAL 1\n"
+    ++ codes "ENDING 1 ORDERS AT LEAST 340282366920938463463374607431768211455 SERIAL 2\n"
+    ++ codes "ORDER\n"
+    ++ codes "ONE\n"
+    ++ codes "ENDING 2 ORDERS 18446744073709551616 SERIAL 0\n"
+    ++ codes "ORDER B\n"
+    ++ codes "OTHER\n"
+unfolding endings_text digits code_of character_of
+counted_far = refl
 
 -- the lines of an order stand behind those that define and attach
 as_script : script_at planned.plan two 2 ≡ Some (

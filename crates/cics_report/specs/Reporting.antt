@@ -1,5 +1,5 @@
 -- The bytes of a report on the orders of a script's lines, and those of an order as a script.
-use Rattle.std.specs.Prelude.{◌≡◌, ℕ, ◌+◌, ◌-◌, ◌==◌, Bool, true, false, if◌then◌else◌, nat_lt, List, [], ◌∷◌, ◌++◌, length, Option, Some, None, option_map, slice_get, Result, Ok, codes}
+use Rattle.std.specs.Prelude.{◌≡◌, ℕ, ◌+◌, ◌-◌, ◌==◌, Bool, ◌&&◌, if◌then◌else◌, nat_lt, List, [], ◌∷◌, ◌++◌, length, Option, Some, None, option_map, slice_get, Result, Ok, codes}
 use Rattle.std.specs.List.{fold, flat_map, count_by}
 use Rattle.std.specs.Fmt.{decimal}
 use Rattle.cics_script.specs.Texts.{bare}
@@ -41,19 +41,28 @@ refused_text r = codes "LINE " ++ (decimal r.number ++ (codes " " ++ refused_lin
 
 -- ---- Numbers
 
--- the words before a number, which is a lower bound if orders were left out
-abbrev pub bound_text : Bool → List ℕ
-bound_text is_whole = if is_whole then [] else codes "AT LEAST "
+-- the greatest number of orders that is kept: 2^128 - 1
+abbrev pub greatest : ℕ
+greatest = 340282366920938463463374607431768211455
+
+-- the words before a number, which is a lower bound if orders were left out, or if it is the
+-- greatest
+abbrev pub bound_text : Bool → ℕ → List ℕ
+bound_text has_all n = if has_all && nat_lt n greatest then [] else codes "AT LEAST "
 
 -- such a number
 abbrev pub count_text : Bool → ℕ → List ℕ
-count_text is_whole n = bound_text is_whole ++ decimal n
+count_text has_all n = bound_text has_all n ++ decimal n
 
 -- two numbers: of all, and of the serial ones
-abbrev pub both_text : Bool → ℕ → ℕ → List ℕ
-both_text is_whole all serial = count_text is_whole all ++ (codes " SERIAL " ++ count_text is_whole serial)
+abbrev pub both_text : Report → ℕ → ℕ → List ℕ
+both_text r all serial = count_text r.is_whole all ++ (codes " SERIAL " ++ count_text r.has_all_serial serial)
 
--- how many serial orders lead to these endings
+-- how many orders lead to these endings
+abbrev pub all_orders : List Reported → ℕ
+all_orders es = fold (λ n e. kept_number (n + e.orders)) 0 es
+
+-- how many serial orders lead to them
 abbrev pub serial_orders : List Reported → ℕ
 serial_orders es = fold (λ n e. kept_number (n + e.serial)) 0 es
 
@@ -62,15 +71,15 @@ abbrev pub serial_endings : List Reported → ℕ
 serial_endings es = count_by (λ e. nat_lt 0 e.serial) es
 
 -- the line on a limit that left orders out
-abbrev pub limit_text : Bool → ℕ → List ℕ
-limit_text is_whole limit = if is_whole then [] else codes "LIMIT " ++ (decimal limit ++ codes " REACHED\n")
+abbrev pub limit_text : Report → ℕ → List ℕ
+limit_text r limit = if r.is_whole && r.has_all_serial then [] else codes "LIMIT " ++ (decimal limit ++ codes " REACHED\n")
 
 -- the numbers of orders and endings
 abbrev pub totals_text : Report → List ℕ
 totals_text r =
     codes "ORDERS "
-    ++ (both_text r.is_whole r.orders (serial_orders r.endings)
-    ++ (codes "\nENDINGS " ++ (both_text r.is_whole (length r.endings) (serial_endings r.endings) ++ codes "\n")))
+    ++ (both_text r (all_orders r.endings) (serial_orders r.endings)
+    ++ (codes "\nENDINGS " ++ (both_text r (length r.endings) (serial_endings r.endings) ++ codes "\n")))
 
 -- ---- Endings
 
@@ -90,21 +99,21 @@ abbrev pub order_text : Plan → Order → List ℕ
 order_text p o = codes "ORDER" ++ (flat_map word_text (lines_along p o) ++ codes "\n")
 
 -- how many orders lead to an ending, and its mark
-abbrev pub heading_text : Bool → Reported → List ℕ
-heading_text is_whole e = codes " ORDERS " ++ (both_text is_whole e.orders e.serial ++ (mark_in e.ending ++ codes "\n"))
+abbrev pub heading_text : Report → Reported → List ℕ
+heading_text r e = codes " ORDERS " ++ (both_text r e.orders e.serial ++ (mark_in e.ending ++ codes "\n"))
 
 -- the ending of a number
-abbrev pub number_text : Bool → ℕ → Reported → List ℕ
-number_text is_whole k e = codes "ENDING " ++ (decimal k ++ heading_text is_whole e)
+abbrev pub number_text : Report → ℕ → Reported → List ℕ
+number_text r k e = codes "ENDING " ++ (decimal k ++ heading_text r e)
 
 -- its first order, and the parts that not each ending has
 abbrev pub ending_text : Plan → Parts → Reported → List ℕ
 ending_text p all e = order_text p e.order ++ flat_map (own_text all) (told_in e.ending)
 
 -- the endings from a number on
-unfoldable pub endings_text : Plan → Bool → Parts → ℕ → List Reported → List ℕ
-endings_text p is_whole all k [] = []
-endings_text p is_whole all k (e ∷ es) = number_text is_whole k e ++ (ending_text p all e ++ endings_text p is_whole all (k + 1) es)
+unfoldable pub endings_text : Plan → Report → Parts → ℕ → List Reported → List ℕ
+endings_text p r all k [] = []
+endings_text p r all k (e ∷ es) = number_text r k e ++ (ending_text p all e ++ endings_text p r all (k + 1) es)
 
 -- the parts that each ending has
 abbrev pub every_text : Parts → List ℕ
@@ -115,8 +124,8 @@ every_text (part ∷ parts) = codes "EVERY ENDING\n" ++ (part ++ flat_map (λ p.
 abbrev pub report_text : Planned → ℕ → Report → List ℕ
 report_text planned limit r =
     flat_map refused_text planned.refused
-    ++ (limit_text r.is_whole limit
-    ++ (totals_text r ++ (every_text (shared r.endings) ++ endings_text planned.plan r.is_whole (shared r.endings) 1 r.endings)))
+    ++ (limit_text r limit
+    ++ (totals_text r ++ (every_text (shared r.endings) ++ endings_text planned.plan r (shared r.endings) 1 r.endings)))
 
 -- ---- An order as a script
 
@@ -139,7 +148,7 @@ run_text p o = flat_map script_line p.definitions ++ (flat_map attach_line p.tas
 -- which ending a script leads to, and how many orders do
 abbrev pub title_text : Report → ℕ → Reported → List ℕ
 title_text r k e =
-    codes "* ENDING " ++ (decimal k ++ (codes " OF " ++ (count_text r.is_whole (length r.endings) ++ heading_text r.is_whole e)))
+    codes "* ENDING " ++ (decimal k ++ (codes " OF " ++ (count_text r.is_whole (length r.endings) ++ heading_text r e)))
 
 -- the first order of an ending as a script
 abbrev pub script_text : Plan → Report → ℕ → Reported → List ℕ

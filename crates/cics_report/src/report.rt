@@ -90,16 +90,16 @@ fn push_order(out: &mut Vec<u8>, plan: &Plan, order: &[usize]) -> Result<(), NoM
 // Appends the number of an ending, and how many orders lead to it.
 fn push_numbered(
     out: &mut Vec<u8>,
-    is_whole: bool,
+    report: &Report,
     number: u64,
     ending: &Ending,
 ) -> Result<(), NoMemory>
     ensures { OnOk result (out.new.items
-        ≡ out.old.items ++ number_text is_whole number ending.now) }
+        ≡ out.old.items ++ number_text report.now number ending.now) }
 {
     push_str(out, "ENDING ")?;
     push_number(out, number)?;
-    push_heading(out, is_whole, ending)
+    push_heading(out, report, ending)
 }
 
 // Appends the first order of an ending, and the parts that not each ending has.
@@ -125,11 +125,11 @@ fn push_endings(
     all: &[Record],
 ) -> Result<(), NoMemory>
     ensures { OnOk result (out.new.items ≡ out.old.items
-        ++ endings_text plan.now report.now.is_whole all.now 1 report.now.endings) }
+        ++ endings_text plan.now report.now all.now 1 report.now.endings) }
 {
     let endings = report.endings.as_slice();
     for i in 0..endings.len() {
-        push_numbered(out, report.is_whole, i as u64 + 1, &endings[i])?;
+        push_numbered(out, report, i as u64 + 1, &endings[i])?;
         push_ending(out, plan, all, &endings[i])?;
     }
     Ok(())
@@ -163,7 +163,7 @@ pub fn push_report(
 {
     let all = shared(*out.allocator(), report.endings.as_slice())?;
     push_refused_lines(out, planned.refused.as_slice())?;
-    push_limit(out, report.is_whole, limit)?;
+    push_limit(out, report, limit)?;
     push_totals(out, report)?;
     push_every(out, all.as_slice())?;
     push_endings(out, &planned.plan, report, all.as_slice())

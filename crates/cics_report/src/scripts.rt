@@ -72,8 +72,8 @@ fn push_title(
     push_str(out, "* ENDING ")?;
     push_number(out, number)?;
     push_str(out, " OF ")?;
-    push_count(out, report.is_whole, report.endings.len() as u64)?;
-    push_heading(out, report.is_whole, ending)
+    push_count(out, report.is_whole, report.endings.len() as u128)?;
+    push_heading(out, report, ending)
 }
 
 /// Appends the first order of the ending with this number, as a script. Returns whether there is
