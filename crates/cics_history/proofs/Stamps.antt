@@ -1,5 +1,5 @@
 -- The stamps of commands, stores and units tell them, whatever bytes follow.
-use Rattle.std.proofs.Common.{◌≡◌, ℕ, List, [], ◌∷◌, ◌++◌, refl, sym, ap, ◌∙◌, append_assoc, map, filter, arith}
+use Rattle.std.proofs.Common.{◌≡◌, ℕ, List, [], ◌++◌, ◌==◌, refl, sym, ap, ◌∙◌, append_assoc, map, filter, arith}
 use Rattle.cics_names.specs.Keyed.{Bytes, Map}
 use Rattle.cics_names.specs.Stamps.{Splits, number_stamp, text_stamp, list_stamp}
 use Rattle.cics_names.proofs.Stamps.{split_two, split_lists, splits_number, splits_text, splits_both, splits_list}
@@ -127,3 +127,31 @@ pub splits_count : (x y : EnqCount) (r s : List ℕ) → count_stamp x ++ r ≡ 
 splits_count x y r s e =
     let h = split_two text_stamp number_stamp splits_text splits_number x.value y.value x.count y.count r s e in
     (λ i. record { value = h.0 i; unit = 0; count = h.1 i }, h.2)
+
+-- the stamps of two units tell that they did the same, read the same for update, and own the same
+pub split_unit : (s t : UnitsState) (u v : ℕ) (r q : List ℕ) → unit_stamp s u ++ r ≡ unit_stamp t v ++ q
+    → (map (λ e. e.op) (done_by s.opening s.trace u) ≡ map (λ e. e.op) (done_by t.opening t.trace v))
+    × (map any_read (filter (λ x. x.unit == u) s.reads) ≡ map any_read (filter (λ x. x.unit == v) t.reads))
+    × (map any_count (filter (λ c. c.unit == u) s.counts) ≡ map any_count (filter (λ c. c.unit == v) t.counts))
+    × (r ≡ q)
+unfolding unit_stamp
+split_unit s t u v r q e =
+    let ops_s = list_stamp op_stamp (map (λ e. e.op) (done_by s.opening s.trace u)) in
+    let ops_t = list_stamp op_stamp (map (λ e. e.op) (done_by t.opening t.trace v)) in
+    let reads_s = list_stamp read_stamp (filter (λ x. x.unit == u) s.reads) in
+    let reads_t = list_stamp read_stamp (filter (λ x. x.unit == v) t.reads) in
+    let counts_s = list_stamp count_stamp (filter (λ c. c.unit == u) s.counts) in
+    let counts_t = list_stamp count_stamp (filter (λ c. c.unit == v) t.counts) in
+    let ops = splits_list op_stamp splits_op (map (λ e. e.op) (done_by s.opening s.trace u)) (map (λ e. e.op) (done_by t.opening t.trace v)) ((reads_s ++ counts_s) ++ r) ((reads_t ++ counts_t) ++ q)
+    (sym (append_assoc ops_s (reads_s ++ counts_s) r) ∙ e ∙ append_assoc ops_t (reads_t ++ counts_t) q) in
+    let reads = split_lists read_stamp read_stamp any_read any_read splits_read (filter (λ x. x.unit == u) s.reads) (filter (λ x. x.unit == v) t.reads) (counts_s ++ r) (counts_t ++ q)
+    (sym (append_assoc reads_s counts_s r) ∙ ops.1 ∙ append_assoc reads_t counts_t q) in
+    let counts = split_lists count_stamp count_stamp any_count any_count splits_count (filter (λ c. c.unit == u) s.counts) (filter (λ c. c.unit == v) t.counts) r q reads.1 in
+    (ops.0, reads.0, counts.0, counts.1)
+
+-- the stamps of what units share tell the store without the open units' changes, and the cursors
+pub split_shared : (s t : UnitsState) (r q : List ℕ) → shared_stamp s ++ r ≡ shared_stamp t ++ q
+    → (store_without_others s [] ≡ store_without_others t []) × (s.next ≡ t.next) × (r ≡ q)
+unfolding shared_stamp
+split_shared s t r q e =
+    split_two store_stamp (list_stamp place_stamp) splits_store (splits_list place_stamp splits_place) (store_without_others s []) (store_without_others t []) s.next t.next r q e
