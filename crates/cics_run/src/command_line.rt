@@ -74,8 +74,11 @@ T2 EXEC CICS READ FILE('ACCT') RIDFLD('0001') UPDATE
 T1 EXEC CICS SYNCPOINT ROLLBACK
 END";
 
-/// How many orders are followed at most, if the command line doesn't say.
-const ORDERS: u64 = 20_000;
+/// About how many states are followed, if the command line doesn't say.
+const STATES: u64 = 100_000;
+
+/// What the help says of that.
+const LIMIT: &str = "Follow about N states (100000)";
 
 /// What a command line asks for.
 ///
@@ -186,11 +189,10 @@ fn with_orders<'a>(
 ) -> Result<Command<'a>, AllocError> {
     let orders = "Print a report on every order of the tasks' lines instead";
     let told = "Tell endings apart by what tasks are answered too";
-    let limit = "Follow at most N orders (20000)";
     let ending = "Print the first order of ending N as a script";
     let command = with(runs, apart_from_runs(flag(alloc, "orders", orders)));
     let command = with(command, told_flag(flag(alloc, "told", told)));
-    let command = with(command, number(alloc, "limit", limit));
+    let command = with(command, number(alloc, "limit", LIMIT));
     with(command, number(alloc, "ending", ending))
 }
 
@@ -238,7 +240,7 @@ fn chosen(matches: &ArgMatches) -> Asked {
     if matches.get_flag("orders") {
         return Asked::Orders(Orders {
             told: matches.get_flag("told"),
-            limit: matches.get_one("limit").unwrap_or(ORDERS),
+            limit: matches.get_one("limit").unwrap_or(STATES),
             ending: matches.get_one("ending"),
         });
     }

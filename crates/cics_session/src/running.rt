@@ -70,7 +70,7 @@ pub struct Wanted {
 /// The options of a report on the orders in which a script's tasks may give their lines.
 ///
 /// - `told`: whether endings with different answers are different.
-/// - `limit`: how many orders are followed at most.
+/// - `limit`: about how many states of the region and its lanes are followed.
 /// - `ending`: the number of the ending to print as a script, if one is given.
 #[derive(Clone, Copy)]
 pub struct Orders {
