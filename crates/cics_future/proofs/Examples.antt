@@ -6,12 +6,15 @@ use Rattle.cics_names.specs.Keyed.{Bytes, is_same}
 use Rattle.cics_names.specs.declared.commands.Verb.TheVariants.{Enq}
 use Rattle.cics_history.specs.Openings.{nothing_defined}
 use Rattle.cics_history.specs.State.{EnqCount}
+use Rattle.cics_history.specs.Stamps.{unit_stamp, shared_stamp}
 use Rattle.cics_machine.specs.Machine.{Machine, Task, beginning_region}
 use Rattle.cics_machine.specs.Blockers.{unit_of}
 use Rattle.cics_machine.specs.Steps.{attached, issued}
 use Rattle.cics_machine.specs.Tasks.{own_unit, had_by}
+use Rattle.cics_machine.specs.Stamps.{task_stamp, region_stamp}
 use Rattle.cics_future.specs.Futures.{Own, own, own_by}
 use Rattle.cics_future.specs.Compared.{LookAlike}
+use Rattle.cics_future.proofs.Stamped.{stamps_tell}
 
 -- the labels T1, T2
 abbrev t1 : Bytes
@@ -59,6 +62,11 @@ either_order = record {
     by false true = refl
     by false false = refl
 
+-- they have one stamp, which doesn't tell the numbers of units
+one_stamp : region_stamp first ≡ region_stamp second
+unfolding region_stamp task_stamp unit_stamp shared_stamp
+one_stamp = refl
+
 -- T2 takes 1 and T1 takes 2: what T1 has counted differs
 abbrev crossed : Machine
 crossed = enq (enq began t2 1) t1 2
@@ -76,3 +84,7 @@ set_apart look = differ (first_value (own first t1).counts) (first_value (own cr
   where
     differ : (n k : ℕ) → n ≡ k → n ≡ 1 → k ≡ 2 → ⊥
     differ n k same a b = omega (arith, same, a, b)
+
+-- so it has another stamp
+other_stamp : region_stamp first ≡ region_stamp crossed → ⊥
+other_stamp same = set_apart (stamps_tell first crossed refl refl same)

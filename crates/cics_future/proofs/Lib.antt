@@ -6,4 +6,6 @@ pub mod Acting
 pub mod Answering
 pub mod Events
 pub mod Comparing
+pub mod Told
+pub mod Stamped
 mod Examples

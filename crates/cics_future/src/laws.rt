@@ -13,6 +13,7 @@ ghost use Rattle.cics_machine.specs.Steps.{attached, issued};
 ghost use Rattle.cics_machine.specs.Waking.{clock_set, woken, expired};
 ghost use Rattle.cics_machine.specs.Shutdown.{unless_down, shut_down};
 ghost use Rattle.cics_machine.specs.Blockers.{waiting_command, blocker_of};
+ghost use Rattle.cics_machine.specs.Stamps.{region_stamp};
 ghost use Rattle.cics_future.specs.Futures.{IsSteady, HaveSameFuture, AreSameSteps, unnumbered};
 ghost use Rattle.cics_future.specs.Compared.{LookAlike};
 
@@ -64,4 +65,20 @@ pub fn looks_tell_the_future()
     ensures alike { (m n : Machine) → IsSteady m → IsSteady n → LookAlike m n →
         HaveSameFuture m n }
     ensures itself { (m : Machine) → IsSteady m → HaveSameFuture m m }
+{}
+
+/// The stamp of a region tells its future, if the opening and the waiting commands are known.
+///
+/// - `looks`: two regions with one stamp look alike.
+/// - `future`: so they have the same future, if both are steady.
+/// - `stamps`: two regions that have the same future have one stamp.
+pub fn stamps_tell_the_future()
+    ensures looks { (m n : Machine) → m.units.opening ≡ n.units.opening →
+        map (λ w. w.command) m.waiting ≡ map (λ w. w.command) n.waiting →
+        region_stamp m ≡ region_stamp n → LookAlike m n }
+    ensures future { (m n : Machine) → IsSteady m → IsSteady n →
+        m.units.opening ≡ n.units.opening →
+        map (λ w. w.command) m.waiting ≡ map (λ w. w.command) n.waiting →
+        region_stamp m ≡ region_stamp n → HaveSameFuture m n }
+    ensures stamps { (m n : Machine) → HaveSameFuture m n → region_stamp m ≡ region_stamp n }
 {}

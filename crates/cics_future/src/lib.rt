@@ -7,4 +7,6 @@
 
 mod laws;
 
-pub use laws::{events_keep_the_future, futures_tell_the_same, looks_tell_the_future};
+pub use laws::{
+    events_keep_the_future, futures_tell_the_same, looks_tell_the_future, stamps_tell_the_future,
+};
