@@ -37,3 +37,4 @@ pub mod Elements
 pub mod FirstWaits
 pub mod Deadlines
 pub mod Blockers
+pub mod Stamps

@@ -1,15 +1,17 @@
 //! The browses of a task, by file.
 
-ghost use Rattle.std.specs.Prelude.{◌≡◌, [], OnOk, OnErr, IfOk};
+ghost use Rattle.std.specs.Prelude.{◌≡◌, ◌++◌, [], OnOk, OnErr, IfOk};
 ghost use Rattle.std.specs.Borrow.{sem};
 ghost use Rattle.std.specs.Option.{option_copied, option_copied_mut};
 ghost use Rattle.cics_names.specs.Keyed.{value_at, with_value, without};
+ghost use Rattle.cics_names.specs.Stamps.{list_stamp};
 ghost use Rattle.cics_machine.specs.Browses.{read_on, after_read_on};
 ghost use Rattle.cics_machine.specs.BrowseLoans.{LendsBrowse};
+ghost use Rattle.cics_machine.specs.Stamps.{browse_stamp};
 
 use cics_browse::{Browse, Browsed};
 use cics_ksds::File;
-use cics_names::{Name8, NoMemory, Record};
+use cics_names::{Name8, NoMemory, Record, stamp_number, stamp_text};
 use std::alloc::Global;
 use std::collections::BTreeMap;
 use std::marker::Model;
@@ -113,6 +115,21 @@ impl Browses {
         ensures { self.new ≡ without file.now self.old }
     {
         self.rows.remove(file);
+    }
+
+    /// Appends their stamp: of each, in the order of the names, its file's name and its position.
+    ///
+    /// Errors: `NoMemory`. Cost: O(browses).
+    pub fn stamp(&self, out: &mut Vec<u8>) -> Result<(), NoMemory>
+        ensures { OnOk result (out.new.items
+            ≡ out.old.items ++ list_stamp browse_stamp self.now) }
+    {
+        for (file, browse) in &self.rows {
+            stamp_number(out, 1)?;
+            stamp_text(out, &file.bytes())?;
+            browse.stamp(out)?;
+        }
+        stamp_number(out, 0)
     }
 
     /// Ends every browse. Takes no memory.
