@@ -15,28 +15,9 @@ use Rattle.cics_plans.specs.declared.plans.TaskPlan.{TaskPlan}
 use Rattle.cics_orders.specs.Giving.{State, attaching, after_line, ends_turn, counted, given_line, given_by, given, lanes, opened, unless_refused, with_task, initial_machine, initial_state}
 use Rattle.cics_orders.specs.declared.lanes.Lane.{Lane}
 use Rattle.cics_orders.proofs.Draining.{drained_rests}
+pub use Rattle.cics_orders.specs.Ways.{attaches_wait}
 
 -- ---- The start
-
--- an attach makes no command wait
-attach_waits : (m : Machine) (t : TaskPlan) → (with_task m t).waiting ≡ m.waiting
-unfolding with_task attaching
-attach_waits m t = by m.is_down (attach_refusal m t.label)
-  where
-    step : Bool → Option Refused → Machine
-    step down refusal =
-        let next : Stepped (Result (Unit {0}) Refused)
-        = if down then record { outcome = Err RegionDown; machine = m } else refused_or m refusal (record { outcome = tt; machine = with_new_task m t.label t.dtimout }) in
-        unless_refused m next.outcome next.machine
-
-    by : (down : Bool) (refusal : Option Refused) → (step down refusal).waiting ≡ m.waiting
-    by true refusal = refl
-    by false (Some e) = refl
-    by false None = refl
-
-pub attaches_wait : (m : Machine) (ts : List TaskPlan) → (fold with_task m ts).waiting ≡ m.waiting
-attaches_wait m [] = refl
-attaches_wait m (t ∷ ts) = attaches_wait (with_task m t) ts ∙ attach_waits m t
 
 -- if no command waits, nothing goes on by itself
 none_waits : (m : Machine) → m.waiting ≡ [] → IsAtRest m

@@ -1,3 +1,11 @@
 pub mod Ended
 pub mod Giving
 pub mod OrderLaws
+pub mod Stamps
+pub mod Same
+pub mod Seen
+pub mod SameSteps
+pub mod GivenWaits
+pub mod GivenLanes
+pub mod Ways
+pub mod SplitStates

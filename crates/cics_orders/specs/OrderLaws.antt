@@ -112,7 +112,7 @@ left_given (y ∷ ys) zero x ends at short =
 left_given (y ∷ ys) (suc l) x ends at short = omega (arith, left_given ys l x ends at short)
 
 -- the plan stays, whatever lane gives
-plan_stays : (s : State) (l : ℕ) → (given s l).plan ≡ s.plan
+pub plan_stays : (s : State) (l : ℕ) → (given s l).plan ≡ s.plan
 unfolding given
 plan_stays s l = by (slice_get s.lanes l)
   where
@@ -151,7 +151,7 @@ none_left m (x ∷ xs) l none = by (none_left m xs (suc l) (omega (arith, none))
 -- ---- The numbers of lanes that may give
 
 -- each element has it
-abbrev Each : {X : Type 0} → (X → Type 0) → List X → Type 0
+abbrev pub Each : {X : Type 0} → (X → Type 0) → List X → Type 0
 Each P [] = Unit {0}
 Each P (x ∷ xs) = P x × Each P xs
 
@@ -161,7 +161,7 @@ each_at P (x ∷ xs) (p, each) zero d short = p
 each_at P (x ∷ xs) (p, each) (suc k) d short = each_at P xs each k d (omega (arith, short))
 
 -- a number is that of a lane that may
-record May {X : Type 0} (may : X → Bool) (xs : List X) (k : ℕ) : Type 0 where
+pub record May {X : Type 0} (may : X → Bool) (xs : List X) (k : ℕ) : Type 0 where
   pub one : X
   pub at : slice_get xs k ≡ Some one
   pub does : may one ≡ true
@@ -175,7 +175,7 @@ front (x ∷ xs) zero y ys is =
     (ap Some same, rest)
 front (x ∷ xs) (suc k) y ys is = front xs k y ys is
 
-numbers_may : {X : Type 0} (may : X → Bool) (xs : List X) (k : ℕ) (ys : List X) → drop k xs ≡ ys → Each (May may xs) (numbered may k ys)
+pub numbers_may : {X : Type 0} (may : X → Bool) (xs : List X) (k : ℕ) (ys : List X) → drop k xs ≡ ys → Each (May may xs) (numbered may k ys)
 numbers_may may xs k [] is = tt
 numbers_may {X} may xs k (y ∷ ys) is = by (numbers_may may xs (suc k) ys (front xs k y ys is).1) (may y) refl
   where

@@ -1,3 +1,4 @@
 pub mod Firsts
 pub mod Defining
 pub mod Taking
+pub mod Proper

@@ -1,0 +1,254 @@
+-- Lanes keep their labels and lines, and tell which command each gave last.
+use Rattle.std.proofs.Common.{◌≡◌, ℕ, zero, suc, ◌+◌, ◌-◌, Bool, true, false, not, ◌&&◌, List, [], ◌∷◌, ◌++◌, map, Option, None, Some, Result, Ok, refl, ap, sym, ◌∙◌, subst, arith}
+use Rattle.std.specs.Prelude.{if◌then◌else◌, slice_get, slice_set, option_and_then}
+use Rattle.std.specs.List.{list_all}
+use Rattle.cics_names.specs.Keyed.{Bytes, is_same}
+use Rattle.cics_names.specs.KeyedLaws.{is_same-self, is_same-eq}
+use Rattle.cics_machine.specs.Machine.{Suspended, is_waiting}
+use Rattle.cics_machine.specs.declared.outcomes.Outcome.{Outcome}
+use Rattle.cics_machine.specs.declared.outcomes.Outcome.TheVariants.{Replied, Waiting, Abended, Ended}
+use Rattle.cics_script.specs.Lines.{line}
+use Rattle.cics_script.specs.declared.lines.Line.{Line}
+use Rattle.cics_script.specs.declared.faults.LineFault.{LineFault}
+use Rattle.cics_plans.specs.Taking.{NumberedLine, has_task}
+use Rattle.cics_plans.specs.Proper.{is_command_of, is_timing, has_own_lines, are_distinct, is_proper}
+use Rattle.cics_plans.proofs.Proper.{has_first, proper_parts}
+use Rattle.cics_plans.specs.declared.plans.Plan.{Plan}
+use Rattle.cics_plans.specs.declared.plans.TaskPlan.{TaskPlan}
+use Rattle.cics_orders.specs.Giving.{is_of, told_more, with_told, hearing, shut, with_given, fresh_lane, task_lane, initial_lanes}
+use Rattle.cics_orders.specs.declared.lanes.Lane.{Lane}
+use Rattle.cics_orders.specs.Stamps.{seen}
+use Rattle.cics_orders.specs.GivenWaits.{said, last_command, command_of, IsGiven, AreGiven}
+use Rattle.cics_orders.specs.Seen.{of_seen}
+
+-- a lane before its first line
+abbrev pub frame : Lane → Lane
+frame x = fresh_lane x.label x.lines
+
+-- a lane without what its task was told
+abbrev pub core : Lane → Lane
+core x = record x { told = []; has_ended = false; is_in_turn = false }
+
+-- ---- Whose lane it is
+
+frame_labels : (l : Option Bytes) (x : Lane) (y : Bytes) → is_of (record (frame x) { label = l }) y ≡ is_of (record x { label = l }) y
+frame_labels None x y = refl
+frame_labels (Some k) x y = refl
+
+of_frame : (x : Lane) (y : Bytes) → is_of (frame x) y ≡ is_of x y
+of_frame x y = frame_labels x.label x y
+
+core_labels : (l : Option Bytes) (x : Lane) (y : Bytes) → is_of (record (core x) { label = l }) y ≡ is_of (record x { label = l }) y
+core_labels None x y = refl
+core_labels (Some k) x y = refl
+
+of_core : (x : Lane) (y : Bytes) → is_of (core x) y ≡ is_of x y
+of_core x y = core_labels x.label x y
+
+given_labels : (l : Option Bytes) (x : Lane) (ends : Bool) (y : Bytes) → is_of (record (with_given x ends) { label = l }) y ≡ is_of (record x { label = l }) y
+given_labels None x ends y = refl
+given_labels (Some k) x ends y = refl
+
+of_given : (x : Lane) (ends : Bool) (y : Bytes) → is_of (with_given x ends) y ≡ is_of x y
+of_given x ends y = given_labels x.label x ends y
+
+-- ---- Hearing and the shutdown
+
+core_told : (xs : List Lane) (label : Bytes) (o : Outcome) → map core (with_told xs label o) ≡ map core xs
+core_told [] label o = refl
+core_told (x ∷ xs) label o = by (core_told xs label o) (is_of x label)
+  where
+    by : map core (with_told xs label o) ≡ map core xs → (b : Bool) → map core (if b then told_more x o ∷ xs else x ∷ with_told xs label o) ≡ core x ∷ map core xs
+    by rest true = refl
+    by rest false = ap (λ ys. core x ∷ ys) rest
+
+pub core_hearing : (xs : List Lane) (label : Bytes) (o : Outcome) → map core (hearing xs label o) ≡ map core xs
+core_hearing xs label (Replied reply) = core_told xs label (Replied reply)
+core_hearing xs label (Waiting holder) = refl
+core_hearing xs label (Abended code reply) = core_told xs label (Abended code reply)
+core_hearing xs label Ended = core_told xs label Ended
+
+pub core_shut : (xs : List Lane) → map core (map shut xs) ≡ map core xs
+core_shut [] = refl
+core_shut (x ∷ xs) = ap (λ ys. core x ∷ ys) (core_shut xs)
+
+-- lanes with one core gave the same
+commands_core : (xs : List Lane) (label : Bytes) → command_of (map core xs) label ≡ command_of xs label
+commands_core [] label = refl
+commands_core (x ∷ xs) label = λ i. if of_core x label i then last_command x else commands_core xs label i
+
+pub core_gave : (xs ys : List Lane) → map core xs ≡ map core ys → (label : Bytes) → command_of xs label ≡ command_of ys label
+core_gave xs ys same label = sym (commands_core xs label) ∙ ap (λ zs. command_of zs label) same ∙ commands_core ys label
+
+-- and have one frame
+frames_core : (xs : List Lane) → map frame (map core xs) ≡ map frame xs
+frames_core [] = refl
+frames_core (x ∷ xs) = ap (λ ys. frame x ∷ ys) (frames_core xs)
+
+pub core_frames : (xs ys : List Lane) → map core xs ≡ map core ys → map frame xs ≡ map frame ys
+core_frames xs ys same = sym (frames_core xs) ∙ ap (map frame) same ∙ frames_core ys
+
+-- lanes of which the same is seen gave the same
+module _ (told serial : Bool) where
+  commands_seen : (xs : List Lane) (label : Bytes) → command_of (map (seen told serial) xs) label ≡ command_of xs label
+  commands_seen [] label = refl
+  commands_seen (x ∷ xs) label = λ i. if of_seen told serial x label i then last_command x else commands_seen xs label i
+
+  pub seen_gave : (xs ys : List Lane) → map (seen told serial) xs ≡ map (seen told serial) ys → (label : Bytes) → command_of xs label ≡ command_of ys label
+  seen_gave xs ys same label = sym (commands_seen xs label) ∙ ap (λ zs. command_of zs label) same ∙ commands_seen ys label
+
+-- ---- Labels are apart, and lines are right
+
+-- no lane is of a label
+abbrev pub NoneOf : List Lane → Bytes → Type 0
+NoneOf [] label = Unit {0}
+NoneOf (x ∷ xs) label = (is_of x label ≡ false) × NoneOf xs label
+
+-- no two lanes are of one label
+abbrev pub AreApart : List Lane → Type 0
+AreApart [] = Unit {0}
+AreApart (x ∷ xs) = ((label : Bytes) → is_of x label ≡ true → NoneOf xs label) × AreApart xs
+
+-- a line of a task is a command of it, and one of the clock is none
+abbrev pub IsRight : Option Bytes → Result Line LineFault → Type 0
+IsRight None r = is_timing r ≡ true
+IsRight (Some label) r = is_command_of label r ≡ true
+
+-- each line of a lane is right
+abbrev pub HasRight : Lane → Type 0
+HasRight x = (k : ℕ) (next : NumberedLine) → slice_get x.lines k ≡ Some next → IsRight x.label (line next.1)
+
+abbrev pub AreRight : List Lane → Type 0
+AreRight [] = Unit {0}
+AreRight (x ∷ xs) = HasRight x × AreRight xs
+
+none_frames : (xs : List Lane) (label : Bytes) → NoneOf (map frame xs) label → NoneOf xs label
+none_frames [] label none = tt
+none_frames (x ∷ xs) label (first, none) = (sym (of_frame x label) ∙ first, none_frames xs label none)
+
+pub apart_frames : (xs : List Lane) → AreApart (map frame xs) → AreApart xs
+apart_frames [] apart = tt
+apart_frames (x ∷ xs) (first, apart) = (λ label own. none_frames xs label (first label (of_frame x label ∙ own)), apart_frames xs apart)
+
+pub right_frames : (xs : List Lane) → AreRight (map frame xs) → AreRight xs
+right_frames [] right = tt
+right_frames (x ∷ xs) (first, right) = (first, right_frames xs right)
+
+pub right_at : (xs : List Lane) (l : ℕ) (x : Lane) → AreRight xs → slice_get xs l ≡ Some x → HasRight x
+right_at [] l x right at = cc
+right_at (y ∷ ys) zero x (first, right) at = let same : y ≡ x = cc in subst HasRight same first
+right_at (y ∷ ys) (suc l) x (first, right) at = right_at ys l x right at
+
+none_at : (xs : List Lane) (l : ℕ) (x : Lane) (label : Bytes) → NoneOf xs label → slice_get xs l ≡ Some x → is_of x label ≡ false
+none_at [] l x label none at = cc
+none_at (y ∷ ys) zero x label (first, none) at = let same : y ≡ x = cc in subst (λ z. is_of z label ≡ false) same first
+none_at (y ∷ ys) (suc l) x label (first, none) at = none_at ys l x label none at
+
+-- ---- A lane gives
+
+pub frames_given : (xs : List Lane) (l : ℕ) (x : Lane) (ends : Bool) → slice_get xs l ≡ Some x → map frame (slice_set xs l (with_given x ends)) ≡ map frame xs
+frames_given [] l x ends at = refl
+frames_given (y ∷ ys) zero x ends at = let same : y ≡ x = cc in ap (λ z. frame z ∷ map frame ys) (sym same)
+frames_given (y ∷ ys) (suc l) x ends at = ap (λ zs. frame y ∷ zs) (frames_given ys l x ends at)
+
+-- other lanes gave what they gave
+other_given : (xs : List Lane) (l : ℕ) (x : Lane) (ends : Bool) (label : Bytes) → slice_get xs l ≡ Some x → is_of x label ≡ false →
+    command_of (slice_set xs l (with_given x ends)) label ≡ command_of xs label
+other_given [] l x ends label at other = refl
+other_given (y ∷ ys) zero x ends label at other =
+    let same : y ≡ x = cc in
+    ap (λ b. if b then last_command (with_given x ends) else command_of ys label) (of_given x ends label ∙ other)
+    ∙ sym (ap (λ b. if b then last_command y else command_of ys label) (ap (λ z. is_of z label) same ∙ other))
+other_given (y ∷ ys) (suc l) x ends label at other = ap (λ o. if is_of y label then last_command y else o) (other_given ys l x ends label at other)
+
+-- the lane of a label gave this line last
+own_given : (xs : List Lane) (l : ℕ) (x : Lane) (ends : Bool) (label : Bytes) → slice_get xs l ≡ Some x → is_of x label ≡ true → AreApart xs →
+    command_of (slice_set xs l (with_given x ends)) label ≡ last_command (with_given x ends)
+own_given [] l x ends label at own apart = cc
+own_given (y ∷ ys) zero x ends label at own apart =
+    ap (λ b. if b then last_command (with_given x ends) else command_of ys label) (of_given x ends label ∙ own)
+own_given (y ∷ ys) (suc l) x ends label at own (first, apart) = by (own_given ys l x ends label at own apart) (is_of y label) refl
+  where
+    by : command_of (slice_set ys l (with_given x ends)) label ≡ last_command (with_given x ends) → (b : Bool) → is_of y label ≡ b → (if b then last_command y else command_of (slice_set ys l (with_given x ends)) label) ≡ last_command (with_given x ends)
+    by rest true is = let clash : true ≡ false = sym own ∙ none_at ys l x label (first label is) at in cc
+    by rest false is = rest
+
+pub command_given : (xs : List Lane) (l : ℕ) (x : Lane) (ends : Bool) (label : Bytes) (next : NumberedLine) → slice_get xs l ≡ Some x → is_of x label ≡ true → AreApart xs →
+    slice_get x.lines x.given ≡ Some next → command_of (slice_set xs l (with_given x ends)) label ≡ said (line next.1)
+command_given xs l x ends label next at own apart is =
+    let back : x.given + 1 - 1 ≡ x.given = omega arith in
+    own_given xs l x ends label at own apart
+    ∙ (λ i. option_and_then (λ next. said (line next.1)) (slice_get x.lines (back i)))
+    ∙ ap (option_and_then (λ next. said (line next.1))) is
+
+-- the commands that wait are given by other lanes
+pub waits_given : (xs : List Lane) (l : ℕ) (x : Lane) (ends : Bool) → slice_get xs l ≡ Some x → (ws : List Suspended) →
+    ((label : Bytes) → is_of x label ≡ true → is_waiting ws label ≡ false) → AreGiven xs ws → AreGiven (slice_set xs l (with_given x ends)) ws
+waits_given xs l x ends at [] idle all = tt
+waits_given xs l x ends at (w ∷ ws) idle (first, all) =
+    (other_given xs l x ends w.label at (by (is_of x w.label) refl) ∙ first, waits_given xs l x ends at ws rest all)
+  where
+    apart : (b c : Bool) → (if b then true else c) ≡ false → c ≡ false
+    apart true c none = cc
+    apart false c none = none
+
+    by : (b : Bool) → is_of x w.label ≡ b → b ≡ false
+    by true own = let clash : true ≡ false = sym (ap (λ b. if b then true else is_waiting ws w.label) (is_same-self w.label)) ∙ idle w.label own in cc
+    by false other = refl
+
+    rest : (label : Bytes) → is_of x label ≡ true → is_waiting ws label ≡ false
+    rest label own = apart (is_same w.label label) (is_waiting ws label) (idle label own)
+
+-- ---- The start
+
+both_true : (a b : Bool) → (a && b) ≡ true → (a ≡ true) × (b ≡ true)
+both_true true true is = (refl, refl)
+both_true true false is = cc
+both_true false b is = cc
+
+all_at : {X : Type 0} (test : X → Bool) (xs : List X) (k : ℕ) (x : X) → list_all test xs ≡ true → slice_get xs k ≡ Some x → test x ≡ true
+all_at test [] k x all at = cc
+all_at test (y ∷ ys) zero x all at = let same : y ≡ x = cc in ap test (sym same) ∙ (both_true (test y) (list_all test ys) all).0
+all_at test (y ∷ ys) (suc k) x all at = all_at test ys k x (both_true (test y) (list_all test ys) all).1 at
+
+not_true : (b : Bool) → not b ≡ true → b ≡ false
+not_true true is = cc
+not_true false is = refl
+
+module _ (clock : List NumberedLine) where
+  abbrev all_lanes : List TaskPlan → List Lane
+  all_lanes ts = map task_lane ts ++ fresh_lane None clock ∷ []
+
+  none_have : (ts : List TaskPlan) (label : Bytes) → has_task ts label ≡ false → NoneOf (all_lanes ts) label
+  none_have [] label none = (refl, tt)
+  none_have (t ∷ ts) label none = by (none_have ts label) (is_same t.label label) refl (sym (has_first t ts label) ∙ none)
+    where
+      by : (has_task ts label ≡ false → NoneOf (all_lanes ts) label) → (b : Bool) → is_same t.label label ≡ b → (if b then true else has_task ts label) ≡ false → NoneOf (all_lanes (t ∷ ts)) label
+      by rest true is none = cc
+      by rest false is none = (is, rest none)
+
+  apart_tasks : (ts : List TaskPlan) → are_distinct ts ≡ true → AreApart (all_lanes ts)
+  apart_tasks [] distinct = (λ label own. tt, tt)
+  apart_tasks (t ∷ ts) distinct =
+      let parts = both_true (not (has_task ts t.label)) (are_distinct ts) distinct in
+      let none : has_task ts t.label ≡ false = not_true (has_task ts t.label) parts.0 in
+      (λ label own. none_have ts label (ap (has_task ts) (sym (is_same-eq t.label label own)) ∙ none), apart_tasks ts parts.1)
+
+  right_tasks : (ts : List TaskPlan) → list_all has_own_lines ts ≡ true → list_all (λ next. is_timing (line next.1)) clock ≡ true → AreRight (all_lanes ts)
+  right_tasks [] own times = (λ k next at. all_at (λ next. is_timing (line next.1)) clock k next times at, tt)
+  right_tasks (t ∷ ts) own times =
+      let parts = both_true (has_own_lines t) (list_all has_own_lines ts) own in
+      (λ k next at. all_at (λ next. is_command_of t.label (line next.1)) t.lines k next parts.0 at, right_tasks ts parts.1 times)
+
+pub apart_initial : (p : Plan) → is_proper p ≡ true → AreApart (initial_lanes p)
+apart_initial p proper = apart_tasks p.clock p.tasks (proper_parts p proper).distinct
+
+pub right_initial : (p : Plan) → is_proper p ≡ true → AreRight (initial_lanes p)
+right_initial p proper = right_tasks p.clock p.tasks (proper_parts p proper).own (proper_parts p proper).clock
+
+frames_tasks : (clock : List NumberedLine) (ts : List TaskPlan) → map frame (map task_lane ts ++ fresh_lane None clock ∷ []) ≡ map task_lane ts ++ fresh_lane None clock ∷ []
+frames_tasks clock [] = refl
+frames_tasks clock (t ∷ ts) = ap (λ xs. task_lane t ∷ xs) (frames_tasks clock ts)
+
+pub frames_initial : (p : Plan) → map frame (initial_lanes p) ≡ initial_lanes p
+frames_initial p = frames_tasks p.clock p.tasks
