@@ -1,2 +1,5 @@
 pub mod Givers
 pub mod Parts
+pub mod Regrouping
+pub mod Sublists
+pub mod Ways
