@@ -3,3 +3,4 @@ pub mod Parts
 pub mod Regrouping
 pub mod Sublists
 pub mod Ways
+pub mod Leveling

@@ -148,7 +148,7 @@ module _ {S : Type 0} (lanes : Lanes S) (breaks : S → ℕ → Bool) (b : Bool)
       by on false is =
           ap (λ c. flat_map (longer lanes breaks b s) (if c then [] ∷ [] else led_by (λ l. followed lanes breaks b n (lanes.given s l)) (lanes_of lanes breaks b s))) is ∙ on
 
-  each_lane : (x : S) → Each (λ l. IsOneOf l (lanes.givers x 0)) (lanes_of lanes breaks b x)
+  pub each_lane : (x : S) → Each (λ l. IsOneOf l (lanes.givers x 0)) (lanes_of lanes breaks b x)
   each_lane x = by b
     where
       by : (c : Bool) → Each (λ l. IsOneOf l (lanes.givers x 0)) (if c then filter (λ l. not (breaks x l)) (lanes.givers x 0) else lanes.givers x 0)
