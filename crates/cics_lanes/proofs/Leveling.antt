@@ -9,7 +9,7 @@ use Rattle.cics_names.specs.Keyed.{Bytes}
 use Rattle.cics_lanes.specs.Orders.{Order, Lanes, IsOneOf, IsWay, AreStampedAlike, after, AreAmong}
 use Rattle.cics_lanes.specs.Endings.{Parts, kept_number}
 use Rattle.cics_lanes.specs.Groups.{added_all}
-use Rattle.cics_lanes.specs.Levels.{followed, lanes_of, is_none_left, led_joined, entry, spread, level}
+use Rattle.cics_lanes.specs.Levels.{followed, lanes_of, is_none_left, led_joined, entry, spread, level, IsLevel, IsNext}
 use Rattle.cics_lanes.specs.declared.levels.Led.{Led}
 use Rattle.cics_lanes.proofs.Regrouping.{AreLaws, Each, Leads, keys, merged, regrouped, each_added_all}
 use Rattle.cics_lanes.proofs.Sublists.{among_all, among_trans, among_flat_map, among_filter, some_groups}
@@ -153,38 +153,30 @@ module _ {S : Type 0} (lanes : Lanes S) (breaks : S → ℕ → Bool) (stamp : B
       (map (λ o. entry lanes breaks stamp b o 1 (after lanes s o)) os) [] [] tt (are_entries os ways)
       ∙ ap (added_all bytes_eq led_joined []) (spread_all os)
 
-  -- a level that is searched: the grouping of some of the orders to be followed, of all if it is whole
-  pub record IsLevel (n : ℕ) (is_whole : Bool) (es : List (Bytes × Led)) : Type 0 where
-    pub orders : List Order
-    pub among : AreAmong orders (followed lanes breaks b n s)
-    pub groups : es ≡ level lanes breaks stamp b s orders
-    pub whole : is_whole ≡ true → orders ≡ followed lanes breaks b n s
-
-  pub first_level : IsLevel 0 true (entry lanes breaks stamp b [] 1 s ∷ [])
-  first_level = record { orders = [] ∷ []; among = inr ([], refl, refl); groups = refl; whole = λ _. refl }
+  pub first_level : (w : Bool) (es : List (Bytes × Led)) → es ≡ entry lanes breaks stamp b [] 1 s ∷ [] → IsLevel lanes breaks stamp b s 0 w es
+  first_level w es is = record { orders = [] ∷ []; among = inr ([], refl, refl); groups = is; whole = λ _. refl }
 
   -- the entries that are followed of a level, and the next one
-  pub level_on : (n : ℕ) (w v : Bool) (es some next : List (Bytes × Led)) → IsLevel n w es → AreAmong some es → (v ≡ true → (w ≡ true) × (some ≡ es)) →
-      next ≡ added_all bytes_eq led_joined [] (flat_map (spread lanes breaks stamp b s) some) → IsLevel (suc n) v next
-  level_on n w v es some next is among whole made = by v refl
+  pub level_on : (n : ℕ) (w v : Bool) (es next : List (Bytes × Led)) → IsLevel lanes breaks stamp b s n w es → IsNext lanes breaks stamp b s w v es next → IsLevel lanes breaks stamp b s (suc n) v next
+  level_on n w v es next is on = by v refl
     where
       -- the next level of some of the orders
-      of_some : (os : List Order) → AreAmong os is.orders → some ≡ level lanes breaks stamp b s os → (v ≡ true → os ≡ followed lanes breaks b n s) → IsLevel (suc n) v next
+      of_some : (os : List Order) → AreAmong os is.orders → on.some ≡ level lanes breaks stamp b s os → (v ≡ true → os ≡ followed lanes breaks b n s) → IsLevel lanes breaks stamp b s (suc n) v next
       of_some os less groups all =
           let fewer = among_trans os is.orders (followed lanes breaks b n s) less is.among in
           record {
             orders = flat_map (longer lanes breaks b s) os;
             among = subst (AreAmong (flat_map (longer lanes breaks b s) os)) (grows lanes breaks b n s)
                 (among_flat_map (longer lanes breaks b s) os (followed lanes breaks b n s) fewer);
-            groups = made ∙ ap (λ es. added_all bytes_eq led_joined [] (flat_map (spread lanes breaks stamp b s) es)) groups
+            groups = on.leads ∙ ap (λ es. added_all bytes_eq led_joined [] (flat_map (spread lanes breaks stamp b s) es)) groups
                 ∙ next_level os (each_among (IsWay lanes s) os (followed lanes breaks b n s) fewer (are_ways lanes breaks b n s));
             whole = λ at. ap (flat_map (longer lanes breaks b s)) (all at) ∙ grows lanes breaks b n s;
           }
 
-      by : (c : Bool) → v ≡ c → IsLevel (suc n) v next
-      by true at = of_some is.orders (among_all is.orders) ((whole at).1 ∙ is.groups) (λ _. is.whole (whole at).0)
+      by : (c : Bool) → v ≡ c → IsLevel lanes breaks stamp b s (suc n) v next
+      by true at = of_some is.orders (among_all is.orders) ((on.whole at).1 ∙ is.groups) (λ _. is.whole (on.whole at).0)
       by false at =
-          let found = some_groups bytes_eq led_joined led_laws (map (λ o. entry lanes breaks stamp b o 1 (after lanes s o)) is.orders) some (subst (AreAmong some) is.groups among) in
+          let found = some_groups bytes_eq led_joined led_laws (map (λ o. entry lanes breaks stamp b o 1 (after lanes s o)) is.orders) on.some (subst (AreAmong on.some) is.groups on.among) in
           of_some (filter (λ o. found.0 (stamp b (after lanes s o))) is.orders) (among_filter (λ o. found.0 (stamp b (after lanes s o))) is.orders)
           (found.1 ∙ ap (added_all bytes_eq led_joined []) (filter_map_both (λ o. entry lanes breaks stamp b o 1 (after lanes s o)) (λ e. found.0 e.0) is.orders))
           (λ so. absurd (true≢false (sym so ∙ at)))

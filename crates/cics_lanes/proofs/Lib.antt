@@ -4,3 +4,7 @@ pub mod Regrouping
 pub mod Sublists
 pub mod Ways
 pub mod Leveling
+pub mod Adding
+pub mod Following
+pub mod Tallying
+pub mod Reporting

@@ -1,11 +1,13 @@
 -- The levels of a search: the states after orders of so many lines, states of one stamp once.
 use Rattle.std.specs.Prelude.{◌≡◌, ℕ, zero, suc, ◌+◌, Bool, true, false, not, if◌then◌else◌, List, [], ◌∷◌, ◌++◌, map, filter}
+use Rattle.std.specs.List.{flat_map}
 use Rattle.cics_names.specs.Keyed.{Bytes}
 use Rattle.cics_lanes.specs.Orders.{Order, Lanes, after, led_by, AreAmong}
 use Rattle.cics_lanes.specs.Endings.{Parts, kept_number}
 use Rattle.cics_lanes.specs.Groups.{added_all}
 use Rattle.std.specs.Str.{bytes_eq}
 use Rattle.cics_lanes.specs.declared.levels.Led.{Led}
+use Rattle.cics_lanes.specs.declared.endings.Tally.{Tally}
 
 -- no lane is left
 abbrev pub is_none_left : List ℕ → Bool
@@ -32,13 +34,38 @@ abbrev pub entry : {S : Type 0} → Lanes S → (S → ℕ → Bool) → (Bool �
 entry lanes breaks stamp b o n x =
     (stamp b x, record { first = o; lanes = lanes_of lanes breaks b x; has_ended = is_none_left (lanes.givers x 0); count = n })
 
--- the entries of the next level that an entry leads to, from the start `s`
+-- the entries of the next level that the lanes of a state lead to, from the start `s`
+abbrev pub led_on : {S : Type 0} → Lanes S → (S → ℕ → Bool) → (Bool → S → Bytes) → Bool → S → Led → List (Bytes × Led)
+led_on lanes breaks stamp b s led =
+    map (λ l. entry lanes breaks stamp b (led.first ++ l ∷ []) led.count (lanes.given (after lanes s led.first) l)) led.lanes
+
+-- those that an entry leads to: itself if no lane may give
 abbrev pub spread : {S : Type 0} → Lanes S → (S → ℕ → Bool) → (Bool → S → Bytes) → Bool → S → Bytes × Led → List (Bytes × Led)
-spread lanes breaks stamp b s e =
-    if e.1.has_ended then e ∷ []
-    else map (λ l. entry lanes breaks stamp b (e.1.first ++ l ∷ []) e.1.count (lanes.given (after lanes s e.1.first) l)) e.1.lanes
+spread lanes breaks stamp b s e = if e.1.has_ended then e ∷ [] else led_on lanes breaks stamp b s e.1
 
 -- a level: the entries of orders from the start `s`, each counted once
 abbrev pub level : {S : Type 0} → Lanes S → (S → ℕ → Bool) → (Bool → S → Bytes) → Bool → S → List Order → List (Bytes × Led)
 level lanes breaks stamp b s os =
     added_all bytes_eq led_joined [] (map (λ o. entry lanes breaks stamp b o 1 (after lanes s o)) os)
+
+-- A level that is searched: some of the orders to be followed lead to its states, and all if the
+-- search is whole.
+pub record IsLevel {S : Type 0} (lanes : Lanes S) (breaks : S → ℕ → Bool) (stamp : Bool → S → Bytes) (b : Bool) (s : S) (n : ℕ) (is_whole : Bool) (es : List (Bytes × Led)) : Type 0 where
+  pub orders : List Order
+  pub among : AreAmong orders (followed lanes breaks b n s)
+  pub groups : es ≡ level lanes breaks stamp b s orders
+  pub whole : is_whole ≡ true → orders ≡ followed lanes breaks b n s
+
+-- Some entries of a level are followed, and all if the search is whole after it.
+pub record IsNext {S : Type 0} (lanes : Lanes S) (breaks : S → ℕ → Bool) (stamp : Bool → S → Bytes) (b : Bool) (s : S) (was_whole is_whole : Bool) (es next : List (Bytes × Led)) : Type 0 where
+  pub some : List (Bytes × Led)
+  pub among : AreAmong some es
+  pub whole : is_whole ≡ true → (was_whole ≡ true) × (some ≡ es)
+  pub leads : next ≡ added_all bytes_eq led_joined [] (flat_map (spread lanes breaks stamp b s) some)
+
+-- what an entry tells: the parts of its ending, and how many orders or serial orders lead there
+abbrev pub told : {S : Type 0} → Lanes S → (S → Parts) → Bool → S → Bytes × Led → Parts × Tally
+told lanes ending b s e = (
+  ending (after lanes s e.1.first),
+  record { order = e.1.first; orders = if b then 0 else e.1.count; serial = if b then e.1.count else 0 },
+)

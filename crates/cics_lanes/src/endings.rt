@@ -1,6 +1,6 @@
 //! Gathers the endings that orders lead to, each once.
 
-ghost use Rattle.std.specs.Prelude.{◌≡◌, map, IfOk};
+ghost use Rattle.std.specs.Prelude.{◌≡◌, if◌then◌else◌, map, IfOk};
 ghost use Rattle.cics_lanes.specs.Endings.{are_same};
 ghost use Rattle.cics_lanes.specs.Tallies.{tally_joined, ending_of};
 
@@ -155,6 +155,22 @@ pub(crate) struct Tally {
     pub(crate) order: Items<usize>,
     pub(crate) orders: u128,
     pub(crate) serial: u128,
+}
+
+impl Tally {
+    /// Returns the tally of so many orders, or of serial ones if `is_serial`.
+    pub(crate) fn new(order: Items<usize>, count: u128, is_serial: bool) -> Tally
+        ensures order { result.order ≡ order }
+        ensures orders { result.orders ≡ (if is_serial then 0 else count) }
+        ensures serial { result.serial ≡ (if is_serial then count else 0) }
+    {
+        let (orders, serial) = if is_serial { (0, count) } else { (count, 0) };
+        Tally {
+            order,
+            orders,
+            serial,
+        }
+    }
 }
 
 impl Join for Tally {

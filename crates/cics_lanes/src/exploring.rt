@@ -1,11 +1,13 @@
 //! Follows orders level by level, and counts those that lead to each ending.
 
-ghost use Rattle.std.specs.Prelude.{◌≡◌, [], ◌∷◌, ◌++◌, true, false, List, IfOk, OnOk};
-ghost use Rattle.std.specs.List.{flat_map};
-ghost use Rattle.cics_lanes.specs.Groups.{added_all};
-ghost use Rattle.cics_lanes.specs.Levels.{entry, spread};
-ghost use Rattle.cics_lanes.specs.Reports.{IsReport};
+ghost use Rattle.std.specs.Prelude.{◌≡◌, [], ◌∷◌, ◌++◌, true, map, IfOk, OnOk};
 ghost use Rattle.std.specs.Str.{bytes_eq};
+ghost use Rattle.cics_lanes.specs.Endings.{are_same};
+ghost use Rattle.cics_lanes.specs.Groups.{added_all};
+ghost use Rattle.cics_lanes.specs.Levels.{led_joined, led_on, spread, told};
+ghost use Rattle.cics_lanes.specs.Levels.{IsLevel, IsNext};
+ghost use Rattle.cics_lanes.specs.Tallies.{tally_joined};
+ghost use Rattle.cics_lanes.specs.Reports.{IsReport};
 
 use crate::endings::{Ending, Met, Parts, Tally, endings_of};
 use crate::groups::add;
@@ -63,27 +65,40 @@ fn with_lane(alloc: Global, order: &[usize], lane: usize) -> Result<Items<usize>
 }
 
 impl Search {
-    // Returns a search that has followed nothing yet.
-    fn new(alloc: Global, is_serial: bool, limit: u64, lines: usize) -> Search {
+    // Returns a search that has followed nothing yet. Orders have so many lines at most.
+    fn new(alloc: Global, is_serial: bool, limit: u64, lines: usize) -> Search
+        ensures { result.is_serial ≡ is_serial }
+    {
         Search {
             alloc,
             is_serial,
             limit,
-            share: (limit / (lines as u64).max(1)).max(1),
+            share: (limit / (lines as u64).saturating_add(1)).max(1),
             followed: 0,
             is_whole: true,
         }
     }
 
-    // Returns whether only some states are followed of a level that has so many.
+    // Returns whether the limit leaves only some states of a level that has so many.
     fn is_over(&self, count: usize) -> bool {
         self.followed.saturating_add(count as u64) > self.limit
     }
 
     // Follows the lanes of a state: adds the states that they lead to to the next level.
-    fn follow<W: Walk>(&self, walk: &mut W, led: &Led, next: &mut Level) -> Result<(), NoMemory> {
-        for i in 0..led.lanes.len() {
-            let lane = led.lanes.as_slice()[i];
+    fn follow<W: Walk>(
+        &self,
+        walk: &mut W,
+        led: &Led,
+        next: &mut Level,
+    ) -> Result<(), NoMemory>
+        ensures next { OnOk result (next.new.entries ≡ added_all bytes_eq led_joined
+            next.old.entries (led_on W.lanes W.breaks W.stamp self.now.is_serial
+                (W.start walk.old) led.now)) }
+        ensures start { OnOk result (W.start walk.new ≡ W.start walk.old) }
+    {
+        let lanes = led.lanes.as_slice();
+        for i in 0..lanes.len() {
+            let lane = lanes[i];
             go_to(walk, led.first.as_slice())?;
             walk.give(lane)?;
             let first = with_lane(self.alloc, led.first.as_slice(), lane)?;
@@ -94,28 +109,59 @@ impl Search {
         Ok(())
     }
 
+    // Follows an entry of a level: adds what it leads to to the next level.
+    fn step<W: Walk>(
+        &mut self,
+        walk: &mut W,
+        stamp: Stamp,
+        led: Led,
+        next: &mut Level,
+    ) -> Result<(), NoMemory>
+        ensures next { OnOk result (next.new.entries ≡ added_all bytes_eq led_joined
+            next.old.entries (spread W.lanes W.breaks W.stamp self.old.is_serial
+                (W.start walk.old) (stamp, led))) }
+        ensures start { OnOk result (W.start walk.new ≡ W.start walk.old) }
+        ensures serial { self.new.is_serial ≡ self.old.is_serial }
+        ensures whole { self.new.is_whole ≡ self.old.is_whole }
+    {
+        if led.has_ended {
+            return add(next, stamp, led);
+        }
+        self.followed = self.followed.saturating_add(1);
+        self.follow(walk, &led, next)
+    }
+
     // Follows the states of a level, or some of them. Returns the next level.
-    fn next<W: Walk>(&mut self, walk: &mut W, level: Level) -> Result<Level, NoMemory> {
+    fn next<W: Walk>(&mut self, walk: &mut W, level: Level) -> Result<Level, NoMemory>
+        ensures next { IfOk result (λ next. IsNext W.lanes W.breaks W.stamp self.old.is_serial
+            (W.start walk.old) self.old.is_whole self.new.is_whole level.entries next.entries) }
+        ensures start { OnOk result (W.start walk.new ≡ W.start walk.old) }
+        ensures serial { OnOk result (self.new.is_serial ≡ self.old.is_serial) }
+    {
         let count = level.len();
         let is_over = self.is_over(count);
         let mut next = IndexMap::new(self.alloc);
-        let mut at = 0;
+        let mut at = 0usize;
         for (stamp, led) in level {
-            if led.has_ended {
-                add(&mut next, stamp, led)?;
-            } else if is_over && !is_kept(at, self.share, count) {
-                self.is_whole = false;
+            let is_followed = led.has_ended || !is_over || is_kept(at, self.share, count);
+            at = at.saturating_add(1);
+            if is_followed {
+                self.step(walk, stamp, led, &mut next)?;
             } else {
-                self.followed = self.followed.saturating_add(1);
-                self.follow(walk, &led, &mut next)?;
+                self.is_whole = false;
             }
-            at += 1;
         }
         Ok(next)
     }
 
-    // Follows the orders from the start of a walk. Returns the last level.
-    fn run<W: Walk>(&mut self, walk: &mut W, lines: usize) -> Result<Level, NoMemory> {
+    // Follows orders from the start of a walk. Returns the level of the states after so many
+    // lines.
+    fn run<W: Walk>(&mut self, walk: &mut W, lines: usize) -> Result<Level, NoMemory>
+        ensures level { IfOk result (λ level. IsLevel W.lanes W.breaks W.stamp self.old.is_serial
+            (W.start walk.old) lines self.new.is_whole level.entries) }
+        ensures start { OnOk result (W.start walk.new ≡ W.start walk.old) }
+        ensures serial { OnOk result (self.new.is_serial ≡ self.old.is_serial) }
+    {
         walk.restart()?;
         let (stamp, led) = entry(self.alloc, walk, self.is_serial, Items::new(self.alloc))?;
         let mut level = IndexMap::new(self.alloc);
@@ -127,27 +173,33 @@ impl Search {
     }
 
     // Counts the orders of a level for the endings that they lead to.
-    fn tell<W: Walk>(&self, walk: &mut W, level: Level, met: &mut Met) -> Result<(), NoMemory> {
+    fn tell<W: Walk>(&self, walk: &mut W, level: Level, met: &mut Met) -> Result<(), NoMemory>
+        ensures met { OnOk result (met.new.entries ≡ added_all are_same tally_joined
+            met.old.entries (map (told W.lanes W.ending self.now.is_serial (W.start walk.old))
+                level.entries)) }
+        ensures start { OnOk result (W.start walk.new ≡ W.start walk.old) }
+    {
         for (_, led) in level {
             go_to(walk, led.first.as_slice())?;
             let parts = Parts::new(walk.parts()?);
-            let (orders, serial) = if self.is_serial {
-                (0, led.count)
-            } else {
-                (led.count, 0)
-            };
-            let tally = Tally {
-                order: led.first,
-                orders,
-                serial,
-            };
-            add(met, parts, tally)?;
+            add(met, parts, Tally::new(led.first, led.count, self.is_serial))?;
         }
         Ok(())
     }
 }
 
 /// Follows the orders from the start of a walk. Returns the endings that they lead to.
+///
+/// States of one stamp are followed once, by the first order that leads there, and the number of
+/// orders is kept. Each ending stands once, with the first order that leads to it, and how many
+/// orders and serial orders do. Serial orders are followed by themselves.
+///
+/// Once more than `limit` states would be followed, only some states of each level are. Then the
+/// report isn't whole: its endings are those of some orders, and numbers are lower bounds.
+///
+/// Errors: `NoMemory`.
+///
+/// Cost: O(states * lanes * lines) lines that are given, and as many stamps as states and lanes.
 pub fn explore<W: Walk>(alloc: Global, walk: &mut W, limit: u64) -> Result<Report, NoMemory>
     ensures { IfOk result (λ report. IsReport W.lanes W.ending W.serial
         (W.most (W.start walk.old)) (W.start walk.old) report) }

@@ -1,0 +1,22 @@
+use Rattle.std.proofs.Common.{◌≡◌, List, []}
+use Rattle.std.specs.List.{flat_map}
+use Rattle.std.specs.Str.{bytes_eq}
+use Rattle.cics_names.specs.Keyed.{Bytes}
+use Rattle.cics_lanes.specs.Groups.{added_all}
+use Rattle.cics_lanes.specs.Levels.{led_joined, spread}
+use Rattle.cics_lanes.specs.declared.levels.Led.{Led}
+use Rattle.cics_lanes.proofs.Following.{IsPart}
+use Rattle.cics_lanes.proofs.exploring.Search.next.Given as goal
+
+-- the states that some of the entries so far lead to are added
+abbrev pub invariant-loop-stamp : goal.invariant-loop-stamp
+invariant-loop-stamp g l =
+    let w = g.W.Walk in
+    let s = w.start l.fn.walk in
+    record {
+      start : w.start l.walk ≡ s;
+      serial : l.self.is_serial ≡ l.fn.self.is_serial;
+      some : List (Bytes × Led);
+      part : IsPart l.fn.self.is_whole l.self.is_whole l.fn.level.entries l.stamp-iterator some;
+      next : l.next.entries ≡ added_all bytes_eq led_joined [] (flat_map (spread w.lanes w.breaks w.stamp l.fn.self.is_serial s) some);
+    }

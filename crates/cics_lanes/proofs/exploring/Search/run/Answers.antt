@@ -1,0 +1,43 @@
+use Rattle.std.proofs.Common.{◌≡◌, ◌∙◌, suc, ◌+◌, ap, refl, subst, arith, Bool, ℕ, [], ◌∷◌, List}
+use Rattle.std.specs.Str.{bytes_eq}
+use Rattle.cics_names.specs.Keyed.{Bytes}
+use Rattle.cics_lanes.specs.Groups.{added}
+use Rattle.cics_lanes.specs.Levels.{led_joined, entry, IsLevel, IsNext}
+use Rattle.cics_lanes.specs.declared.levels.Led.{Led}
+use Rattle.cics_lanes.proofs.Leveling.{first_level, level_on}
+use Rattle.cics_lanes.proofs.exploring.Search.run.Goals as goal
+
+-- the start is the first level
+pub loop-init : goal.loop-init
+loop-init g c =
+    let w = g.W.Walk in
+    let s = w.start c.args.walk.now in
+    let b = c.args.self.now.is_serial in
+    let made = c.in_ok-stamp.ensures ∙ (λ i. entry w.lanes w.breaks w.stamp b (c.new.ensures i) 1 (c.in_ok-restart.ensures i)) in
+    record {
+      start = ap w.start c.in_ok-restart.ensures ∙ w.start_is_start c.args.walk.now;
+      serial = refl;
+      level = first_level w.lanes w.breaks w.stamp w.ending b s (w.stamps_tell b c.args.walk.now) c.args.self.now.is_whole c.add.new.met.entries
+          (c.in_ok-add.ensures ∙ ap (λ (es : List (Bytes × Led)). added bytes_eq led_joined es c.in_ok-stamp.stamp c.in_ok-stamp.led) c.new-level.ensures.empty
+          ∙ ap (λ (e : Bytes × Led). e ∷ []) made);
+    }
+
+-- another level is followed
+pub loop-preserved : goal.loop-preserved
+loop-preserved g c =
+    let w = g.W.Walk in
+    let s = w.start c.args.walk.now in
+    let b = c.args.self.now.is_serial in
+    let inv = c.loop.invariant in
+    let step = c.in_ok-level.ensures in
+    let next : IsNext w.lanes w.breaks w.stamp b s c.loop.self.is_whole c.next.new.self.is_whole c.loop.level.entries c.in_ok-level.level.entries
+    = subst (λ t. IsNext w.lanes w.breaks w.stamp b t c.loop.self.is_whole c.next.new.self.is_whole c.loop.level.entries c.in_ok-level.level.entries) inv.start
+        (subst (λ (v : Bool). IsNext w.lanes w.breaks w.stamp v (w.start c.loop.walk) c.loop.self.is_whole c.next.new.self.is_whole c.loop.level.entries c.in_ok-level.level.entries) inv.serial step.next) in
+    let one : suc c.loop.counter ≡ c.loop.counter + 1 = omega arith in
+    record {
+      start = step.start ∙ inv.start;
+      serial = step.serial ∙ inv.serial;
+      level = subst (λ (n : ℕ). IsLevel w.lanes w.breaks w.stamp b s n c.next.new.self.is_whole c.in_ok-level.level.entries) one
+          (level_on w.lanes w.breaks w.stamp w.ending b s (w.stamps_tell b c.args.walk.now) c.loop.counter c.loop.self.is_whole c.next.new.self.is_whole
+          c.loop.level.entries c.in_ok-level.level.entries inv.level next);
+    }
