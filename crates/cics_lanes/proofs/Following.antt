@@ -1,5 +1,5 @@
 -- A state and a level are followed, entry by entry.
-use Rattle.std.proofs.Common.{◌≡◌, ◌<◌, ℕ, suc, ◌+◌, Bool, true, false, if◌then◌else◌, List, [], ◌∷◌, ◌++◌, map, length, take, get_or, inl, inr, refl, ap, sym, ◌∙◌, append-nil, append_assoc, subst}
+use Rattle.std.proofs.Common.{◌≡◌, ◌<◌, ℕ, ◌+◌, Bool, true, false, if◌then◌else◌, List, [], ◌∷◌, ◌++◌, map, length, take, get_or, inl, inr, refl, ap, sym, ◌∙◌, append-nil, append_assoc, subst}
 use Rattle.std.specs.List.{flat_map}
 use Rattle.std.specs.Str.{bytes_eq}
 use Rattle.std.proofs.lemmas.Bool.{true≢false}
@@ -62,8 +62,8 @@ module _ {S : Type 0} (lanes : Lanes S) (breaks : S → ℕ → Bool) (stamp : B
       is ∙ ap (λ es. added_all bytes_eq led_joined es (spread lanes breaks stamp b s e)) so_far
       ∙ sym (added_all-append bytes_eq led_joined [] (flat_map (spread lanes breaks stamp b s) some) (spread lanes breaks stamp b s e))
       ∙ ap (added_all bytes_eq led_joined [])
-          (ap (λ es. flat_map (spread lanes breaks stamp b s) some ++ es) (sym (append-nil (spread lanes breaks stamp b s e)))
-          ∙ sym (flat_map-append (spread lanes breaks stamp b s) some (e ∷ [])))
+      (ap (λ es. flat_map (spread lanes breaks stamp b s) some ++ es) (sym (append-nil (spread lanes breaks stamp b s e)))
+      ∙ sym (flat_map-append (spread lanes breaks stamp b s) some (e ∷ [])))
 
   -- an entry where no lane may give stays
   pub spread_ended : (k : Bytes) (led : Led) → led.has_ended ≡ true → spread lanes breaks stamp b s (k, led) ≡ (k, led) ∷ []

@@ -1,5 +1,5 @@
 -- A level is the grouping of the orders that are followed, and the next one is what it leads to.
-use Rattle.std.proofs.Common.{◌≡◌, ℕ, suc, ◌+◌, Bool, true, false, not, if◌then◌else◌, List, [], ◌∷◌, ◌++◌, map, inr, refl, ap, sym, ◌∙◌, arith, append-nil, subst}
+use Rattle.std.proofs.Common.{◌≡◌, ℕ, suc, ◌+◌, Bool, true, false, not, if◌then◌else◌, List, [], ◌∷◌, ◌++◌, map, inr, refl, ap, sym, ◌∙◌, arith, subst}
 use Rattle.std.specs.List.{flat_map, filter}
 use Rattle.std.specs.Str.{bytes_eq}
 use Rattle.std.proofs.lemmas.List.{map-append}
@@ -11,7 +11,7 @@ use Rattle.cics_lanes.specs.Endings.{Parts, kept_number}
 use Rattle.cics_lanes.specs.Groups.{added_all}
 use Rattle.cics_lanes.specs.Levels.{followed, lanes_of, is_none_left, led_joined, entry, spread, level, IsLevel, IsNext}
 use Rattle.cics_lanes.specs.declared.levels.Led.{Led}
-use Rattle.cics_lanes.proofs.Regrouping.{AreLaws, Each, Leads, keys, merged, regrouped, each_added_all}
+use Rattle.cics_lanes.proofs.Regrouping.{AreLaws, Each, Leads, keys, merged, regrouped}
 use Rattle.cics_lanes.proofs.Sublists.{among_all, among_trans, among_flat_map, among_filter, some_groups}
 use Rattle.cics_lanes.proofs.Ways.{each_among, each_on, after-append, longer, grows, each_own, each_lane, are_ways, filter_map_both}
 
@@ -30,7 +30,7 @@ led_laws = record {
 
 module _ {S : Type 0} (lanes : Lanes S) (breaks : S → ℕ → Bool) (stamp : Bool → S → Bytes) (ending : S → Parts) (b : Bool) (s : S)
     (tell : (o p : Order) → IsWay lanes s o → IsWay lanes s p → stamp b (after lanes s o) ≡ stamp b (after lanes s p) →
-        AreStampedAlike lanes ending breaks (stamp b) b (after lanes s o) (after lanes s p)) where
+    AreStampedAlike lanes ending breaks (stamp b) b (after lanes s o) (after lanes s p)) where
   -- an entry is that of its first order
   pub record IsEntry (e : Bytes × Led) : Type 0 where
     pub way : IsWay lanes s e.1.first
@@ -92,7 +92,7 @@ module _ {S : Type 0} (lanes : Lanes S) (breaks : S → ℕ → Bool) (stamp : B
           let alike = same_there g e first second one in
           let both : e.1.lanes ≡ g.1.lanes = second.lanes_there ∙ sym (same_lanes x y alike) ∙ sym first.lanes_there in
           let all = each_on (λ l. IsOneOf l (lanes.givers x 0)) (λ l. stamp b (lanes.given x l) ≡ stamp b (lanes.given y l)) g.1.lanes alike.next
-              (subst (Each (λ l. IsOneOf l (lanes.givers x 0))) (sym first.lanes_there) (each_lane lanes breaks b x)) in
+          (subst (Each (λ l. IsOneOf l (lanes.givers x 0))) (sym first.lanes_there) (each_lane lanes breaks b x)) in
           rw (p, q) (same_keys x y g.1.first e.1.first g.1.count e.1.count g.1.lanes all
           ∙ ap (λ ls. keys (map (λ l. entry lanes breaks stamp b (e.1.first ++ l ∷ []) e.1.count (lanes.given y l)) ls)) (sym both))
 
@@ -109,7 +109,7 @@ module _ {S : Type 0} (lanes : Lanes S) (breaks : S → ℕ → Bool) (stamp : B
           let both : e.1.lanes ≡ g.1.lanes = second.lanes_there ∙ sym (same_lanes x y (same_there g e first second one)) ∙ sym first.lanes_there in
           rw (p, q) (merged_lanes x y g.1.first e.1.first g.1.count e.1.count g.1.lanes
           ∙ ap (λ ls. merged bytes_eq led_joined (map (λ l. entry lanes breaks stamp b (g.1.first ++ l ∷ []) g.1.count (lanes.given x l)) g.1.lanes)
-              (map (λ l. entry lanes breaks stamp b (e.1.first ++ l ∷ []) e.1.count (lanes.given y l)) ls)) (sym both))
+          (map (λ l. entry lanes breaks stamp b (e.1.first ++ l ∷ []) e.1.count (lanes.given y l)) ls)) (sym both))
 
   leads_on : Leads led_joined bytes_eq led_joined (spread lanes breaks stamp b s) IsEntry
   leads_on = record {

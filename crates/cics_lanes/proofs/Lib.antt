@@ -1,10 +1,11 @@
-pub mod Givers
-pub mod Parts
-pub mod Regrouping
-pub mod Sublists
-pub mod Ways
-pub mod Leveling
 pub mod Adding
 pub mod Following
-pub mod Tallying
+pub mod Givers
+pub mod Leveling
+pub mod Parts
+pub mod Regrouping
 pub mod Reporting
+mod Rows
+pub mod Sublists
+pub mod Tallying
+pub mod Ways

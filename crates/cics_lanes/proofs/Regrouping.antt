@@ -1,6 +1,6 @@
 -- Values that are grouped by keys: what they lead to is grouped alike if they are grouped first.
-use Rattle.std.proofs.Common.{◌≡◌, Bool, true, false, ◌||◌, if◌then◌else◌, List, [], ◌∷◌, ◌++◌, map, refl, ap, sym, ◌∙◌, append-nil, subst}
-use Rattle.std.specs.List.{flat_map, filter}
+use Rattle.std.proofs.Common.{◌≡◌, Bool, true, false, ◌||◌, if◌then◌else◌, List, [], ◌∷◌, ◌++◌, refl, ap, sym, ◌∙◌, append-nil, subst}
+use Rattle.std.specs.List.{flat_map}
 use Rattle.std.specs.Bool.{Decides}
 use Rattle.std.proofs.lemmas.Bool.{true≢false, false≢true}
 use Rattle.cics_lanes.specs.Groups.{added, added_all}
@@ -156,7 +156,6 @@ pub record Leads {K X L Y : Type 0} (join : X → X → X) (eq : L → L → Boo
 module _ {K X L Y : Type 0} (eq : K → K → Bool) (join : X → X → X) (laws : AreLaws eq join)
     (eq_too : L → L → Bool) (join_too : Y → Y → Y) (laws_too : AreLaws eq_too join_too)
     (spread : K × X → List (L × Y)) (P : K × X → Type 0) (leads : Leads join eq_too join_too spread P) where
-
   each_added : (gs : List (K × X)) (e : K × X) → Each P gs → P e → Each P (added eq join gs e.0 e.1)
   each_added [] e so is = (is, tt)
   each_added (g ∷ gs) e so is = by (each_added gs e so.1 is) (eq e.0 g.0)
@@ -190,7 +189,7 @@ module _ {K X L Y : Type 0} (eq : K → K → Bool) (join : X → X → X) (laws
           ∙ ap (λ es. added_all eq_too join_too (added_all eq_too join_too t es) more) (leads.merges g e so.0 is one)
           ∙ ap (λ u. added_all eq_too join_too u more) (added_merged eq_too join_too laws_too (spread g) (spread e) t alike)
           ∙ added_later eq_too join_too laws_too (spread e) more (added_all eq_too join_too t (spread g))
-              (subst (HasAll eq_too join_too (added_all eq_too join_too t (spread g))) alike (has_all_own eq_too join_too laws_too (spread g) t))
+          (subst (HasAll eq_too join_too (added_all eq_too join_too t (spread g))) alike (has_all_own eq_too join_too laws_too (spread g) t))
           ∙ ap (λ u. added_all eq_too join_too u (spread e)) (sym (added_all-append eq_too join_too t (spread g) more))
       by rest false p =
           added_all-append eq_too join_too t (spread g) (flat_map spread (added eq join gs e.0 e.1)) ∙ rest

@@ -1,10 +1,10 @@
 -- The report of what two searches told.
-use Rattle.std.proofs.Common.{◌≡◌, ℕ, Bool, true, false, if◌then◌else◌, List, [], ◌∷◌, ◌++◌, map, All, refl, ap, sym, ◌∙◌, subst}
-use Rattle.std.specs.List.{flat_map, filter}
+use Rattle.std.proofs.Common.{◌≡◌, ℕ, Bool, true, false, List, [], ◌∷◌, map, All, refl, ap, sym, ◌∙◌, subst}
+use Rattle.std.specs.List.{flat_map}
 use Rattle.std.specs.Str.{bytes_eq}
 use Rattle.cics_names.specs.Keyed.{Bytes}
 use Rattle.cics_lanes.specs.Orders.{Order, Lanes, IsOneOf, IsWay, AreStampedAlike, after, orders, AreAmong}
-use Rattle.cics_lanes.specs.Endings.{Parts, Run, Reported, are_same, run_to, report, joined}
+use Rattle.cics_lanes.specs.Endings.{Parts, Reported, are_same, run_to, joined}
 use Rattle.cics_lanes.specs.Groups.{added_all}
 use Rattle.cics_lanes.specs.Levels.{followed, led_joined, entry, level, told, IsLevel}
 use Rattle.cics_lanes.specs.Tallies.{tally_joined, ending_of}
@@ -12,7 +12,7 @@ use Rattle.cics_lanes.specs.Reports.{runs, serial_of, IsReport}
 use Rattle.cics_lanes.specs.declared.endings.Tally.{Tally}
 use Rattle.cics_lanes.specs.declared.levels.Led.{Led}
 use Rattle.cics_lanes.proofs.Parts.{same_decides}
-use Rattle.cics_lanes.proofs.Regrouping.{AreLaws, Each, Leads, keys, merged, regrouped}
+use Rattle.cics_lanes.proofs.Regrouping.{AreLaws, Each, Leads, merged, regrouped}
 use Rattle.cics_lanes.proofs.Ways.{each_all, each_among, are_ways, all_followed, serial_followed, filter_map_both}
 use Rattle.cics_lanes.proofs.Leveling.{kept_sums, kept_swap, led_laws, IsEntry, are_entries, same_there}
 use Rattle.cics_lanes.proofs.Tallying.{run_tells, all_told, whole_report}
@@ -26,7 +26,7 @@ tally_laws = record {
 
 module _ {S : Type 0} (lanes : Lanes S) (breaks : S → ℕ → Bool) (stamp : Bool → S → Bytes) (ending : S → Parts) (serial : S → Bool) (s : S)
     (tell : (b : Bool) (o p : Order) → IsWay lanes s o → IsWay lanes s p → stamp b (after lanes s o) ≡ stamp b (after lanes s p) →
-        AreStampedAlike lanes ending breaks (stamp b) b (after lanes s o) (after lanes s p)) where
+    AreStampedAlike lanes ending breaks (stamp b) b (after lanes s o) (after lanes s p)) where
   leads_told : (b : Bool) →
       Leads led_joined are_same tally_joined (λ e. told lanes ending b s e ∷ []) (IsEntry lanes breaks stamp ending b s (tell b))
   leads_told b = record {
@@ -56,7 +56,7 @@ module _ {S : Type 0} (lanes : Lanes S) (breaks : S → ℕ → Bool) (stamp : B
   told_level b os ways met =
       ap (added_all are_same tally_joined met) (sym (told_flat b (level lanes breaks stamp b s os)))
       ∙ regrouped bytes_eq led_joined led_laws are_same tally_joined tally_laws (λ e. told lanes ending b s e ∷ []) (IsEntry lanes breaks stamp ending b s (tell b)) (leads_told b)
-          (map (λ o. entry lanes breaks stamp b o 1 (after lanes s o)) os) [] met tt (are_entries lanes breaks stamp ending b s (tell b) os ways)
+      (map (λ o. entry lanes breaks stamp b o 1 (after lanes s o)) os) [] met tt (are_entries lanes breaks stamp ending b s (tell b) os ways)
       ∙ ap (added_all are_same tally_joined met) (told_runs b os)
 
   level_ways : (b : Bool) (n : ℕ) (w : Bool) (es : List (Bytes × Led)) (is : IsLevel lanes breaks stamp b s n w es) → Each (IsWay lanes s) is.orders
@@ -79,12 +79,12 @@ module _ {S : Type 0} (lanes : Lanes S) (breaks : S → ℕ → Bool) (stamp : B
       let every : followed lanes breaks false n s ≡ orders lanes n s = all_followed lanes breaks n s in
       let reported : endings ≡ joined (runs lanes ending serial s all.orders) (runs lanes ending serial s some.orders)
       = is
-          ∙ ap (λ ts. map ending_of (added_all are_same tally_joined (added_all are_same tally_joined [] (map (told lanes ending false s) ts)) (map (told lanes ending true s) fs))) all.groups
-          ∙ ap (λ ts. map ending_of (added_all are_same tally_joined (added_all are_same tally_joined [] (map (told lanes ending false s) (level lanes breaks stamp false s all.orders))) (map (told lanes ending true s) ts))) some.groups
-          ∙ ap (λ met. map ending_of (added_all are_same tally_joined met (map (told lanes ending true s) (level lanes breaks stamp true s some.orders))))
-              (told_level false all.orders (level_ways false n w es all) [])
-          ∙ ap (map ending_of) (told_level true some.orders (level_ways true n v fs some) (added_all are_same tally_joined [] (map (run_tells false) (runs lanes ending serial s all.orders))))
-          ∙ all_told (runs lanes ending serial s all.orders) (runs lanes ending serial s some.orders) in
+      ∙ ap (λ ts. map ending_of (added_all are_same tally_joined (added_all are_same tally_joined [] (map (told lanes ending false s) ts)) (map (told lanes ending true s) fs))) all.groups
+      ∙ ap (λ ts. map ending_of (added_all are_same tally_joined (added_all are_same tally_joined [] (map (told lanes ending false s) (level lanes breaks stamp false s all.orders))) (map (told lanes ending true s) ts))) some.groups
+      ∙ ap (λ met. map ending_of (added_all are_same tally_joined met (map (told lanes ending true s) (level lanes breaks stamp true s some.orders))))
+      (told_level false all.orders (level_ways false n w es all) [])
+      ∙ ap (map ending_of) (told_level true some.orders (level_ways true n v fs some) (added_all are_same tally_joined [] (map (run_tells false) (runs lanes ending serial s all.orders))))
+      ∙ all_told (runs lanes ending serial s all.orders) (runs lanes ending serial s some.orders) in
       record {
         followed = all.orders;
         serially = some.orders;
@@ -98,6 +98,6 @@ module _ {S : Type 0} (lanes : Lanes S) (breaks : S → ℕ → Bool) (stamp : B
             ∙ ap (λ os. joined (runs lanes ending serial s os) (runs lanes ending serial s some.orders)) (all.whole at ∙ every)
             ∙ ap (λ os. joined (runs lanes ending serial s (orders lanes n s)) (runs lanes ending serial s os)) (some.whole too ∙ sym serials)
             ∙ ap (joined (runs lanes ending serial s (orders lanes n s)))
-                (sym (filter_map_both (λ o. run_to ending serial o (after lanes s o)) (λ r. r.is_serial) (orders lanes n s)))
+            (sym (filter_map_both (λ o. run_to ending serial o (after lanes s o)) (λ r. r.is_serial) (orders lanes n s)))
             ∙ whole_report (runs lanes ending serial s (orders lanes n s));
       }

@@ -5,7 +5,7 @@ use Rattle.std.proofs.lemmas.List.Sums.{sum_by-append}
 use Rattle.std.proofs.lemmas.List.Elements.{filter-append}
 use Rattle.std.proofs.lemmas.List.{map-append}
 use Rattle.std.proofs.lemmas.Bool.{true≢false}
-use Rattle.cics_lanes.specs.Endings.{Run, Reported, Parts, are_same, firsts, kept_number, reported, report, joined_of, joined}
+use Rattle.cics_lanes.specs.Endings.{Run, Parts, are_same, firsts, kept_number, reported, report, joined_of, joined}
 use Rattle.cics_lanes.specs.Groups.{added, added_all}
 use Rattle.cics_lanes.specs.Tallies.{tally_joined, ending_of}
 use Rattle.cics_lanes.specs.declared.endings.Tally.{Tally}
@@ -231,11 +231,11 @@ orders_told : (us rs : List Run) →
 orders_told [] rs = ap (λ ts. entries (tally ts []) (firsts ts)) (sym (append-nil rs))
 orders_told (r ∷ us) rs =
     ap (λ es. added_all are_same tally_joined es (map (run_tells false) us))
-        (run_told (tally rs []) (tally (rs ++ r ∷ []) []) r (run_tells false r).1
-        (λ s apart i. record { order = s.order; orders = kept_number (count_other s r rs apart i); serial = 0 })
-        (λ s alike i. record { order = s.order; orders = (ap kept_number (count_alike s r rs alike) ∙ one_more (count_by (λ t. leads s t) rs)) i; serial = 0 })
-        rs
-        (λ none i. record { order = r.order; orders = ap kept_number (count_one r rs none) i; serial = 0 }))
+    (run_told (tally rs []) (tally (rs ++ r ∷ []) []) r (run_tells false r).1
+    (λ s apart i. record { order = s.order; orders = kept_number (count_other s r rs apart i); serial = 0 })
+    (λ s alike i. record { order = s.order; orders = (ap kept_number (count_alike s r rs alike) ∙ one_more (count_by (λ t. leads s t) rs)) i; serial = 0 })
+    rs
+    (λ none i. record { order = r.order; orders = ap kept_number (count_one r rs none) i; serial = 0 }))
     ∙ orders_told us (rs ++ r ∷ []) ∙ ap (λ ts. entries (tally ts []) (firsts ts)) (append_assoc rs (r ∷ []) us)
 
 serial_told : (us rs ss : List Run) →
@@ -243,16 +243,16 @@ serial_told : (us rs ss : List Run) →
 serial_told [] rs ss = ap (λ ts. entries (tally rs ts) (firsts (rs ++ ts))) (sym (append-nil ss))
 serial_told (r ∷ us) rs ss =
     ap (λ es. added_all are_same tally_joined es (map (run_tells true) us))
-        (run_told (tally rs ss) (tally rs (ss ++ r ∷ [])) r (run_tells true r).1
-        (λ s apart i. record { order = s.order; orders = kept_number (count_by (λ t. leads s t) rs); serial = kept_number (count_other s r ss apart i) })
-        (λ s alike i. record { order = s.order; orders = none_more (count_by (λ t. leads s t) rs) i; serial = (ap kept_number (count_alike s r ss alike) ∙ one_more (count_by (λ t. leads s t) ss)) i })
-        (rs ++ ss)
-        (λ none i. record {
-          order = r.order;
-          orders = ap kept_number (none_counted (λ t. leads r t) rs (any_both (λ t. leads r t) rs ss none).0) i;
-          serial = ap kept_number (count_one r ss (any_both (λ t. leads r t) rs ss none).1) i;
-        })
-        ∙ ap (λ ts. entries (tally rs (ss ++ r ∷ [])) (firsts ts)) (append_assoc rs ss (r ∷ [])))
+    (run_told (tally rs ss) (tally rs (ss ++ r ∷ [])) r (run_tells true r).1
+    (λ s apart i. record { order = s.order; orders = kept_number (count_by (λ t. leads s t) rs); serial = kept_number (count_other s r ss apart i) })
+    (λ s alike i. record { order = s.order; orders = none_more (count_by (λ t. leads s t) rs) i; serial = (ap kept_number (count_alike s r ss alike) ∙ one_more (count_by (λ t. leads s t) ss)) i })
+    (rs ++ ss)
+    (λ none i. record {
+      order = r.order;
+      orders = ap kept_number (none_counted (λ t. leads r t) rs (any_both (λ t. leads r t) rs ss none).0) i;
+      serial = ap kept_number (count_one r ss (any_both (λ t. leads r t) rs ss none).1) i;
+    })
+    ∙ ap (λ ts. entries (tally rs (ss ++ r ∷ [])) (firsts ts)) (append_assoc rs ss (r ∷ [])))
     ∙ serial_told us rs (ss ++ r ∷ []) ∙ ap (λ ts. entries (tally rs ts) (firsts (rs ++ ts))) (append_assoc ss (r ∷ []) us)
 
 endings_joined : (rs ss ts : List Run) → map ending_of (entries (tally rs ss) ts) ≡ map (joined_of rs ss) ts
@@ -264,7 +264,7 @@ pub all_told : (rs ss : List Run) →
     map ending_of (added_all are_same tally_joined (added_all are_same tally_joined [] (map (run_tells false) rs)) (map (run_tells true) ss)) ≡ joined rs ss
 all_told rs ss =
     ap (λ es. map ending_of (added_all are_same tally_joined es (map (run_tells true) ss)))
-        (orders_told rs [] ∙ ap (λ ts. entries (tally rs []) (firsts ts)) (sym (append-nil rs)))
+    (orders_told rs [] ∙ ap (λ ts. entries (tally rs []) (firsts ts)) (sym (append-nil rs)))
     ∙ ap (map ending_of) (serial_told ss rs [])
     ∙ endings_joined rs ss (firsts (rs ++ ss))
 
@@ -365,5 +365,5 @@ joined_whole rs (t ∷ ts) = λ i. record {
 pub whole_report : (rs : List Run) → joined rs (filter (λ r. r.is_serial) rs) ≡ report rs
 whole_report rs =
     ap (map (joined_of rs (filter (λ r. r.is_serial) rs)))
-        (firsts_same (filter (λ r. r.is_serial) rs) rs (each_filter (λ r. list_any (λ s. leads r s) rs ≡ true) (λ r. r.is_serial) rs (each_leads [] rs)))
+    (firsts_same (filter (λ r. r.is_serial) rs) rs (each_filter (λ r. list_any (λ s. leads r s) rs ≡ true) (λ r. r.is_serial) rs (each_leads [] rs)))
     ∙ joined_whole rs (firsts rs)

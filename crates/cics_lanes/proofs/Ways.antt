@@ -1,10 +1,9 @@
 -- The orders that a search follows, line by line, are those that it is to follow.
-use Rattle.std.proofs.Common.{◌≡◌, ◌<◌, inl, inr, ℕ, zero, suc, Bool, true, false, not, if◌then◌else◌, List, [], ◌∷◌, ◌++◌, map, length, All, refl, ap, sym, ◌∙◌, arith, append-nil, append_assoc, subst}
+use Rattle.std.proofs.Common.{◌≡◌, inl, inr, ℕ, zero, suc, Bool, true, false, not, if◌then◌else◌, List, [], ◌∷◌, ◌++◌, map, All, refl, ap, sym, ◌∙◌, arith, append-nil, append_assoc, subst}
 use Rattle.std.specs.List.{flat_map, filter}
 use Rattle.std.proofs.lemmas.Grind.{flat_map-append}
 use Rattle.std.proofs.lemmas.List.{map-append}
 use Rattle.std.proofs.lemmas.List.Elements.{filter-append}
-use Rattle.std.proofs.lemmas.Bool.{true≢false}
 use Rattle.cics_lanes.specs.Orders.{Order, Lanes, IsOneOf, IsWay, after, led_by, led_by_any, orders, AreAmong}
 use Rattle.cics_lanes.specs.Levels.{followed, lanes_of, is_none_left}
 use Rattle.cics_lanes.proofs.Regrouping.{Each}
@@ -123,7 +122,7 @@ module _ {S : Type 0} (lanes : Lanes S) (breaks : S → ℕ → Bool) (b : Bool)
   by_lanes n s on (l ∷ ls) =
       flat_map-append (longer lanes breaks b s) (map (λ o. l ∷ o) (followed lanes breaks b n (lanes.given s l))) (led_by (λ l. followed lanes breaks b n (lanes.given s l)) ls)
       ∙ ap (λ ps. ps ++ flat_map (longer lanes breaks b s) (led_by (λ l. followed lanes breaks b n (lanes.given s l)) ls))
-          (all_led s l (followed lanes breaks b n (lanes.given s l)) ∙ ap (map (λ o. l ∷ o)) (on (lanes.given s l)))
+      (all_led s l (followed lanes breaks b n (lanes.given s l)) ∙ ap (map (λ o. l ∷ o)) (on (lanes.given s l)))
       ∙ ap (λ ps. map (λ o. l ∷ o) (followed lanes breaks b (suc n) (lanes.given s l)) ++ ps) (by_lanes n s on ls)
 
   -- the orders of one line more go on from those before
@@ -193,10 +192,10 @@ none_filtered P Q p none (x ∷ xs) first second = rw (none x first.0 second.0) 
 
 module _ {S : Type 0} (lanes : Lanes S) (breaks : S → ℕ → Bool) (serial : S → Bool) (s : S)
     (keeps : (o : Order) (l : ℕ) → IsWay lanes s o → IsOneOf l (lanes.givers (after lanes s o) 0) → breaks (after lanes s o) l ≡ false →
-        serial (lanes.given (after lanes s o) l) ≡ serial (after lanes s o))
+    serial (lanes.given (after lanes s o) l) ≡ serial (after lanes s o))
     (ends : (o : Order) (l : ℕ) (q : Order) → IsWay lanes s o → IsOneOf l (lanes.givers (after lanes s o) 0) → breaks (after lanes s o) l ≡ true →
-        IsWay lanes (lanes.given (after lanes s o) l) q → lanes.givers (after lanes (lanes.given (after lanes s o) l) q) 0 ≡ [] →
-        serial (after lanes (lanes.given (after lanes s o) l) q) ≡ false) where
+    IsWay lanes (lanes.given (after lanes s o) l) q → lanes.givers (after lanes (lanes.given (after lanes s o) l) q) 0 ≡ [] →
+    serial (after lanes (lanes.given (after lanes s o) l) q) ≡ false) where
   abbrev Ended : S → Order → Type 0
   Ended x q = lanes.givers (after lanes x q) 0 ≡ []
 
@@ -249,8 +248,8 @@ module _ {S : Type 0} (lanes : Lanes S) (breaks : S → ℕ → Bool) (serial : 
           let there = after-append lanes s o l in
           let here : serials y (orders lanes n y) ≡ followed lanes breaks true n y
           = subst (λ z. serials z (orders lanes n z) ≡ followed lanes breaks true n z) there
-              (on (o ++ l ∷ []) (way-append lanes s o l way may.0) (ap serial there ∙ keeps o l way may.0 at ∙ is)
-              (subst (λ z. Each (Ended z) (orders lanes n z)) (sym there) end_there)) in
+          (on (o ++ l ∷ []) (way-append lanes s o l way may.0) (ap serial there ∙ keeps o l way may.0 at ∙ is)
+          (subst (λ z. Each (Ended z) (orders lanes n z)) (sym there) end_there)) in
           let left : filter (λ k. not (breaks x k)) (l ∷ ls) ≡ l ∷ filter (λ k. not (breaks x k)) ls = rw at refl in
           ap (λ ps. map (λ p. l ∷ p) ps ++ serials x (led_by (λ k. orders lanes n (lanes.given x k)) ls)) here
           ∙ ap (λ ps. map (λ p. l ∷ p) (followed lanes breaks true n y) ++ ps) rest

@@ -1,5 +1,5 @@
 -- The endings that runs lead to: each once, with the first run that leads to it and how many do.
-use Rattle.std.specs.Prelude.{ℕ, ◌+◌, Bool, not, ◌&&◌, min, max, if◌then◌else◌, List, [], ◌∷◌, ◌++◌, map, filter}
+use Rattle.std.specs.Prelude.{ℕ, Bool, not, ◌&&◌, min, max, List, [], ◌∷◌, ◌++◌, map, filter}
 use Rattle.std.specs.List.{count_by}
 use Rattle.std.specs.Str.{bytes_eq}
 use Rattle.std.specs.Cmp.Lexicographic.{pointwise}

@@ -1,7 +1,7 @@
 pub mod Orders
 pub mod Endings
-pub mod Reports
-pub mod Groups
-pub mod Levels
-pub mod Tallies
 pub mod EndingLaws
+pub mod Groups
+pub mod Tallies
+pub mod Levels
+pub mod Reports

@@ -85,15 +85,10 @@ impl Search {
     }
 
     // Follows the lanes of a state: adds the states that they lead to to the next level.
-    fn follow<W: Walk>(
-        &self,
-        walk: &mut W,
-        led: &Led,
-        next: &mut Level,
-    ) -> Result<(), NoMemory>
+    fn follow<W: Walk>(&self, walk: &mut W, led: &Led, next: &mut Level) -> Result<(), NoMemory>
         ensures next { OnOk result (next.new.entries ≡ added_all bytes_eq led_joined
             next.old.entries (led_on W.lanes W.breaks W.stamp self.now.is_serial
-                (W.start walk.old) led.now)) }
+            (W.start walk.old) led.now)) }
         ensures start { OnOk result (W.start walk.new ≡ W.start walk.old) }
     {
         let lanes = led.lanes.as_slice();
@@ -119,7 +114,7 @@ impl Search {
     ) -> Result<(), NoMemory>
         ensures next { OnOk result (next.new.entries ≡ added_all bytes_eq led_joined
             next.old.entries (spread W.lanes W.breaks W.stamp self.old.is_serial
-                (W.start walk.old) (stamp, led))) }
+            (W.start walk.old) (stamp, led))) }
         ensures start { OnOk result (W.start walk.new ≡ W.start walk.old) }
         ensures serial { self.new.is_serial ≡ self.old.is_serial }
         ensures whole { self.new.is_whole ≡ self.old.is_whole }
@@ -176,7 +171,7 @@ impl Search {
     fn tell<W: Walk>(&self, walk: &mut W, level: Level, met: &mut Met) -> Result<(), NoMemory>
         ensures met { OnOk result (met.new.entries ≡ added_all are_same tally_joined
             met.old.entries (map (told W.lanes W.ending self.now.is_serial (W.start walk.old))
-                level.entries)) }
+            level.entries)) }
         ensures start { OnOk result (W.start walk.new ≡ W.start walk.old) }
     {
         for (_, led) in level {

@@ -23,14 +23,14 @@ returns g c =
     let most : c.line_count-lines.result ≡ w.most s = c.line_count-lines.ensures ∙ ap w.most c.in_ok-restart.ensures in
     let all : IsLevel w.lanes w.breaks w.stamp false s (w.most s) c.run.new.self.is_whole es
     = subst (λ (n : ℕ). IsLevel w.lanes w.breaks w.stamp false s n c.run.new.self.is_whole es) most
-        (subst (λ u. IsLevel w.lanes w.breaks w.stamp false u c.line_count-lines.result c.run.new.self.is_whole es) begun
-        (subst (λ (b : Bool). IsLevel w.lanes w.breaks w.stamp b (w.start c.restart.new.self) c.line_count-lines.result c.run.new.self.is_whole es) c.new-all.ensures
-        c.in_ok-level.ensures.level)) in
+    (subst (λ u. IsLevel w.lanes w.breaks w.stamp false u c.line_count-lines.result c.run.new.self.is_whole es) begun
+    (subst (λ (b : Bool). IsLevel w.lanes w.breaks w.stamp b (w.start c.restart.new.self) c.line_count-lines.result c.run.new.self.is_whole es) c.new-all.ensures
+    c.in_ok-level.ensures.level)) in
     let some : IsLevel w.lanes w.breaks w.stamp true s (w.most s) c.run-2.new.self.is_whole fs
     = subst (λ (n : ℕ). IsLevel w.lanes w.breaks w.stamp true s n c.run-2.new.self.is_whole fs) most
-        (subst (λ u. IsLevel w.lanes w.breaks w.stamp true u c.line_count-lines.result c.run-2.new.self.is_whole fs) between
-        (subst (λ (b : Bool). IsLevel w.lanes w.breaks w.stamp b (w.start c.tell.new.walk) c.line_count-lines.result c.run-2.new.self.is_whole fs) c.new-serial.ensures
-        c.in_ok-level-2.ensures.level)) in
+    (subst (λ u. IsLevel w.lanes w.breaks w.stamp true u c.line_count-lines.result c.run-2.new.self.is_whole fs) between
+    (subst (λ (b : Bool). IsLevel w.lanes w.breaks w.stamp b (w.start c.tell.new.walk) c.line_count-lines.result c.run-2.new.self.is_whole fs) c.new-serial.ensures
+    c.in_ok-level-2.ensures.level)) in
     let first : c.tell.new.met.entries ≡ added_all are_same tally_joined [] (map (told w.lanes w.ending false s) es)
     = c.in_ok-tell.ensures.met ∙ (λ i. added_all are_same tally_joined (c.new-met.ensures.empty i) (map (told w.lanes w.ending (plain i) (run i)) es)) in
     let both : c.tell-2.new.met.entries ≡ added_all are_same tally_joined (added_all are_same tally_joined [] (map (told w.lanes w.ending false s) es)) (map (told w.lanes w.ending true s) fs)

@@ -32,7 +32,7 @@ loop-preserved g c =
     let step = c.in_ok-level.ensures in
     let next : IsNext w.lanes w.breaks w.stamp b s c.loop.self.is_whole c.next.new.self.is_whole c.loop.level.entries c.in_ok-level.level.entries
     = subst (λ t. IsNext w.lanes w.breaks w.stamp b t c.loop.self.is_whole c.next.new.self.is_whole c.loop.level.entries c.in_ok-level.level.entries) inv.start
-        (subst (λ (v : Bool). IsNext w.lanes w.breaks w.stamp v (w.start c.loop.walk) c.loop.self.is_whole c.next.new.self.is_whole c.loop.level.entries c.in_ok-level.level.entries) inv.serial step.next) in
+    (subst (λ (v : Bool). IsNext w.lanes w.breaks w.stamp v (w.start c.loop.walk) c.loop.self.is_whole c.next.new.self.is_whole c.loop.level.entries c.in_ok-level.level.entries) inv.serial step.next) in
     let one : suc c.loop.counter ≡ c.loop.counter + 1 = omega arith in
     record {
       start = step.start ∙ inv.start;

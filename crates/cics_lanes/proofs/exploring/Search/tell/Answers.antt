@@ -4,7 +4,6 @@ use Rattle.cics_lanes.specs.Endings.{are_same}
 use Rattle.cics_lanes.specs.Groups.{added, added_all}
 use Rattle.cics_lanes.specs.Levels.{told}
 use Rattle.cics_lanes.specs.Tallies.{tally_joined}
-use Rattle.cics_lanes.specs.declared.endings.Tally.{Tally}
 use Rattle.cics_lanes.proofs.Following.{start_after}
 use Rattle.cics_lanes.proofs.exploring.Search.tell.Goals as goal
 
@@ -25,7 +24,7 @@ loop-led-preserved g c =
       start = ap w.start back ∙ start_after w.lanes w.start w.start_stays s led.first ∙ w.start_is_start c.args.walk.now;
       met =
           ap (λ m. added_all are_same tally_joined m (map (told w.lanes w.ending b s) c.next.new.self))
-              (c.in_ok-add.ensures ∙ (λ i. added are_same tally_joined met (parts i) (made i)))
+          (c.in_ok-add.ensures ∙ (λ i. added are_same tally_joined met (parts i) (made i)))
           ∙ ap (λ es. added_all are_same tally_joined met (map (told w.lanes w.ending b s) es)) (sym c.in-Some.ensures.steps)
           ∙ inv.met;
     }
