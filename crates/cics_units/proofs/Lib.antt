@@ -9,6 +9,7 @@ pub mod OpenReads
 mod UnitReads
 pub mod HeldPlaces
 mod UnitRows
+pub mod Stamped
 pub mod HeldReads
 pub mod HeldSums
 mod Unprefixed

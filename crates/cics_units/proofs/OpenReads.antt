@@ -5,12 +5,14 @@ use Rattle.std.proofs.lemmas.Bool.{lt-ltb, le-ltb, ne_eqb, eq-eqb}
 use Rattle.std.specs.declared.cmp.Ordering.TheVariants.{Less, Equal, Greater}
 use Rattle.std.specs.FinMap.Entries.{by_order}
 use Rattle.std.specs.Ordering.{is_lt, is_eq}
-use Rattle.std.specs.List.{slice_get}
+use Rattle.std.specs.List.{slice_get, flat_map}
 use Rattle.std.specs.Option.{unwrap_or}
 use Rattle.cics_names.specs.Keyed.{Bytes, Map, bytes_cmp, is_same, is_below, value_at, with_value, without}
 use Rattle.cics_names.specs.RisingLaws.{is_same-turned}
+use Rattle.cics_names.specs.Stamps.{number_stamp, item_stamp, list_stamp}
 use Rattle.cics_history.specs.State.{UpdateRead}
 use Rattle.cics_history.specs.Execution.{is_read_of, read_at, with_read}
+use Rattle.cics_history.specs.Stamps.{read_stamp, record_stamp}
 use Rattle.cics_units.specs.OpenReads.{reads_of, reads_from}
 
 abbrev Rows : Type 0
@@ -226,3 +228,53 @@ module _ (n u : ℕ) (rows : Rows) (now : List UpdateRead) (number : n ≡ u) (v
 
   pub ended_without : slice_get rows n ≡ None → reads_from 0 rows ≡ filter (λ r. not (r.unit == u)) now
   ended_without past = left_without n u rows now number view (λ v r. not (r.unit == v)) (others_unit n) past
+
+-- ---- the stamp of a unit's reads
+
+-- a test of the unit leaves out the reads of another unit
+own_none : (u v : ℕ) (es : Map Bytes) (rest : List UpdateRead) → (v == u) ≡ false →
+    filter (λ r. r.unit == u) (reads_of v es ++ rest) ≡ filter (λ r. r.unit == u) rest
+own_none u v [] rest other = refl
+own_none u v (e ∷ es) rest other =
+    ap (λ b. cond b (read v e.0 e.1 ∷ left) left) other ∙ own_none u v es rest other
+  where
+    left : List UpdateRead
+    left = filter (λ r. r.unit == u) (reads_of v es ++ rest)
+
+own_all : (u : ℕ) (es : Map Bytes) (rest : List UpdateRead) → filter (λ r. r.unit == u) rest ≡ [] →
+    filter (λ r. r.unit == u) (reads_of u es ++ rest) ≡ reads_of u es
+own_all u [] rest later = later
+own_all u (e ∷ es) rest later =
+    ap (λ b. cond b (read u e.0 e.1 ∷ left) left) (eq-eqb u u refl) ∙ ap (λ r. read u e.0 e.1 ∷ r) (own_all u es rest later)
+  where
+    left : List UpdateRead
+    left = filter (λ r. r.unit == u) (reads_of u es ++ rest)
+
+own_later : (u n : ℕ) (rows : Rows) → u < n → filter (λ r. r.unit == u) (reads_from n rows) ≡ []
+own_later u n [] below = refl
+own_later u n (row ∷ rows) below =
+    own_none u n row (reads_from (suc n) rows) (not_own u n below) ∙ own_later u (suc n) rows (omega (arith, below))
+
+-- the reads of a unit are those of its row, if it has one
+own_row : (u n i : ℕ) (rows : Rows) → u ≡ n + i → filter (λ r. r.unit == u) (reads_from n rows) ≡ reads_of u (unwrap_or (slice_get rows i) [])
+own_row u n i [] e = refl
+own_row u n zero (row ∷ rows) e =
+    let own : u ≡ n = omega (arith, e) in
+    ap (λ v. filter (λ r. r.unit == v) (reads_from n (row ∷ rows))) own
+    ∙ own_all n row (reads_from (suc n) rows) (own_later n (suc n) rows (omega arith)) ∙ ap (λ v. reads_of v row) (sym own)
+own_row u n (suc i) (row ∷ rows) e =
+    own_none u n row (reads_from (suc n) rows) (not_own_before u n (omega (arith, e))) ∙ own_row u (suc n) i rows (omega (arith, e))
+
+-- their stamp doesn't tell the unit
+reads_stamp : (u : ℕ) (es : Map Bytes) → flat_map (item_stamp read_stamp) (reads_of u es) ≡ flat_map (item_stamp record_stamp) es
+reads_stamp u [] = refl
+reads_stamp u (e ∷ es) = ap (λ t. item_stamp record_stamp e ++ t) (reads_stamp u es)
+
+-- the stamp of a unit's reads is that of its row
+pub row_stamp : (n u : ℕ) (rows : Rows) (now : List UpdateRead) → n ≡ u → reads_from 0 rows ≡ now → (o : Option (Map Bytes)) → slice_get rows n ≡ o →
+    list_stamp record_stamp (unwrap_or o []) ≡ list_stamp read_stamp (filter (λ r. r.unit == u) now)
+row_stamp n u rows now number view o there =
+    sym (ap (λ o. flat_map (item_stamp read_stamp) (reads_of n (unwrap_or o [])) ++ number_stamp 0) there
+    ∙ ap (λ s. s ++ number_stamp 0) (reads_stamp n (unwrap_or o [])))
+    ∙ ap (list_stamp read_stamp) (sym (own_row n 0 n rows (omega arith)))
+    ∙ (λ i. list_stamp read_stamp (filter (λ r. r.unit == number i) (view i)))

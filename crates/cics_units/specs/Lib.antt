@@ -17,3 +17,4 @@ pub mod Submitting
 pub mod Applied
 pub mod Executed
 pub mod Cores
+pub mod DoneOps

@@ -8,9 +8,11 @@
 //! - `units_core`: the steps of a command on what units change in place.
 //! - `uses`, `store`: the resources that a command uses, and the change that it makes.
 //! - `open_reads`: the open update reads.
+//! - `stamping`: the stamp of what a unit did.
 #![tactic(auto)]
 
 mod open_reads;
+mod stamping;
 mod store;
 mod units;
 mod units_core;

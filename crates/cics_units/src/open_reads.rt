@@ -3,13 +3,15 @@
 
 mod unit_reads;
 
-ghost use Rattle.std.specs.Prelude.{◌≡◌, ◌==◌, not, filter, [], None, OnOk, OnErr};
+ghost use Rattle.std.specs.Prelude.{◌≡◌, ◌==◌, ◌++◌, not, filter, [], None, OnOk, OnErr};
 ghost use Rattle.std.specs.Option.{option_copied};
+ghost use Rattle.cics_names.specs.Stamps.{list_stamp};
 ghost use Rattle.cics_history.specs.Execution.{is_read_of, read_at, with_read};
+ghost use Rattle.cics_history.specs.Stamps.{read_stamp};
 ghost use Rattle.cics_units.specs.OpenReads.{is_read_key, is_read_under};
 
 use cics_history::UnitId;
-use cics_names::{Name8, NoMemory, Record};
+use cics_names::{Name8, NoMemory, Record, stamp_number};
 use std::alloc::Global;
 use std::marker::Model;
 use unit_reads::UnitReads;
@@ -54,6 +56,20 @@ impl OpenReads {
     {
         let at = unit.number() as usize;
         self.rows.get(at)?.key(file)
+    }
+
+    /// Appends the stamp of a unit's open update reads, in the order of their files.
+    ///
+    /// Errors: `NoMemory`.
+    pub(crate) fn stamp(&self, unit: UnitId, out: &mut Vec<u8>) -> Result<(), NoMemory>
+        ensures { OnOk result (out.new.items
+            ≡ out.old.items ++ list_stamp read_stamp (filter (λ r. r.unit == unit) self.now)) }
+    {
+        let at = unit.number() as usize;
+        match self.rows.get(at) {
+            Some(reads) => reads.stamp(out),
+            None => stamp_number(out, 0),
+        }
     }
 
     /// Opens a unit's update read of the record of a key in a file.

@@ -15,6 +15,7 @@ ghost use Rattle.cics_history.specs.Execution.{after_enqueue, after_dequeue, aft
 ghost use Rattle.cics_history.specs.Execution.{after_end, place_at, item_asked, ts_reading};
 ghost use Rattle.cics_history.specs.Execution.{after_ts_reading};
 ghost use Rattle.cics_history.specs.State.{beginning};
+ghost use Rattle.cics_history.specs.Stamps.{unit_stamp, shared_stamp};
 ghost use Rattle.cics_history.specs.Isolation.{IsSound};
 ghost use Rattle.cics_history.specs.Serial.{IsSerializable};
 ghost use Rattle.cics_replay.specs.Listings.{listing_of, replayed_listing};
@@ -25,6 +26,7 @@ ghost use Rattle.cics_tempstor.specs.Queues.{read_item, after_read_item};
 ghost use Rattle.cics_tempstor.specs.Undo.{KeepsQueues};
 ghost use Rattle.cics_history.specs.declared.ops.UnitState.TheVariants.{Committed, BackedOut};
 
+use crate::stamping::stamp_ops;
 use crate::units_core::{Store, UnitsCore, reserve_images, settle_ends};
 use cics_enqueue::{ResourceRef, TakeFault};
 use cics_history::{Answer, Done, Enqueued, Entry, Op, UnitId, UnitState};
@@ -32,7 +34,7 @@ use cics_images::{Images, Stores};
 use cics_ksds::File;
 use cics_names::{Name4, Name8, NoMemory};
 use cics_opening::Opening;
-use cics_replay::Listing;
+use cics_replay::{Listing, stamp_committed};
 use cics_tempstor::{TempStore, TsRead};
 use cics_transdata::Recovery;
 use std::alloc::Global;
@@ -512,6 +514,30 @@ impl Units {
         ensures lawful { IfSome result (λ f. is_key f.now.definition ≡ true) }
     {
         self.core.store.files.get(name)
+    }
+
+    /// Appends the stamp of a unit: what it did to recoverable files and queues, its open update
+    /// reads, and the values that it owns by ENQ.
+    ///
+    /// Errors: `NoMemory`. Cost: O(executed commands + owned resources).
+    pub fn stamp_unit(&self, unit: UnitId, out: &mut Vec<u8>) -> Result<(), NoMemory>
+        ensures { OnOk result (out.new.items ≡ out.old.items ++ unit_stamp self.now.state unit) }
+    {
+        stamp_ops(&self.opening, self.trace.as_slice(), unit, out)?;
+        self.core.reads.stamp(unit, out)?;
+        self.core.locks.stamp_values(unit, out)
+    }
+
+    /// Appends the stamp of what units share. This is what files and queues would hold if the open
+    /// units were backed out, and the NEXT cursors.
+    ///
+    /// Errors: `NoMemory`. Cost: that of `plain_replay`.
+    pub fn stamp_shared(&self, out: &mut Vec<u8>) -> Result<(), NoMemory>
+        ensures { OnOk result (out.new.items ≡ out.old.items ++ shared_stamp self.now.state) }
+    {
+        let (trace, outcomes) = (self.trace.as_slice(), self.outcomes.as_slice());
+        stamp_committed(&self.opening, trace, outcomes, out)?;
+        self.core.store.temp_storage.stamp_places(out)
     }
 
     /// Returns what the units started with.

@@ -1,11 +1,13 @@
 //! The records that one unit of work has read for update.
 
-ghost use Rattle.std.specs.Prelude.{◌≡◌, [], None, IfSome, IfNone, OnOk, OnErr};
+ghost use Rattle.std.specs.Prelude.{◌≡◌, ◌++◌, [], None, IfSome, IfNone, OnOk, OnErr};
 ghost use Rattle.std.specs.Option.{option_copied};
 ghost use Rattle.cics_names.specs.Keyed.{value_at, with_value, without};
+ghost use Rattle.cics_names.specs.Stamps.{list_stamp};
+ghost use Rattle.cics_history.specs.Stamps.{record_stamp};
 ghost use Rattle.cics_units.specs.OpenReads.{place_of, IsFoundAt};
 
-use cics_names::{Name8, NoMemory, Record};
+use cics_names::{Name8, NoMemory, Record, stamp_number, stamp_text};
 use std::alloc::Global;
 use std::marker::Model;
 
@@ -39,6 +41,21 @@ impl UnitReads {
         UnitReads {
             entries: Vec::new(alloc),
         }
+    }
+
+    /// Appends the stamp of the list of its entries.
+    ///
+    /// Errors: `NoMemory`.
+    pub(crate) fn stamp(&self, out: &mut Vec<u8>) -> Result<(), NoMemory>
+        ensures { OnOk result (out.new.items
+            ≡ out.old.items ++ list_stamp record_stamp self.now) }
+    {
+        for (file, key) in self.entries.as_slice() {
+            stamp_number(out, 1)?;
+            stamp_text(out, &file.bytes())?;
+            stamp_text(out, key.bytes())?;
+        }
+        stamp_number(out, 0)
     }
 
     // Returns how many entries have files that come before this one.
