@@ -2,7 +2,6 @@
 use Rattle.std.proofs.Common.{◌≡◌, Bool, ◌++◌, refl, arith}
 use Rattle.cics_names.specs.Stamps.{Splits, number_stamp, flag_stamp, text_stamp}
 use Rattle.cics_names.proofs.Stamps.{split_two, splits_number, splits_flag, splits_text, splits_both}
-use Rattle.cics_browse.specs.Positions.{Position}
 use Rattle.cics_browse.specs.Stamps.{place_number, position_stamp}
 use Rattle.cics_browse.specs.declared.browses.Place.{Place}
 use Rattle.cics_browse.specs.declared.browses.Place.TheVariants.{Start, Forward, Back}

@@ -1,6 +1,4 @@
-pub mod ListStamps
+mod EbcdicTables
 mod Filled
 mod Rows
-mod EbcdicTables
 pub mod Stamps
-pub mod Each

@@ -4,7 +4,7 @@ use Rattle.std.specs.Prelude.{if◌then◌else◌, filter, map}
 use Rattle.std.specs.List.{flat_map}
 use Rattle.std.proofs.lemmas.List.{at_drop_more, at_drop_all}
 use Rattle.cics_names.specs.Stamps.{number_stamp, item_stamp, list_stamp}
-use Rattle.cics_names.proofs.ListStamps.{joined}
+use Rattle.cics_names.proofs.Stamps.{appended_two}
 use Rattle.cics_history.specs.State.{OpeningState, EnqCount}
 use Rattle.cics_history.specs.Serial.{is_done_by, done_by}
 use Rattle.cics_history.specs.Stamps.{op_stamp, count_stamp}
@@ -63,4 +63,4 @@ values_stamp unit t = ap (λ s. s ++ number_stamp 0) (values_counted unit t)
 
 -- three parts are appended
 pub joined_three : (a b c before first second after : List ℕ) → first ≡ before ++ a → second ≡ first ++ b → after ≡ second ++ c → after ≡ before ++ (a ++ (b ++ c))
-joined_three a b c before first second after p q r = joined a (b ++ c) before first after p (joined b c first second after q r)
+joined_three a b c before first second after p q r = appended_two before a (b ++ c) p (appended_two first b c q r)
