@@ -1,5 +1,5 @@
 -- The bytes of a report on the orders of a script's lines, and those of an order as a script.
-use Rattle.std.specs.Prelude.{◌≡◌, ℕ, ◌+◌, ◌-◌, ◌==◌, Bool, ◌&&◌, if◌then◌else◌, nat_lt, List, [], ◌∷◌, ◌++◌, length, Option, Some, None, option_map, slice_get, Result, Ok, codes}
+use Rattle.std.specs.Prelude.{◌≡◌, ℕ, ◌+◌, ◌-◌, ◌==◌, Bool, true, false, ◌&&◌, if◌then◌else◌, nat_lt, List, [], ◌∷◌, ◌++◌, length, Option, Some, None, option_map, slice_get, Result, Ok, codes}
 use Rattle.std.specs.List.{fold, flat_map, count_by}
 use Rattle.std.specs.Fmt.{decimal}
 use Rattle.cics_script.specs.Texts.{bare}
