@@ -3,7 +3,7 @@ use Rattle.std.proofs.Common.{◌≡◌, ℕ, List, [], ◌++◌, ◌==◌, refl
 use Rattle.cics_names.specs.Keyed.{Bytes, Map}
 use Rattle.cics_names.specs.Stamps.{Splits, number_stamp, text_stamp, list_stamp}
 use Rattle.cics_names.proofs.Stamps.{split_two, split_lists, splits_number, splits_text, splits_both, splits_list}
-use Rattle.cics_history.specs.State.{Store, UpdateRead, EnqCount, UnitsState}
+use Rattle.cics_history.specs.State.{UpdateRead, EnqCount, UnitsState}
 use Rattle.cics_history.specs.Serial.{done_by, store_without_others}
 use Rattle.cics_history.specs.Stamps.{op_stamp, read_stamp, count_stamp, place_stamp, record_stamp, file_stamp, queue_stamp, store_stamp, unit_stamp, shared_stamp}
 use Rattle.cics_history.specs.declared.ops.Op.{Op}
