@@ -70,7 +70,7 @@ fn push_orders(out: &mut Vec<u8>, script: &[u8], wanted: Orders) -> Result<Surve
 /// orders are followed. Of a script with a fault it writes the line that a run writes of it.
 ///
 /// Errors: those of `run_over`. It returns a read or a write fault only if that very call failed,
-/// and tries none again. Cost: O(orders * (lines + endings)).
+/// and tries none again. Cost: that of `survey_script`, and O(endings) for each ending.
 pub fn run_orders<S: Source, K: Sink>(
     alloc: Global,
     source: &mut S,
