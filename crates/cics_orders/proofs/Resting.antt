@@ -1,21 +1,16 @@
 -- After each line of an order nothing goes on by itself.
-use Rattle.std.proofs.Common.{◌≡◌, ℕ, Bool, true, false, List, [], ◌∷◌, Option, None, Some, Result, Err, refl, ap, ◌∙◌}
-use Rattle.std.specs.Prelude.{slice_get, if◌then◌else◌}
-use Rattle.std.specs.List.{fold}
+use Rattle.std.proofs.Common.{◌≡◌, ℕ, [], ◌∷◌, Option, None, Some, ap}
+use Rattle.std.specs.Prelude.{slice_get}
 use Rattle.cics_machine.specs.Machine.{Machine, beginning_region}
-use Rattle.cics_machine.specs.Steps.{Stepped, attach_refusal, with_new_task, refused_or}
 use Rattle.cics_machine.specs.Waking.{woken_first, first_free, expired_task, first_late, IsAtRest}
-use Rattle.cics_machine.specs.declared.outcomes.Refused.{Refused}
-use Rattle.cics_machine.specs.declared.outcomes.Refused.TheVariants.{RegionDown}
 use Rattle.cics_script.specs.Lines.{line}
 use Rattle.cics_lanes.specs.Orders.{Order, after}
 use Rattle.cics_plans.specs.Taking.{NumberedLine}
 use Rattle.cics_plans.specs.declared.plans.Plan.{Plan}
-use Rattle.cics_plans.specs.declared.plans.TaskPlan.{TaskPlan}
-use Rattle.cics_orders.specs.Giving.{State, attaching, after_line, ends_turn, counted, given_line, given_by, given, lanes, opened, unless_refused, with_task, initial_machine, initial_state}
+use Rattle.cics_orders.specs.Giving.{State, after_line, ends_turn, counted, given_line, given_by, given, lanes, opened, initial_machine, initial_state}
 use Rattle.cics_orders.specs.declared.lanes.Lane.{Lane}
+use Rattle.cics_orders.specs.Ways.{attaches_wait}
 use Rattle.cics_orders.proofs.Draining.{drained_rests}
-pub use Rattle.cics_orders.specs.Ways.{attaches_wait}
 
 -- ---- The start
 

@@ -1,5 +1,8 @@
 pub mod Ended
+pub mod EndedLanes
+pub mod EndedTasks
 pub mod Giving
+pub mod HeldTurns
 pub mod OrderLaws
 pub mod Stamps
 pub mod Same
@@ -9,3 +12,5 @@ pub mod GivenWaits
 pub mod GivenLanes
 pub mod Ways
 pub mod SplitStates
+pub mod Turns
+pub mod TurnLaws

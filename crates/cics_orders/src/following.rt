@@ -1,8 +1,9 @@
 //! Every order of a plan.
 
-ghost use Rattle.std.specs.Prelude.{◌≡◌, IfOk};
+ghost use Rattle.std.specs.Prelude.{◌≡◌, true, IfOk};
 ghost use Rattle.cics_lanes.specs.Endings.{Parts};
 ghost use Rattle.cics_lanes.specs.Reports.{IsReport};
+ghost use Rattle.cics_plans.specs.Proper.{is_proper};
 ghost use Rattle.cics_orders.specs.Giving.{State, lanes, initial_state, line_count};
 
 use crate::walks::Walker;
@@ -43,6 +44,8 @@ impl<T: Tells> Walk for Following<T> {
     ghost use Rattle.cics_orders.specs.Giving.{lanes, initial_state, line_count};
     ghost use Rattle.cics_orders.specs.OrderLaws.{lanes_ordered, most_ends};
     ghost use Rattle.cics_orders.specs.OrderLaws.{start_stays, start_again};
+    ghost use Rattle.cics_orders.specs.Turns.{breaks};
+    ghost use Rattle.cics_orders.specs.TurnLaws.{serial_starts, keeps_serial, breaks_serial};
 
     ghost lanes = { lanes };
 
@@ -51,6 +54,8 @@ impl<T: Tells> Walk for Following<T> {
     ghost ending = { T.told };
 
     ghost serial = { λ s. s.is_serial };
+
+    ghost breaks = { breaks };
 
     ghost most = { λ s. line_count s.plan };
 
@@ -61,6 +66,12 @@ impl<T: Tells> Walk for Following<T> {
     ghost start_stays = { start_stays };
 
     ghost start_is_start = { λ s. start_again s.plan };
+
+    ghost serial_starts = { serial_starts };
+
+    ghost keeps_serial = { keeps_serial };
+
+    ghost breaks_serial = { breaks_serial };
 
     fn restart(&mut self) -> Result<(), NoMemory> {
         self.walker.restart()
@@ -86,8 +97,8 @@ impl<T: Tells> Walk for Following<T> {
         self.teller.tell(&self.walker)
     }
 
-    fn is_serial(&self) -> bool {
-        self.walker.is_serial()
+    fn breaks_serial(&self, lane: usize) -> bool {
+        self.walker.breaks_serial(lane)
     }
 }
 
@@ -106,6 +117,7 @@ pub fn explore_script<T: Tells + Drop>(
     teller: T,
     limit: u64,
 ) -> Result<Report, NoMemory>
+    requires { is_proper plan ≡ true }
     ensures { IfOk result (λ report. IsReport lanes T.told (λ s. s.is_serial) (line_count plan)
         limit (initial_state plan) report) }
 {

@@ -5,6 +5,7 @@ mod events;
 mod following;
 mod lanes;
 mod laws;
+mod shutdowns;
 mod starting;
 mod walks;
 

@@ -1,6 +1,6 @@
 //! The region of a script, and the lanes that give their lines to it.
 
-ghost use Rattle.std.specs.Prelude.{◌≡◌, suc, Some, Ok, IfOk, OnOk, slice_get};
+ghost use Rattle.std.specs.Prelude.{◌≡◌, ◌&&◌, suc, true, Some, Ok, IfOk, OnOk, nat_le, slice_get};
 ghost use Rattle.cics_machine.specs.Waking.{IsAtRest};
 ghost use Rattle.cics_script.specs.declared.lines.Line.TheVariants.{Issue, Clock, Shutdown};
 ghost use Rattle.cics_lanes.specs.Orders.{IsFirst, numbered_from};
@@ -8,9 +8,12 @@ ghost use Rattle.cics_orders.specs.Giving.{State, initial_state, line_count, is_
 ghost use Rattle.cics_orders.specs.Giving.{ends_turn, is_end, is_lane, counted, after_line};
 ghost use Rattle.cics_orders.specs.Giving.{drained, drained_once, givers, given};
 ghost use Rattle.cics_orders.specs.Giving.{Takes, IsGivable, next_says};
+ghost use Rattle.cics_orders.specs.Turns.{turn_goes_on, breaks};
+ghost use Rattle.cics_plans.specs.Proper.{is_proper};
 
 use crate::events;
 use crate::lanes::{Lane, hear, hear_step, initial_lanes, shut_all};
+use crate::shutdowns::lines_to_shutdown;
 use crate::starting::initial_region;
 use cics_dispatch::Region;
 use cics_names::{Command, Name8, NoMemory, Verb};
@@ -28,6 +31,8 @@ pub struct Walker {
     plan: Plan,
     // How many lines an order has at most.
     most: usize,
+    // How many lines the clock has up to its last SHUTDOWN.
+    to_shutdown: usize,
     region: Region,
     lanes: Vec<Lane>,
     // The task's lane that gave last.
@@ -37,8 +42,10 @@ pub struct Walker {
 }
 
 impl Model for Walker {
-    ghost use Rattle.std.specs.Prelude.{◌≡◌};
+    ghost use Rattle.std.specs.Prelude.{◌≡◌, true};
+    ghost use Rattle.cics_plans.specs.Proper.{is_proper};
     ghost use Rattle.cics_orders.specs.Giving.{State, line_count};
+    ghost use Rattle.cics_orders.specs.Turns.{lines_to_shutdown};
 
     ghost Value = { State };
 
@@ -50,7 +57,8 @@ impl Model for Walker {
       is_serial = w.is_serial;
     } };
 
-    ghost invariant = { λ w. w.most ≡ line_count w.plan };
+    ghost invariant = { λ w. (w.most ≡ line_count w.plan)
+        × (w.to_shutdown ≡ lines_to_shutdown w.plan.clock) × (is_proper w.plan ≡ true) };
 }
 
 // Returns how many lines the lanes of a plan have.
@@ -126,6 +134,14 @@ fn is_lane(last: Option<usize>, number: usize) -> bool
     }
 }
 
+// Returns whether a lane is within a turn and may give, and the clock's has given so many lines.
+fn goes_on(region: &Region, lane: &Lane, clock: &Lane, lines: usize) -> bool
+    ensures { result ≡ (lane.now.is_in_turn && may_give region.now.machine lane.now
+        && nat_le lines clock.now.given) }
+{
+    lane.is_in_turn && may_give(region, lane) && clock.given >= lines
+}
+
 // Reads the next line of the lane of a number. `None` if it has none left.
 fn read_next(
     alloc: Global,
@@ -152,15 +168,18 @@ impl Walker {
     /// Errors: `NoMemory`.
     #[tactic(auto, unfolding(crate::specs::Giving::initial_state))]
     pub fn new(alloc: Global, plan: Plan) -> Result<Walker, NoMemory>
+        requires { is_proper plan ≡ true }
         ensures { IfOk result (λ walker. walker ≡ initial_state plan) }
     {
         let most = line_count(&plan)?;
+        let to_shutdown = lines_to_shutdown(alloc, plan.clock.as_slice())?;
         let lanes = initial_lanes(alloc, &plan)?;
         let region = initial_region(alloc, &plan)?;
         Ok(Walker {
             alloc,
             plan,
             most,
+            to_shutdown,
             region,
             lanes,
             last: None,
@@ -234,6 +253,40 @@ impl Walker {
         ensures { result ≡ self.now.is_serial }
     {
         self.is_serial
+    }
+
+    // Returns whether the task that gave last is within a turn and may go on with it, and no
+    // shutdown is left. If another task gives then, the order doesn't become a serial one.
+    fn turn_goes_on(&self) -> bool
+        ensures { result ≡ turn_goes_on self.now }
+    {
+        let lanes = self.lanes.as_slice();
+        let Some(number) = self.last else {
+            return false;
+        };
+        let Some(lane) = lanes.get(number) else {
+            return false;
+        };
+        let Some(clock) = lanes.last() else {
+            return false;
+        };
+        goes_on(&self.region, lane, clock, self.to_shutdown)
+    }
+
+    /// Returns whether the order doesn't become a serial one if this lane gives next. Its task is
+    /// within a turn and another gave since, or it leaves one within a turn that may go on.
+    #[tactic(auto, unfolding(crate::specs::Turns::breaks))]
+    pub fn breaks_serial(&self, number: usize) -> bool
+        ensures { result ≡ breaks self.now number }
+    {
+        match self.lanes.get(number) {
+            Some(lane) => {
+                lane.label.is_some()
+                    && !is_lane(self.last, number)
+                    && (lane.is_in_turn || self.turn_goes_on())
+            }
+            None => false,
+        }
     }
 
     // Counts the next line of a lane as given, which may end its task's turn.

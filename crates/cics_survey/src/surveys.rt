@@ -1,6 +1,7 @@
 //! The orders of a script.
 
-ghost use Rattle.std.specs.Prelude.{IfOk};
+ghost use Rattle.std.specs.Prelude.{◌≡◌, true, IfOk};
+ghost use Rattle.cics_plans.specs.Proper.{is_proper};
 ghost use Rattle.cics_plans.specs.Taking.{nothing_taken, taken_apart, planned};
 ghost use Rattle.cics_survey.specs.Surveys.{IsReportOf, IsSurvey};
 
@@ -20,6 +21,7 @@ pub struct Survey {
 
 // Follows the orders of a plan.
 fn follow(alloc: Global, plan: Plan, with_told: bool, limit: u64) -> Result<Report, NoMemory>
+    requires { is_proper plan ≡ true }
     ensures { IfOk result (IsReportOf plan with_told limit) }
 {
     if with_told {

@@ -30,8 +30,8 @@ use Rattle.cics_plans.specs.declared.plans.TaskPlan.{TaskPlan}
 use Rattle.cics_orders.specs.Giving.{State, is_of, is_last, told_more, with_told, hearing, shut, issuing, timing, shutting, attaching, left_by, after_line, late, resumed, drain_step, told_by, drained_once, after_step, drained_within, drained, with_given, counted, ends_turn, given_line, given_by, given, lanes, opened, unless_refused, with_task, task_lane, fresh_lane, initial_state}
 use Rattle.cics_orders.specs.declared.lanes.Lane.{Lane}
 use Rattle.cics_orders.specs.Ended.{ended_task, ended_lane, Agrees, IsAccepted, AcceptsReady}
-use Rattle.cics_orders.proofs.EndedTasks.{ended_put, still_waits, Tells, itself, abends, tells, tells_checked}
-use Rattle.cics_orders.proofs.Resting.{attaches_wait}
+use Rattle.cics_orders.specs.Ways.{attaches_wait}
+use Rattle.cics_orders.specs.EndedTasks.{ended_put, still_waits, Tells, itself, abends, tells, tells_checked}
 
 -- ---- Lanes of a label
 
@@ -112,7 +112,7 @@ Awake m = (x : Bytes) → is_waiting m.waiting x ≡ true → ended_task m.tasks
 abbrev Down : Machine → Type 0
 Down m = m.is_down ≡ true → (x : Bytes) → ended_task m.tasks x ≡ Some false → ⊥
 
-record Fits (s : State) : Type 0 where
+pub record Fits (s : State) : Type 0 where
   pub agrees : Agrees s
   pub awake : Awake s.machine
   pub down : Down s.machine
@@ -262,7 +262,7 @@ shutdown s fits = by m.is_down
       awake = λ x waits. let clash : false ≡ true = ap (λ ws. is_waiting ws x) (sym (waits_shut m.tasks (with_waiting m []))) ∙ waits in cc;
     }
 
-line_fits : (s : State) → Fits s → (r : Result Line LineFault) → Fits (after_line s r)
+pub line_fits : (s : State) → Fits s → (r : Result Line LineFault) → Fits (after_line s r)
 line_fits s fits (Ok (says.Issue label command)) = issue s fits label command
 line_fits s fits (Ok (says.Clock seconds)) = clock s fits seconds
 line_fits s fits (Ok says.Shutdown) = shutdown s fits
@@ -278,7 +278,7 @@ line_fits s fits (Err fault) = fits
 -- ---- A step of draining
 
 -- the first command that may resume waits
-free_waits : (m : Machine) (w : Suspended) (ws : List Suspended) → first_free m ws ≡ Some w → is_waiting ws w.label ≡ true
+pub free_waits : (m : Machine) (w : Suspended) (ws : List Suspended) → first_free m ws ≡ Some w → is_waiting ws w.label ≡ true
 free_waits m w [] is = cc
 free_waits m w (v ∷ ws) is =
     elim (may_go_on m v (task_at m.tasks v.label)) as (λ b. cond b (Some v) (first_free m ws) ≡ Some w → is_waiting (v ∷ ws) w.label ≡ true) [
@@ -287,7 +287,7 @@ free_waits m w (v ∷ ws) is =
     ] is
 
 -- and so does that of the first task that has waited too long, which is the task of its label
-late_waits : (m : Machine) (t : Task) (ws : List Suspended) → first_late m ws ≡ Some t → (is_waiting ws t.label ≡ true) × (task_at m.tasks t.label ≡ Some t)
+pub late_waits : (m : Machine) (t : Task) (ws : List Suspended) → first_late m ws ≡ Some t → (is_waiting ws t.label ≡ true) × (task_at m.tasks t.label ≡ Some t)
 late_waits m t [] is = cc
 late_waits m t (v ∷ ws) is =
     elim (is_late m v (task_at m.tasks v.label)) as (λ b. cond b (task_at m.tasks v.label) (first_late m ws) ≡ Some t → (is_waiting (v ∷ ws) t.label ≡ true) × (task_at m.tasks t.label ≡ Some t)) [
@@ -301,7 +301,7 @@ late_waits m t (v ∷ ws) is =
           (elim (is_same v.label t.label) as (λ b. cond b true (is_waiting ws t.label) ≡ true) [ true ↦ refl | false ↦ rest.0 ], rest.1)
     ] is
 
-not_ended : (o : Option Task) (t : Task) → o ≡ Some t → option_map (λ t. t.has_ended) o ≡ Some false → t.has_ended ≡ false
+pub not_ended : (o : Option Task) (t : Task) → o ≡ Some t → option_map (λ t. t.has_ended) o ≡ Some false → t.has_ended ≡ false
 not_ended o t is ended = cc
 
 module _ (s t : State) (fits : Fits s) where
@@ -338,7 +338,7 @@ module _ (s t : State) (fits : Fits s) where
       (subst (λ l. Tells rest l step) own
       (tells rest u (ap (ended_task mine.tasks) own ∙ there) alive w.command (ap (is_waiting (not_waiting mine.waiting w.label)) own ∙ not_waiting_then mine.waiting w.label) w.op)))
 
-  once_fits : drained_once s ≡ Some t → Fits t
+  pub once_fits : drained_once s ≡ Some t → Fits t
   unfolding drained_once drain_step
   once_fits = by (first_free mine mine.waiting) refl
     where
@@ -359,13 +359,13 @@ within_fits (suc n) s fits = by (within_fits n) (drained_once s) refl
     by rest None is = fits
     by rest (Some t) is = rest t (once_fits s t fits is)
 
-drained_fits : (s : State) → Fits s → Fits (drained s)
+pub drained_fits : (s : State) → Fits s → Fits (drained s)
 unfolding drained
 drained_fits s fits = within_fits (length s.machine.waiting) s fits
 
 -- ---- A lane gives
 
-lanes_given : (xs : List Lane) (l : ℕ) (x : Lane) (ends : Bool) (y : Bytes) → slice_get xs l ≡ Some x → ended_lane (slice_set xs l (with_given x ends)) y ≡ ended_lane xs y
+pub lanes_given : (xs : List Lane) (l : ℕ) (x : Lane) (ends : Bool) (y : Bytes) → slice_get xs l ≡ Some x → ended_lane (slice_set xs l (with_given x ends)) y ≡ ended_lane xs y
 lanes_given [] l x ends y at = cc
 lanes_given (z ∷ zs) zero x ends y at =
     let same : z ≡ x = cc in
@@ -477,7 +477,7 @@ attaches_up : (ts : List TaskPlan) (m : Machine) → m.is_down ≡ false → (fo
 attaches_up [] m up = up
 attaches_up (t ∷ ts) m up = attaches_up ts (with_task m t) (attach_up m t up)
 
-start_fits : (p : Plan) → Fits (initial_state p)
+pub start_fits : (p : Plan) → Fits (initial_state p)
 unfolding initial_state
 start_fits p = record {
   agrees = λ y.
@@ -490,7 +490,7 @@ start_fits p = record {
 -- ---- Whoever is ready is not refused
 
 -- a task without a waiting command doesn't wait
-none_waits : (ws : List Suspended) (label : Bytes) → is_none (option_map (λ w. w.command) (wait_of ws label)) ≡ true → is_waiting ws label ≡ false
+pub none_waits : (ws : List Suspended) (label : Bytes) → is_none (option_map (λ w. w.command) (wait_of ws label)) ≡ true → is_waiting ws label ≡ false
 none_waits [] label none = refl
 none_waits (w ∷ ws) label none = by (none_waits ws label) (is_same w.label label) none
   where

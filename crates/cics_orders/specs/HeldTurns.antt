@@ -1,0 +1,925 @@
+-- Serial orders: what a line leaves as it is, and a task that is left within a turn, which gives in
+-- the end.
+use Rattle.std.proofs.Common.{◌≡◌, ℕ, zero, suc, ◌+◌, ◌-◌, ◌==◌, Bool, true, false, not, ◌&&◌, ◌||◌, ◌⊎◌, List, [], ◌∷◌, ◌++◌, map, length, drop, Option, None, Some, option_map, option_and_then, Result, Ok, Err, refl, ap, sym, ◌∙◌, arith, subst, inl, inr}
+use Rattle.std.proofs.lemmas.Bool.{and_parts, eqb-true, eqb-false, ne_eqb}
+use Rattle.std.specs.Prelude.{if◌then◌else◌, is_some, is_none, slice_get, slice_set}
+use Rattle.std.specs.List.{list_all, list_any}
+use Rattle.cics_names.specs.Keyed.{Bytes, is_same}
+use Rattle.cics_names.specs.KeyedLaws.{is_same-self, is_same-eq}
+use Rattle.cics_names.specs.declared.commands.Command.{Command}
+use Rattle.cics_machine.specs.Machine.{Machine, Task, Suspended, is_waiting, not_waiting, with_waiting, abended, timed_out, task_at}
+use Rattle.cics_machine.specs.Steps.{Stepped, refused_or, issued_by, checked, by_op}
+use Rattle.cics_machine.specs.Checks.{fault_of}
+use Rattle.cics_machine.specs.Blockers.{waiting_command}
+use Rattle.cics_machine.specs.Waits.{wait_of}
+use Rattle.cics_machine.specs.Waking.{first_free, went_on, woken_first, first_late, expired_task, expired, clock_refusal}
+use Rattle.cics_machine.specs.declared.outcomes.Outcome.{Outcome}
+use Rattle.cics_machine.specs.declared.outcomes.Outcome.TheVariants.{Replied, Waiting, Abended, Ended}
+use Rattle.cics_machine.specs.declared.outcomes.Refused.{Refused}
+use Rattle.cics_machine.specs.declared.outcomes.Refused.TheVariants.{RegionDown, TaskEnded, TaskWaiting}
+use Rattle.cics_machine.proofs.KeptTasks.{not_waiting_then}
+use Rattle.cics_machine.proofs.TaskPlaces.{place_of_task}
+use Rattle.cics_script.specs.Lines.{line}
+use Rattle.cics_script.specs.declared.lines.Line.{Line}
+use Rattle.cics_script.specs.declared.lines.Line.TheVariants as says
+use Rattle.cics_script.specs.declared.faults.LineFault.{LineFault}
+use Rattle.cics_lanes.specs.Orders.{Order, after, numbered}
+use Rattle.cics_plans.specs.Firsts.{with_first}
+use Rattle.cics_plans.specs.Taking.{NumberedLine, has_task}
+use Rattle.cics_plans.specs.Proper.{is_command_of, is_timing, has_own_lines, are_distinct, is_proper}
+use Rattle.cics_plans.specs.declared.plans.Plan.{Plan}
+use Rattle.cics_plans.specs.declared.plans.TaskPlan.{TaskPlan}
+use Rattle.cics_orders.specs.Giving.{State, is_of, told_more, with_told, hearing, shut, issuing, timing, shutting, left_by, after_line, late, resumed, drain_step, told_by, drained_once, after_step, drained_within, drained, may_give, is_ready, givers, is_lane, with_given, counted, ends_turn, given_line, given_by, given, lanes, task_lane, fresh_lane, initial_lanes, initial_state}
+use Rattle.cics_plans.proofs.Proper.{Proper, proper_parts, has_first}
+use Rattle.cics_orders.specs.declared.lanes.Lane.{Lane}
+use Rattle.cics_orders.specs.Turns.{is_shutdown, has_shutdown, may_go_on, turn_goes_on, lane_breaks, breaks}
+use Rattle.cics_orders.specs.Ended.{ended_task}
+use Rattle.cics_orders.specs.EndedTasks.{still_waits, Tells, itself, abends, tells, tells_checked}
+use Rattle.cics_orders.specs.EndedLanes.{Fits, free_waits, late_waits, not_ended, line_fits, once_fits, drained_fits, lanes_given, start_fits, none_waits}
+
+-- ---- What no event changes of lanes
+
+pub record Gist : Type 0 where
+  pub label : Option Bytes
+  pub lines : List NumberedLine
+  pub given : ℕ
+  pub is_in_turn : Bool
+
+abbrev pub gist : Lane → Gist
+gist x = record { label = x.label; lines = x.lines; given = x.given; is_in_turn = x.is_in_turn }
+
+-- a state after events: the same plan, and lanes that have given as much
+pub record Stays (s t : State) : Type 0 where
+  pub plan : t.plan ≡ s.plan
+  pub last : t.last ≡ s.last
+  pub serial : t.is_serial ≡ s.is_serial
+  pub gists : map gist t.lanes ≡ map gist s.lanes
+
+stays : (s : State) → Stays s s
+stays s = record { plan = refl; last = refl; serial = refl; gists = refl }
+
+stays_then : (s t u : State) → Stays s t → Stays t u → Stays s u
+stays_then s t u a b = record { plan = b.plan ∙ a.plan; last = b.last ∙ a.last; serial = b.serial ∙ a.serial; gists = b.gists ∙ a.gists }
+
+gists_told : (xs : List Lane) (label : Bytes) (o : Outcome) → map gist (with_told xs label o) ≡ map gist xs
+gists_told [] label o = refl
+gists_told (x ∷ xs) label o = by (gists_told xs label o) (is_of x label)
+  where
+    by : map gist (with_told xs label o) ≡ map gist xs → (b : Bool) → map gist (if b then told_more x o ∷ xs else x ∷ with_told xs label o) ≡ map gist (x ∷ xs)
+    by rest true = refl
+    by rest false = ap (λ gs. gist x ∷ gs) rest
+
+gists_hearing : (xs : List Lane) (label : Bytes) (o : Outcome) → map gist (hearing xs label o) ≡ map gist xs
+gists_hearing xs label (Replied reply) = gists_told xs label (Replied reply)
+gists_hearing xs label (Waiting holder) = refl
+gists_hearing xs label (Abended code reply) = gists_told xs label (Abended code reply)
+gists_hearing xs label Ended = gists_told xs label Ended
+
+gists_shut : (xs : List Lane) → map gist (map shut xs) ≡ map gist xs
+gists_shut [] = refl
+gists_shut (x ∷ xs) = ap (λ gs. gist x ∷ gs) (gists_shut xs)
+
+stays_by : {X : Type 0} (s : State) (told : X → List Lane) (r : Result X Refused) (m : Machine) → ((x : X) → map gist (told x) ≡ map gist s.lanes) → Stays s (left_by s told r m)
+stays_by s told (Ok x) m same = record { plan = refl; last = refl; serial = refl; gists = same x }
+stays_by s told (Err e) m same = stays s
+
+stays_line : (s : State) (r : Result Line LineFault) → Stays s (after_line s r)
+stays_line s (Ok (says.Issue label command)) =
+    let step = issuing s.machine label command in stays_by s (hearing s.lanes label) step.outcome step.machine (λ o. gists_hearing s.lanes label o)
+stays_line s (Ok (says.Clock seconds)) = let step = timing s.machine seconds in stays_by s (λ _. s.lanes) step.outcome step.machine (λ _. refl)
+stays_line s (Ok says.Shutdown) = let step = shutting s.machine in stays_by s (λ _. map shut s.lanes) step.outcome step.machine (λ _. gists_shut s.lanes)
+stays_line s (Ok says.Blank) = stays s
+stays_line s (Ok (says.DefineFile name d)) = stays s
+stays_line s (Ok (says.DefineTsPrefix prefix)) = stays s
+stays_line s (Ok (says.DefineTd name recovery)) = stays s
+stays_line s (Ok (says.LoadFile name content)) = stays s
+stays_line s (Ok (says.LoadTd name content)) = stays s
+stays_line s (Ok (says.Attach label transaction dtimout)) = stays s
+stays_line s (Err fault) = stays s
+
+stays_once : (s t : State) → drained_once s ≡ Some t → Stays s t
+unfolding drained_once
+stays_once s t = by (drain_step s.machine).outcome
+  where
+    by : (o : Option (Bytes × Outcome)) → told_by s o (drain_step s.machine).machine ≡ Some t → Stays s t
+    by (Some told) is =
+        let same : record s { machine = (drain_step s.machine).machine; lanes = hearing s.lanes told.0 told.1 } ≡ t = cc in
+        subst (Stays s) same (record { plan = refl; last = refl; serial = refl; gists = gists_hearing s.lanes told.0 told.1 })
+    by None is = cc
+
+stays_within : (n : ℕ) (s : State) → Stays s (drained_within n s)
+unfolding drained_within
+stays_within zero s = stays s
+stays_within (suc n) s = by (stays_within n) (drained_once s) refl
+  where
+    by : ((t : State) → Stays t (drained_within n t)) → (o : Option State) → drained_once s ≡ o → Stays s (after_step s o (drained_within n))
+    by rest None is = stays s
+    by rest (Some t) is = stays_then s t (drained_within n t) (stays_once s t is) (rest t)
+
+stays_drained : (s : State) → Stays s (drained s)
+unfolding drained
+stays_drained s = stays_within (length s.machine.waiting) s
+
+-- ---- Elements of a changed list
+
+map_set : {X Y : Type 0} (f : X → Y) (xs : List X) (l : ℕ) (y : X) → map f (slice_set xs l y) ≡ slice_set (map f xs) l (f y)
+map_set f [] l y = refl
+map_set f (x ∷ xs) zero y = refl
+map_set f (x ∷ xs) (suc l) y = ap (λ ys. f x ∷ ys) (map_set f xs l y)
+
+-- an element is that which was put, or was there before
+set_at : {X : Type 0} (xs : List X) (l : ℕ) (y : X) (j : ℕ) (z : X) → slice_get (slice_set xs l y) j ≡ Some z → (y ≡ z) ⊎ (slice_get xs j ≡ Some z)
+set_at [] l y j z is = inr is
+set_at (x ∷ xs) zero y zero z is = let same : y ≡ z = cc in inl same
+set_at (x ∷ xs) zero y (suc j) z is = inr is
+set_at (x ∷ xs) (suc l) y zero z is = inr is
+set_at (x ∷ xs) (suc l) y (suc j) z is = set_at xs l y j z is
+
+set_other : {X : Type 0} (xs : List X) (l : ℕ) (y : X) (k : ℕ) → (l ≡ k → ⊥) → slice_get (slice_set xs l y) k ≡ slice_get xs k
+set_other [] l y k other = refl
+set_other (x ∷ xs) zero y zero other = absurd (other refl)
+set_other (x ∷ xs) zero y (suc k) other = refl
+set_other (x ∷ xs) (suc l) y zero other = refl
+set_other (x ∷ xs) (suc l) y (suc k) other = set_other xs l y k (λ e. other (ap suc e))
+
+map_at : {X Y : Type 0} (f : X → Y) (xs : List X) (k : ℕ) (x : X) → slice_get xs k ≡ Some x → slice_get (map f xs) k ≡ Some (f x)
+map_at f [] k x is = cc
+map_at f (y ∷ ys) zero x is = let same : y ≡ x = cc in ap (λ x. Some (f x)) same
+map_at f (y ∷ ys) (suc k) x is = map_at f ys k x is
+
+at_map : {X Y : Type 0} (f : X → Y) (xs : List X) (k : ℕ) (y : Y) → slice_get (map f xs) k ≡ Some y → (x : X) × (slice_get xs k ≡ Some x) × (f x ≡ y)
+at_map f [] k y is = cc
+at_map f (x ∷ xs) zero y is = let same : f x ≡ y = cc in (x, refl, same)
+at_map f (x ∷ xs) (suc k) y is = at_map f xs k y is
+
+-- ---- A lane gives a line
+
+-- a lane gave a line, or it had none left and nothing changed
+record Gave (s : State) (l : ℕ) (x : Lane) (next : NumberedLine) : Type 0 where
+  pub at : slice_get s.lanes l ≡ Some x
+  pub line_at : slice_get x.lines x.given ≡ Some next
+  pub is : given s l ≡ drained (after_line (counted s l x (ends_turn (line next.1))) (line next.1))
+
+given_is : (s : State) (l : ℕ) (o : Option Lane) → slice_get s.lanes l ≡ o → given s l ≡ given_by s l o
+unfolding given
+given_is s l o at = ap (given_by s l) at
+
+gave : (s : State) (l : ℕ) → (given s l ≡ s) ⊎ ((x : Lane) × (next : NumberedLine) × Gave s l x next)
+gave s l = by (slice_get s.lanes l) refl
+  where
+    more : (x : Lane) → slice_get s.lanes l ≡ Some x → (o : Option NumberedLine) → slice_get x.lines x.given ≡ o → (given s l ≡ s) ⊎ ((x : Lane) × (next : NumberedLine) × Gave s l x next)
+    more x at None none = inl (given_is s l (Some x) at ∙ ap (given_line s l x) none)
+    more x at (Some next) found = inr (x, next, record { at = at; line_at = found; is = given_is s l (Some x) at ∙ ap (given_line s l x) found })
+
+    by : (o : Option Lane) → slice_get s.lanes l ≡ o → (given s l ≡ s) ⊎ ((x : Lane) × (next : NumberedLine) × Gave s l x next)
+    by None at = inl (given_is s l None at)
+    by (Some x) at = more x at (slice_get x.lines x.given) refl
+
+-- the state after it
+stays_given : (s : State) (l : ℕ) (x : Lane) (next : NumberedLine) → Gave s l x next → Stays (counted s l x (ends_turn (line next.1))) (given s l)
+stays_given s l x next gave =
+    let c = counted s l x (ends_turn (line next.1)) in
+    subst (Stays c) (sym gave.is) (stays_then c (after_line c (line next.1)) (drained (after_line c (line next.1))) (stays_line c (line next.1)) (stays_drained (after_line c (line next.1))))
+
+-- ---- The states of orders
+
+abbrev pub shape : Gist → Option Bytes × List NumberedLine
+shape g = (g.label, g.lines)
+
+-- the lanes are those of the plan, and the clock is within no turn
+pub record Sound (s : State) : Type 0 where
+  pub fits : Fits s
+  pub own : map shape (map gist s.lanes) ≡ map shape (map gist (initial_lanes s.plan))
+  pub turns : (j : ℕ) (g : Gist) → slice_get (map gist s.lanes) j ≡ Some g → g.label ≡ None → g.is_in_turn ≡ false
+
+sound_stays : (s t : State) → Stays s t → Fits t → Sound s → Sound t
+sound_stays s t same fits sound = record {
+  fits = fits;
+  own = ap (map shape) same.gists ∙ sound.own ∙ ap (λ p. map shape (map gist (initial_lanes p))) (sym same.plan);
+  turns = λ j g at. sound.turns j g (ap (λ gs. slice_get gs j) (sym same.gists) ∙ at);
+}
+
+shapes_set : (xs : List Lane) (l : ℕ) (x : Lane) (ends : Bool) → slice_get xs l ≡ Some x → map shape (map gist (slice_set xs l (with_given x ends))) ≡ map shape (map gist xs)
+shapes_set [] l x ends at = refl
+shapes_set (y ∷ ys) zero x ends at =
+    let same : y ≡ x = cc in ap (λ (x : Lane). shape (gist x) ∷ map shape (map gist ys)) (sym same)
+shapes_set (y ∷ ys) (suc l) x ends at = ap (λ gs. shape (gist y) ∷ gs) (shapes_set ys l x ends at)
+
+no_turn : (label : Option Bytes) (ends : Bool) → label ≡ None → is_some label && not ends ≡ false
+no_turn None ends is = refl
+no_turn (Some l) ends is = cc
+
+counted_fits : (s : State) (l : ℕ) (x : Lane) (ends : Bool) → slice_get s.lanes l ≡ Some x → Fits s → Fits (counted s l x ends)
+counted_fits s l x ends at fits = record { agrees = λ y. lanes_given s.lanes l x ends y at ∙ fits.agrees y; awake = fits.awake; down = fits.down }
+
+sound_counted : (s : State) (l : ℕ) (x : Lane) (ends : Bool) → slice_get s.lanes l ≡ Some x → Sound s → Sound (counted s l x ends)
+sound_counted s l x ends at sound = record {
+  fits = counted_fits s l x ends at sound.fits;
+  own = shapes_set s.lanes l x ends at ∙ sound.own;
+  turns = λ j g is. by j g (set_at (map gist s.lanes) l (gist (with_given x ends)) j g (ap (λ gs. slice_get gs j) (sym (map_set gist s.lanes l (with_given x ends))) ∙ is));
+}
+  where
+    by : (j : ℕ) (g : Gist) → (gist (with_given x ends) ≡ g) ⊎ (slice_get (map gist s.lanes) j ≡ Some g) → g.label ≡ None → g.is_in_turn ≡ false
+    by j g (inl same) none = sym (ap (λ (g : Gist). g.is_in_turn) same) ∙ no_turn x.label ends (ap (λ (g : Gist). g.label) same ∙ none)
+    by j g (inr is) none = sound.turns j g is none
+
+sound_given : (s : State) (l : ℕ) → Sound s → Sound (given s l)
+sound_given s l sound = by (gave s l)
+  where
+    by : (given s l ≡ s) ⊎ ((x : Lane) × (next : NumberedLine) × Gave s l x next) → Sound (given s l)
+    by (inl same) = subst Sound (sym same) sound
+    by (inr (x, next, gave)) =
+        let c = counted s l x (ends_turn (line next.1)) in
+        let start = sound_counted s l x (ends_turn (line next.1)) gave.at sound in
+        sound_stays c (given s l) (stays_given s l x next gave)
+        (subst Fits (sym gave.is) (drained_fits (after_line c (line next.1)) (line_fits c start.fits (line next.1)))) start
+
+pub after_sound : (s : State) (o : Order) → Sound s → Sound (after lanes s o)
+after_sound s [] sound = sound
+after_sound s (l ∷ o) sound = after_sound (given s l) o (sound_given s l sound)
+
+fresh_turns : (ts : List TaskPlan) (clock : List NumberedLine) (j : ℕ) (g : Gist) → slice_get (map gist (map task_lane ts ++ fresh_lane None clock ∷ [])) j ≡ Some g → g.is_in_turn ≡ false
+fresh_turns [] clock zero g at = let same : gist (fresh_lane None clock) ≡ g = cc in sym (ap (λ (g : Gist). g.is_in_turn) same)
+fresh_turns [] clock (suc j) g at = cc
+fresh_turns (t ∷ ts) clock zero g at = let same : gist (task_lane t) ≡ g = cc in sym (ap (λ (g : Gist). g.is_in_turn) same)
+fresh_turns (t ∷ ts) clock (suc j) g at = fresh_turns ts clock j g at
+
+pub start_sound : (p : Plan) → Sound (initial_state p)
+unfolding initial_state
+start_sound p = record { fits = start_fits p; own = refl; turns = λ j g at none. fresh_turns p.tasks p.clock j g at }
+
+-- ---- Serial or not
+
+-- whether the order is serial after a line
+serial_given : (s : State) (l : ℕ) (x : Lane) (next : NumberedLine) → Gave s l x next → (given s l).is_serial ≡ (s.is_serial && (not x.is_in_turn || is_lane s.last l))
+serial_given s l x next gave = (stays_given s l x next gave).serial
+
+never : (a b : Bool) → a ≡ false → a && b ≡ false
+never true b is = cc
+never false b is = refl
+
+never_right : (a b : Bool) → b ≡ false → a && b ≡ false
+never_right true b is = is
+never_right false b is = refl
+
+always : (a b : Bool) → b ≡ true → a && b ≡ a
+always true b is = is
+always false b is = refl
+
+-- an order that is not serial stays so
+lost_given : (s : State) (l : ℕ) → s.is_serial ≡ false → (given s l).is_serial ≡ false
+lost_given s l lost = by (gave s l)
+  where
+    by : (given s l ≡ s) ⊎ ((x : Lane) × (next : NumberedLine) × Gave s l x next) → (given s l).is_serial ≡ false
+    by (inl same) = ap (λ (s : State). s.is_serial) same ∙ lost
+    by (inr (x, next, gave)) = serial_given s l x next gave ∙ never s.is_serial (not x.is_in_turn || is_lane s.last l) lost
+
+-- a lane within a turn that didn't give last makes it so
+loses : (s : State) (l : ℕ) (x : Lane) (next : NumberedLine) → Gave s l x next → x.is_in_turn ≡ true → is_lane s.last l ≡ false → (given s l).is_serial ≡ false
+loses s l x next gave turn other =
+    serial_given s l x next gave
+    ∙ never_right s.is_serial (not x.is_in_turn || is_lane s.last l) (ap (λ b. not b || is_lane s.last l) turn ∙ other)
+
+-- ---- A task that is left within its turn
+
+-- a line that may end the task of a label, or make it wait
+abbrev threatens : Bytes → Result Line LineFault → Bool
+threatens label (Ok (says.Issue own command)) = is_same own label
+threatens label (Ok says.Shutdown) = true
+threatens label _ = false
+
+abbrev threaten : Bytes → List NumberedLine → Bool
+threaten label lines = list_any (λ next. threatens label (line next.1)) lines
+
+-- no other lane has such a line left
+abbrev Spared : ℕ → Bytes → List Gist → Type 0
+Spared k label gs = (j : ℕ) (g : Gist) → slice_get gs j ≡ Some g → (j ≡ k → ⊥) → threaten label (drop g.given g.lines) ≡ false
+
+-- the lane is within a turn and may give, and no other lane changes that
+record Held (k : ℕ) (label : Bytes) (x : Lane) (s : State) : Type 0 where
+  pub at : slice_get s.lanes k ≡ Some x
+  pub awake : is_waiting s.machine.waiting label ≡ false
+  pub spared : Spared k label (map gist s.lanes)
+
+-- the lane of a task that has not ended is within a turn and has a line left
+record Within (label : Bytes) (x : Lane) : Type 0 where
+  pub own : x.label ≡ Some label
+  pub alive : x.has_ended ≡ false
+  pub turn : x.is_in_turn ≡ true
+  pub next : NumberedLine
+  pub line_at : slice_get x.lines x.given ≡ Some next
+
+-- an event leaves a lane as it is, and makes its task not wait
+record Passes (k : ℕ) (label : Bytes) (x : Lane) (s t : State) : Type 0 where
+  pub waits : is_waiting t.machine.waiting label ≡ true → is_waiting s.machine.waiting label ≡ true
+  pub at : slice_get s.lanes k ≡ Some x → slice_get t.lanes k ≡ Some x
+
+held_passes : (k : ℕ) (label : Bytes) (x : Lane) (s t : State) → Stays s t → Passes k label x s t → Held k label x s → Held k label x t
+held_passes k label x s t same passes held = record {
+  at = passes.at held.at;
+  awake = by (is_waiting t.machine.waiting label) refl;
+  spared = λ j g at other. held.spared j g (ap (λ gs. slice_get gs j) (sym same.gists) ∙ at) other;
+}
+  where
+    by : (b : Bool) → is_waiting t.machine.waiting label ≡ b → b ≡ false
+    by false is = refl
+    by true is = let clash : false ≡ true = sym held.awake ∙ passes.waits is in cc
+
+-- the first that is one is changed, and no other
+first_others : {X : Type 0} (is : X → Bool) (change : X → X) (xs : List X) (k : ℕ) (x : X) → is x ≡ false → slice_get xs k ≡ Some x → slice_get (with_first is change xs) k ≡ Some x
+first_others is change [] k x other at = cc
+first_others {X} is change (y ∷ ys) k x other at = by (first_others is change ys) (is y) refl k at
+  where
+    by : ((k : ℕ) (x : X) → is x ≡ false → slice_get ys k ≡ Some x → slice_get (with_first is change ys) k ≡ Some x) → (b : Bool) → is y ≡ b → (k : ℕ) → slice_get (y ∷ ys) k ≡ Some x →
+        slice_get (if b then change y ∷ ys else y ∷ with_first is change ys) k ≡ Some x
+    by rest true one zero at =
+        let same : y ≡ x = cc in
+        let clash : true ≡ false = sym one ∙ ap is same ∙ other in cc
+    by rest true one (suc k) at = at
+    by rest false one zero at = at
+    by rest false one (suc k) at = rest k x other at
+
+of_label : (l : Option Bytes) (x : Lane) (label own : Bytes) → l ≡ Some label → is_of (record x { label = l }) own ≡ is_same label own
+of_label None x label own is = cc
+of_label (Some k) x label own is = let same : k ≡ label = cc in ap (λ k. is_same k own) same
+
+other_way : (a b : Bytes) → is_same a b ≡ false → is_same b a ≡ false
+other_way a b other = by (is_same b a) refl
+  where
+    by : (c : Bool) → is_same b a ≡ c → c ≡ false
+    by false is = refl
+    by true is = let clash : true ≡ false = sym (is_same-self a) ∙ ap (is_same a) (sym (is_same-eq b a is)) ∙ other in cc
+
+module _ (k : ℕ) (label : Bytes) (x : Lane) (within : Within label x) where
+  told_other : (xs : List Lane) (own : Bytes) (o : Outcome) → is_same own label ≡ false → slice_get xs k ≡ Some x → slice_get (with_told xs own o) k ≡ Some x
+  told_other xs own o other at =
+      first_others (λ lane. is_of lane own) (λ lane. told_more lane o) xs k x (of_label x.label x label own within.own ∙ other_way own label other) at
+
+  heard_other : (xs : List Lane) (own : Bytes) (o : Outcome) → is_same own label ≡ false → slice_get xs k ≡ Some x → slice_get (hearing xs own o) k ≡ Some x
+  heard_other xs own (Replied r) other at = told_other xs own (Replied r) other at
+  heard_other xs own (Waiting holder) other at = at
+  heard_other xs own (Abended code r) other at = told_other xs own (Abended code r) other at
+  heard_other xs own Ended other at = told_other xs own Ended other at
+
+  module _ (s : State) (fits : Fits s) where
+    abbrev m : Machine
+    m = s.machine
+
+    same_passes : Passes k label x s s
+    same_passes = record { waits = λ waits. waits; at = λ at. at }
+
+    -- a step of another task
+    step_passes : (n : Machine) (own : Bytes) (step : Stepped Outcome) → is_same own label ≡ false → Tells n own step →
+        (is_waiting n.waiting label ≡ true → is_waiting m.waiting label ≡ true) → Passes k label x s (record s { machine = step.machine; lanes = hearing s.lanes own step.outcome })
+    step_passes n own step other tells before = record {
+      waits = λ waits. before (tells.others label other waits);
+      at = heard_other s.lanes own step.outcome other;
+    }
+
+    issue_passes : (own : Bytes) (c : Command) → is_same own label ≡ false → Passes k label x s (after_line s (Ok (says.Issue own c)))
+    unfolding issuing
+    issue_passes own c other = by m.is_down
+      where
+        after_step_of : Stepped (Result Outcome Refused) → State
+        after_step_of r = left_by s (hearing s.lanes own) r.outcome r.machine
+
+        step : Task → Stepped Outcome
+        step t = checked m t c (fault_of m t c.verb)
+
+        unless : (t : Task) → task_at m.tasks own ≡ Some t → (b d : Bool) → t.has_ended ≡ b → is_waiting m.waiting t.label ≡ d →
+            Passes k label x s (after_step_of (refused_or m (if b then Some TaskEnded else if d then Some TaskWaiting else None) (step t)))
+        unless t at true d ended waits = same_passes
+        unless t at false true ended waits = same_passes
+        unless t at false false ended waits =
+            let mine : t.label ≡ own = (place_of_task m.tasks own t at).2 in
+            let there : ended_task m.tasks own ≡ Some false = ap (option_map (λ t. t.has_ended)) at ∙ ap Some ended in
+            step_passes m own (step t) other
+            (subst (λ l. Tells m l (step t)) mine (tells_checked m t (ap (ended_task m.tasks) mine ∙ there) ended c waits (fault_of m t c.verb))) (λ waits. waits)
+
+        task : (o : Option Task) → task_at m.tasks own ≡ o → Passes k label x s (after_step_of (issued_by m c o))
+        task None at = same_passes
+        task (Some t) at = unless t at t.has_ended (is_waiting m.waiting t.label) refl refl
+
+        by : (b : Bool) → Passes k label x s (after_step_of (if b then record { outcome = Err RegionDown; machine = m } else issued_by m c (task_at m.tasks own)))
+        by true = same_passes
+        by false = task (task_at m.tasks own) refl
+
+    clock_passes : (seconds : ℕ) → Passes k label x s (after_line s (Ok (says.Clock seconds)))
+    unfolding timing
+    clock_passes seconds = by m.is_down (clock_refusal m seconds)
+      where
+        after_step_of : Stepped (Result (Unit {0}) Refused) → State
+        after_step_of r = left_by s (λ _. s.lanes) r.outcome r.machine
+
+        by : (b : Bool) (r : Option Refused) →
+            Passes k label x s (after_step_of (if b then record { outcome = Err RegionDown; machine = m } else refused_or m r (record { outcome = tt; machine = record m { clock = seconds } })))
+        by true r = same_passes
+        by false (Some e) = same_passes
+        by false None = record { waits = λ waits. waits; at = λ at. at }
+
+    line_passes : (r : Result Line LineFault) → threatens label r ≡ false → Passes k label x s (after_line s r)
+    line_passes (Ok (says.Issue own command)) other = issue_passes own command other
+    line_passes (Ok (says.Clock seconds)) other = clock_passes seconds
+    line_passes (Ok says.Shutdown) other = cc
+    line_passes (Ok says.Blank) other = same_passes
+    line_passes (Ok (says.DefineFile name d)) other = same_passes
+    line_passes (Ok (says.DefineTsPrefix prefix)) other = same_passes
+    line_passes (Ok (says.DefineTd name recovery)) other = same_passes
+    line_passes (Ok (says.LoadFile name content)) other = same_passes
+    line_passes (Ok (says.LoadTd name content)) other = same_passes
+    line_passes (Ok (says.Attach own transaction dtimout)) other = same_passes
+    line_passes (Err fault) other = same_passes
+
+    module _ (t : State) (awake : is_waiting s.machine.waiting label ≡ false) where
+      -- a task that waits is another
+      waits_other : (own : Bytes) → is_waiting m.waiting own ≡ true → is_same own label ≡ false
+      waits_other own waits = by (is_same own label) refl
+        where
+          by : (b : Bool) → is_same own label ≡ b → b ≡ false
+          by false is = refl
+          by true is = let clash : true ≡ false = sym waits ∙ ap (is_waiting m.waiting) (is_same-eq own label is) ∙ awake in cc
+
+      expires_passes : (o : Option Task) → first_late m m.waiting ≡ o →
+          told_by s (late m (expired_task m o).outcome (expired_task m o).machine).outcome (late m (expired_task m o).outcome (expired_task m o).machine).machine ≡ Some t → Passes k label x s t
+      expires_passes None at is = cc
+      expires_passes (Some u) at is =
+          let found = late_waits m u m.waiting at in
+          let there : ended_task m.tasks u.label ≡ Some false = fits.awake u.label found.0 in
+          let alive : u.has_ended ≡ false = not_ended (task_at m.tasks u.label) u found.1 there in
+          let same : record s { machine = abended m u; lanes = hearing s.lanes u.label (Abended timed_out None) } ≡ t = cc in
+          subst (Passes k label x s) same
+          (step_passes m u.label (record { outcome = Abended timed_out None; machine = abended m u }) (waits_other u.label found.0)
+          (abends m u there alive m u timed_out None (itself m u there alive) refl) (λ waits. waits))
+
+      resumes_passes : (w : Suspended) → first_free m m.waiting ≡ Some w → (o : Option Task) → task_at m.tasks w.label ≡ o → (expiry : Stepped (Option (Bytes × Outcome))) →
+          (told_by s expiry.outcome expiry.machine ≡ Some t → Passes k label x s t) →
+          told_by s (resumed (went_on m w o).outcome (went_on m w o).machine expiry).outcome (resumed (went_on m w o).outcome (went_on m w o).machine expiry).machine ≡ Some t → Passes k label x s t
+      resumes_passes w free None at expiry else_passes is = else_passes is
+      resumes_passes w free (Some u) at expiry else_passes is =
+          let rest = with_waiting m (not_waiting m.waiting w.label) in
+          let own : u.label ≡ w.label = (place_of_task m.tasks w.label u at).2 in
+          let waits = free_waits m w m.waiting free in
+          let there : ended_task m.tasks w.label ≡ Some false = fits.awake w.label waits in
+          let alive : u.has_ended ≡ false = not_ended (task_at m.tasks w.label) u at there in
+          let step = by_op rest u w.command w.op in
+          let same : record s { machine = step.machine; lanes = hearing s.lanes w.label step.outcome } ≡ t = cc in
+          subst (Passes k label x s) same
+          (step_passes rest w.label step (waits_other w.label waits)
+          (subst (λ l. Tells rest l step) own
+          (tells rest u (ap (ended_task m.tasks) own ∙ there) alive w.command (ap (is_waiting (not_waiting m.waiting w.label)) own ∙ not_waiting_then m.waiting w.label) w.op))
+          (still_waits m.waiting w.label label))
+
+      once_passes : drained_once s ≡ Some t → Passes k label x s t
+      unfolding drained_once drain_step
+      once_passes = by (first_free m m.waiting) refl
+        where
+          expiry : Stepped (Option (Bytes × Outcome))
+          expiry = late m (expired m).outcome (expired m).machine
+
+          by : (o : Option Suspended) → first_free m m.waiting ≡ o →
+              told_by s (resumed (woken_first m o).outcome (woken_first m o).machine expiry).outcome (resumed (woken_first m o).outcome (woken_first m o).machine expiry).machine ≡ Some t →
+              Passes k label x s t
+          by None at is = expires_passes (first_late m m.waiting) refl is
+          by (Some w) at is = resumes_passes w at (task_at m.tasks w.label) refl expiry (expires_passes (first_late m m.waiting) refl) is
+
+  held_within : (n : ℕ) (s : State) → Fits s → Held k label x s → Held k label x (drained_within n s)
+  unfolding drained_within
+  held_within zero s fits held = held
+  held_within (suc n) s fits held = by (held_within n) (drained_once s) refl
+    where
+      by : ((t : State) → Fits t → Held k label x t → Held k label x (drained_within n t)) → (o : Option State) → drained_once s ≡ o → Held k label x (after_step s o (drained_within n))
+      by rest None is = held
+      by rest (Some t) is = rest t (once_fits s t fits is) (held_passes k label x s t (stays_once s t is) (once_passes s fits t held.awake is) held)
+
+  held_drained : (s : State) → Fits s → Held k label x s → Held k label x (drained s)
+  unfolding drained
+  held_drained s fits held = held_within (length s.machine.waiting) s fits held
+
+  held_line : (s : State) → Fits s → (r : Result Line LineFault) → threatens label r ≡ false → Held k label x s → Held k label x (after_line s r)
+  held_line s fits r other held = held_passes k label x s (after_line s r) (stays_line s r) (line_passes s fits r other) held
+
+-- ---- The lines that are left
+
+neither : (a b : Bool) → a || b ≡ false → (a ≡ false) × (b ≡ false)
+neither true b is = cc
+neither false b is = (refl, is)
+
+threaten_next : (label : Bytes) (lines : List NumberedLine) (n : ℕ) (next : NumberedLine) → slice_get lines n ≡ Some next → threaten label (drop n lines) ≡ false →
+    (threatens label (line next.1) ≡ false) × (threaten label (drop (suc n) lines) ≡ false)
+threaten_next label [] n next at none = cc
+threaten_next label (y ∷ ys) zero next at none =
+    let same : y ≡ next = cc in
+    let split = neither (threatens label (line y.1)) (threaten label ys) none in (ap (λ (y : NumberedLine). threatens label (line y.1)) (sym same) ∙ split.0, split.1)
+threaten_next label (y ∷ ys) (suc n) next at none = threaten_next label ys n next at none
+
+one_more : (n : ℕ) → n + 1 ≡ suc n
+one_more n = omega arith
+
+-- ---- Another lane gives
+
+gave_at : (s : State) (k : ℕ) (x : Lane) (next : NumberedLine) → slice_get s.lanes k ≡ Some x → slice_get x.lines x.given ≡ Some next → Gave s k x next
+gave_at s k x next at line_at = record { at = at; line_at = line_at; is = given_is s k (Some x) at ∙ ap (given_line s k x) line_at }
+
+module _ (k : ℕ) (label : Bytes) (x : Lane) (within : Within label x) (s : State) (sound : Sound s) (held : Held k label x s) (l : ℕ) (other : l ≡ k → ⊥) where
+  -- its next line is no threat
+  next_spares : (y : Lane) (next : NumberedLine) → Gave s l y next → (threatens label (line next.1) ≡ false) × (threaten label (drop (suc y.given) y.lines) ≡ false)
+  next_spares y next gave = threaten_next label y.lines y.given next gave.line_at (held.spared l (gist y) (map_at gist s.lanes l y gave.at) other)
+
+  held_counted : (y : Lane) (next : NumberedLine) (ends : Bool) → Gave s l y next → Held k label x (counted s l y ends)
+  held_counted y next ends gave = record {
+    at = set_other s.lanes l (with_given y ends) k other ∙ held.at;
+    awake = held.awake;
+    spared = λ j g at apart. by j g apart (set_at (map gist s.lanes) l (gist (with_given y ends)) j g (ap (λ gs. slice_get gs j) (sym (map_set gist s.lanes l (with_given y ends))) ∙ at));
+  }
+    where
+      by : (j : ℕ) (g : Gist) → (j ≡ k → ⊥) → (gist (with_given y ends) ≡ g) ⊎ (slice_get (map gist s.lanes) j ≡ Some g) → threaten label (drop g.given g.lines) ≡ false
+      by j g apart (inl same) =
+          ap (λ (g : Gist). threaten label (drop g.given g.lines)) (sym same) ∙ ap (λ n. threaten label (drop n y.lines)) (one_more y.given) ∙ (next_spares y next gave).1
+      by j g apart (inr at) = held.spared j g at apart
+
+  held_given : Held k label x (given s l)
+  held_given = by (gave s l)
+    where
+      by : (given s l ≡ s) ⊎ ((y : Lane) × (next : NumberedLine) × Gave s l y next) → Held k label x (given s l)
+      by (inl same) = subst (Held k label x) (sym same) held
+      by (inr (y, next, gave)) =
+          let ends = ends_turn (line next.1) in
+          let c = counted s l y ends in
+          let fits = counted_fits s l y ends gave.at sound.fits in
+          subst (Held k label x) (sym gave.is)
+          (held_drained k label x within (after_line c (line next.1)) (line_fits c fits (line next.1))
+          (held_line k label x within c fits (line next.1) (next_spares y next gave).0 (held_counted y next ends gave)))
+
+-- ---- A task owes a line
+
+-- a task was left within its turn and may give
+record Owes (s : State) : Type 0 where
+  pub k : ℕ
+  pub label : Bytes
+  pub lane : Lane
+  pub within : Within label lane
+  pub held : Held k label lane s
+  pub other : is_lane s.last k ≡ false
+
+-- the order does not become a serial one
+abbrev Lost : State → Type 0
+Lost s = (s.is_serial ≡ false) ⊎ Owes s
+
+last_given : (s : State) (l k : ℕ) → l == k ≡ false → is_lane s.last k ≡ false → is_lane (given s l).last k ≡ false
+last_given s l k apart other = by (gave s l)
+  where
+    or_last : (label : Option Bytes) → is_lane (if is_some label then Some l else s.last) k ≡ false
+    or_last None = other
+    or_last (Some own) = apart
+
+    by : (given s l ≡ s) ⊎ ((y : Lane) × (next : NumberedLine) × Gave s l y next) → is_lane (given s l).last k ≡ false
+    by (inl same) = ap (λ (s : State). is_lane s.last k) same ∙ other
+    by (inr (y, next, gave)) = ap (λ last. is_lane last k) (stays_given s l y next gave).last ∙ or_last y.label
+
+lost_step : (s : State) (l : ℕ) → Sound s → Lost s → Lost (given s l)
+lost_step s l sound (inl lost) = inl (lost_given s l lost)
+lost_step s l sound (inr owes) = by (l == owes.k) refl
+  where
+    by : (b : Bool) → l == owes.k ≡ b → Lost (given s l)
+    by true is =
+        let same : l ≡ owes.k = eqb-true l owes.k is in
+        inl (ap (λ l. (given s l).is_serial) same
+        ∙ loses s owes.k owes.lane owes.within.next (gave_at s owes.k owes.lane owes.within.next owes.held.at owes.within.line_at) owes.within.turn owes.other)
+    by false is = inr (record {
+      k = owes.k;
+      label = owes.label;
+      lane = owes.lane;
+      within = owes.within;
+      held = held_given owes.k owes.label owes.lane owes.within s sound owes.held l (eqb-false l owes.k is);
+      other = last_given s l owes.k is owes.other;
+    })
+
+lost_after : (s : State) (q : Order) → Sound s → Lost s → Lost (after lanes s q)
+lost_after s [] sound lost = lost
+lost_after s (l ∷ q) sound lost = lost_after (given s l) q (sound_given s l sound) (lost_step s l sound lost)
+
+-- ---- Where no lane may give
+
+none_give : {X : Type 0} (may : X → Bool) (n : ℕ) (xs : List X) (k : ℕ) (x : X) → numbered may n xs ≡ [] → slice_get xs k ≡ Some x → may x ≡ false
+none_give may n [] k x none at = cc
+none_give {X} may n (y ∷ ys) k x none at = by (none_give may (suc n) ys) (may y) refl none k at
+  where
+    by : ((k : ℕ) (x : X) → numbered may (suc n) ys ≡ [] → slice_get ys k ≡ Some x → may x ≡ false) → (b : Bool) → may y ≡ b →
+        (if b then n ∷ numbered may (suc n) ys else numbered may (suc n) ys) ≡ [] → (k : ℕ) → slice_get (y ∷ ys) k ≡ Some x → may x ≡ false
+    by rest true is none k at = cc
+    by rest false is none zero at = let same : y ≡ x = cc in ap may (sym same) ∙ is
+    by rest false is none (suc k) at = rest k x none at
+
+idle : (ws : List Suspended) (label : Bytes) → is_waiting ws label ≡ false → is_none (option_map (λ w. w.command) (wait_of ws label)) ≡ true
+idle [] label awake = refl
+idle (w ∷ ws) label awake = by (idle ws label) (is_same w.label label) awake
+  where
+    by : (is_waiting ws label ≡ false → is_none (option_map (λ w. w.command) (wait_of ws label)) ≡ true) → (b : Bool) → (if b then true else is_waiting ws label) ≡ false →
+        is_none (option_map (λ w. w.command) (if b then Some w else wait_of ws label)) ≡ true
+    by rest true awake = cc
+    by rest false awake = rest awake
+
+may_still : (m : Machine) (label : Bytes) (x : Lane) → Within label x → is_waiting m.waiting label ≡ false → may_give m x ≡ true
+may_still m label x within awake =
+    ap (λ o. is_some o && is_ready m x.has_ended x.label) within.line_at ∙ ap (λ e. is_ready m e x.label) within.alive ∙ ap (λ l. is_ready m false l) within.own
+    ∙ idle m.waiting label awake
+
+lost_ends : (s : State) → Lost s → givers s 0 ≡ [] → s.is_serial ≡ false
+lost_ends s (inl lost) none = lost
+lost_ends s (inr owes) none =
+    let clash : true ≡ false = sym (may_still s.machine owes.label owes.lane owes.within owes.held.awake) ∙ none_give (may_give s.machine) 0 s.lanes owes.k owes.lane none owes.held.at in
+    cc
+
+-- ---- The lines of other lanes
+
+any_drop : {X : Type 0} (test : X → Bool) (n : ℕ) (xs : List X) → list_any test xs ≡ false → list_any test (drop n xs) ≡ false
+any_drop test zero xs none = none
+any_drop test (suc n) [] none = none
+any_drop test (suc n) (x ∷ xs) none = any_drop test n xs (neither (test x) (list_any test xs) none).1
+
+own_command : (own label : Bytes) (r : Result Line LineFault) → is_same own label ≡ false → is_command_of own r ≡ true → threatens label r ≡ false
+own_command own label (Ok (says.Issue by command)) other is = ap (λ l. is_same l label) (is_same-eq by own is) ∙ other
+own_command own label (Ok (says.Clock seconds)) other is = refl
+own_command own label (Ok says.Shutdown) other is = cc
+own_command own label (Ok says.Blank) other is = refl
+own_command own label (Ok (says.DefineFile name d)) other is = refl
+own_command own label (Ok (says.DefineTsPrefix prefix)) other is = refl
+own_command own label (Ok (says.DefineTd name recovery)) other is = refl
+own_command own label (Ok (says.LoadFile name content)) other is = refl
+own_command own label (Ok (says.LoadTd name content)) other is = refl
+own_command own label (Ok (says.Attach by transaction dtimout)) other is = refl
+own_command own label (Err fault) other is = refl
+
+own_spares : (own label : Bytes) (lines : List NumberedLine) → is_same own label ≡ false → list_all (λ next. is_command_of own (line next.1)) lines ≡ true → threaten label lines ≡ false
+own_spares own label [] other all = refl
+own_spares own label (next ∷ lines) other all =
+    let split = and_parts (is_command_of own (line next.1)) (list_all (λ next. is_command_of own (line next.1)) lines) all in
+    ap (λ b. b || threaten label lines) (own_command own label (line next.1) other split.0) ∙ own_spares own label lines other split.1
+
+timing_spares : (label : Bytes) (r : Result Line LineFault) → is_timing r ≡ true → is_shutdown r ≡ false → threatens label r ≡ false
+timing_spares label (Ok (says.Issue by command)) is off = cc
+timing_spares label (Ok (says.Clock seconds)) is off = refl
+timing_spares label (Ok says.Shutdown) is off = cc
+timing_spares label (Ok says.Blank) is off = refl
+timing_spares label (Ok (says.DefineFile name d)) is off = refl
+timing_spares label (Ok (says.DefineTsPrefix prefix)) is off = refl
+timing_spares label (Ok (says.DefineTd name recovery)) is off = refl
+timing_spares label (Ok (says.LoadFile name content)) is off = refl
+timing_spares label (Ok (says.LoadTd name content)) is off = refl
+timing_spares label (Ok (says.Attach by transaction dtimout)) is off = refl
+timing_spares label (Err fault) is off = refl
+
+clock_spares : (label : Bytes) (n : ℕ) (lines : List NumberedLine) → list_all (λ next. is_timing (line next.1)) lines ≡ true → has_shutdown (drop n lines) ≡ false → threaten label (drop n lines) ≡ false
+clock_spares label zero [] all none = refl
+clock_spares label (suc n) [] all none = refl
+clock_spares label zero (next ∷ lines) all none =
+    let split = and_parts (is_timing (line next.1)) (list_all (λ next. is_timing (line next.1)) lines) all in
+    let left = neither (is_shutdown (line next.1)) (has_shutdown lines) none in
+    ap (λ b. b || threaten label lines) (timing_spares label (line next.1) split.0 left.0) ∙ clock_spares label zero lines split.1 left.1
+clock_spares label (suc n) (next ∷ lines) all none =
+    clock_spares label n lines (and_parts (is_timing (line next.1)) (list_all (λ next. is_timing (line next.1)) lines) all).1 none
+
+-- the tasks of a label are one
+has_at : (ts : List TaskPlan) (label : Bytes) (k : ℕ) (u : TaskPlan) → has_task ts label ≡ false → slice_get ts k ≡ Some u → is_same u.label label ≡ false
+has_at [] label k u none at = cc
+has_at (t ∷ ts) label k u none at = by (λ k. has_at ts label k u) (is_same t.label label) refl (sym (has_first t ts label) ∙ none) k at
+  where
+    by : ((k : ℕ) → has_task ts label ≡ false → slice_get ts k ≡ Some u → is_same u.label label ≡ false) → (b : Bool) → is_same t.label label ≡ b →
+        (if b then true else has_task ts label) ≡ false → (k : ℕ) → slice_get (t ∷ ts) k ≡ Some u → is_same u.label label ≡ false
+    by rest true is none k at = cc
+    by rest false is none zero at = let same : t ≡ u = cc in ap (λ (t : TaskPlan). is_same t.label label) (sym same) ∙ is
+    by rest false is none (suc k) at = rest k none at
+
+off : (b : Bool) → not b ≡ true → b ≡ false
+off true is = cc
+off false is = refl
+
+apart : (ts : List TaskPlan) (j k : ℕ) (t u : TaskPlan) → are_distinct ts ≡ true → slice_get ts j ≡ Some t → slice_get ts k ≡ Some u → (j ≡ k → ⊥) → is_same t.label u.label ≡ false
+apart [] j k t u distinct at_j at_k other = cc
+apart (v ∷ ts) zero zero t u distinct at_j at_k other = absurd (other refl)
+apart (v ∷ ts) zero (suc k) t u distinct at_j at_k other =
+    let same : v ≡ t = cc in
+    let split = and_parts (not (has_task ts v.label)) (are_distinct ts) distinct in
+    ap (λ (v : TaskPlan). is_same v.label u.label) (sym same) ∙ other_way u.label v.label (has_at ts v.label k u (off (has_task ts v.label) split.0) at_k)
+apart (v ∷ ts) (suc j) zero t u distinct at_j at_k other =
+    let same : v ≡ u = cc in
+    let split = and_parts (not (has_task ts v.label)) (are_distinct ts) distinct in
+    ap (λ (v : TaskPlan). is_same t.label v.label) (sym same) ∙ has_at ts v.label j t (off (has_task ts v.label) split.0) at_j
+apart (v ∷ ts) (suc j) (suc k) t u distinct at_j at_k other =
+    apart ts j k t u (and_parts (not (has_task ts v.label)) (are_distinct ts) distinct).1 at_j at_k (λ e. other (ap suc e))
+
+-- each lane is that of a task, or the clock's
+abbrev FromTask : List TaskPlan → ℕ → Option Bytes × List NumberedLine → Type 0
+FromTask ts j h = (t : TaskPlan) × (slice_get ts j ≡ Some t) × (shape (gist (task_lane t)) ≡ h)
+
+abbrev FromClock : List TaskPlan → List NumberedLine → ℕ → Option Bytes × List NumberedLine → Type 0
+FromClock ts clock j h = (j ≡ length ts) × (shape (gist (fresh_lane None clock)) ≡ h)
+
+from_plan : (ts : List TaskPlan) (clock : List NumberedLine) (j : ℕ) (h : Option Bytes × List NumberedLine) →
+    slice_get (map shape (map gist (map task_lane ts ++ fresh_lane None clock ∷ []))) j ≡ Some h → FromTask ts j h ⊎ FromClock ts clock j h
+from_plan [] clock zero h at = let same : shape (gist (fresh_lane None clock)) ≡ h = cc in inr (refl, same)
+from_plan [] clock (suc j) h at = cc
+from_plan (t ∷ ts) clock zero h at = let same : shape (gist (task_lane t)) ≡ h = cc in inl (t, refl, same)
+from_plan (t ∷ ts) clock (suc j) h at = by (from_plan ts clock j h at)
+  where
+    by : FromTask ts j h ⊎ FromClock ts clock j h → FromTask (t ∷ ts) (suc j) h ⊎ FromClock (t ∷ ts) clock (suc j) h
+    by (inl task) = inl task
+    by (inr (is, same)) = inr (ap suc is, same)
+
+shape_count : (xs : List Lane) → length (map shape (map gist xs)) ≡ length xs
+shape_count [] = refl
+shape_count (x ∷ xs) = ap suc (shape_count xs)
+
+lane_count : (ts : List TaskPlan) (clock : List NumberedLine) → length (map task_lane ts ++ fresh_lane None clock ∷ []) ≡ suc (length ts)
+lane_count [] clock = refl
+lane_count (t ∷ ts) clock = ap suc (lane_count ts clock)
+
+module _ (s : State) (sound : Sound s) (proper : Proper s.plan) where
+  abbrev tasks : List TaskPlan
+  tasks = s.plan.tasks
+
+  from : (j : ℕ) (g : Gist) → slice_get (map gist s.lanes) j ≡ Some g → FromTask tasks j (shape g) ⊎ FromClock tasks s.plan.clock j (shape g)
+  from j g at = from_plan tasks s.plan.clock j (shape g) (ap (λ hs. slice_get hs j) (sym sound.own) ∙ map_at shape (map gist s.lanes) j g at)
+
+  how_many : length s.lanes ≡ suc (length tasks)
+  how_many = sym (shape_count s.lanes) ∙ ap length sound.own ∙ shape_count (initial_lanes s.plan) ∙ lane_count tasks s.plan.clock
+
+  all_at : (j : ℕ) (t : TaskPlan) (ts : List TaskPlan) → list_all has_own_lines ts ≡ true → slice_get ts j ≡ Some t → has_own_lines t ≡ true
+  all_at j t [] all at = cc
+  all_at zero t (u ∷ us) all at = let same : u ≡ t = cc in ap has_own_lines (sym same) ∙ (and_parts (has_own_lines u) (list_all has_own_lines us) all).0
+  all_at (suc j) t (u ∷ us) all at = all_at j t us (and_parts (has_own_lines u) (list_all has_own_lines us) all).1 at
+
+  -- no other lane ends the task of a label, if no shutdown is left
+  spares : (k : ℕ) (label : Bytes) (x clock : Lane) → slice_get s.lanes k ≡ Some x → x.label ≡ Some label → slice_get s.lanes (length s.lanes - 1) ≡ Some clock →
+      has_shutdown (drop clock.given s.plan.clock) ≡ false → Spared k label (map gist s.lanes)
+  spares k label x clock at_k own at_clock none j g at other = by (from k (gist x) (map_at gist s.lanes k x at_k)) (from j g at)
+    where
+      task : (u : TaskPlan) → slice_get tasks k ≡ Some u → u.label ≡ label → FromTask tasks j (shape g) → threaten label (drop g.given g.lines) ≡ false
+      task u at_u is (t, at_t, same) =
+          let lines : t.lines ≡ g.lines = ap (λ (h : Option Bytes × List NumberedLine). h.1) same in
+          ap (λ ls. threaten label (drop g.given ls)) (sym lines)
+          ∙ any_drop (λ (next : NumberedLine). threatens label (line next.1)) g.given t.lines
+          (own_spares t.label label t.lines (ap (is_same t.label) (sym is) ∙ apart tasks j k t u proper.distinct at_t at_u other) (all_at j t tasks proper.own at_t))
+
+      of_clock : FromClock tasks s.plan.clock j (shape g) → threaten label (drop g.given g.lines) ≡ false
+      of_clock (is, same) =
+          let lines : s.plan.clock ≡ g.lines = ap (λ (h : Option Bytes × List NumberedLine). h.1) same in
+          let place : length s.lanes - 1 ≡ j = omega (arith, how_many, is) in
+          let found = at_map gist s.lanes j g at in
+          let one : found.0 ≡ clock = only found.0 (sym found.1 ∙ ap (slice_get s.lanes) (sym place) ∙ at_clock) in
+          let given : clock.given ≡ g.given = ap (λ (y : Lane). y.given) (sym one) ∙ ap (λ (g : Gist). g.given) found.2 in
+          ap (λ ls. threaten label (drop g.given ls)) (sym lines) ∙ ap (λ n. threaten label (drop n s.plan.clock)) (sym given)
+          ∙ clock_spares label clock.given s.plan.clock proper.clock none
+        where
+          only : (y : Lane) → Some y ≡ Some clock → y ≡ clock
+          only y is = cc
+
+      by : FromTask tasks k (shape (gist x)) ⊎ FromClock tasks s.plan.clock k (shape (gist x)) → FromTask tasks j (shape g) ⊎ FromClock tasks s.plan.clock j (shape g) →
+          threaten label (drop g.given g.lines) ≡ false
+      by (inr (is, same)) from_j =
+          let clash : None ≡ Some label = ap (λ (h : Option Bytes × List NumberedLine). h.0) same ∙ own in cc
+      by (inl (u, at_u, same)) (inl from_j) = task u at_u (some (ap (λ (h : Option Bytes × List NumberedLine). h.0) same ∙ own)) from_j
+        where
+          some : Some u.label ≡ Some label → u.label ≡ label
+          some is = cc
+      by (inl from_k) (inr from_j) = of_clock from_j
+
+-- ---- Lanes that break serial orders
+
+-- what it is for a lane to break a serial order
+record Breaks (s : State) (l : ℕ) (y : Lane) : Type 0 where
+  pub task : is_some y.label ≡ true
+  pub other : is_lane s.last l ≡ false
+  pub turn : y.is_in_turn || turn_goes_on s ≡ true
+
+breaks_so : (s : State) (l : ℕ) (y : Lane) → slice_get s.lanes l ≡ Some y → breaks s l ≡ true → Breaks s l y
+unfolding breaks
+breaks_so s l y at is =
+    let split = and_parts (is_some y.label && not (is_lane s.last l)) (y.is_in_turn || turn_goes_on s) (ap (lane_breaks s l) (sym at) ∙ is) in
+    let first = and_parts (is_some y.label) (not (is_lane s.last l)) split.0 in
+    record { task = first.0; other = off (is_lane s.last l) first.1; turn = split.1 }
+
+-- what it is for a turn to go on
+record GoesOn (s : State) (k : ℕ) (x clock : Lane) : Type 0 where
+  pub proper : is_proper s.plan ≡ true
+  pub last : s.last ≡ Some k
+  pub at : slice_get s.lanes k ≡ Some x
+  pub at_clock : slice_get s.lanes (length s.lanes - 1) ≡ Some clock
+  pub turn : x.is_in_turn ≡ true
+  pub may : may_give s.machine x ≡ true
+  pub none : has_shutdown (drop clock.given s.plan.clock) ≡ false
+
+goes_on : (s : State) → turn_goes_on s ≡ true → (k : ℕ) × (x : Lane) × (clock : Lane) × GoesOn s k x clock
+goes_on s is =
+    let split = and_parts (is_proper s.plan) (may_go_on s (option_and_then (slice_get s.lanes) s.last) (slice_get s.lanes (length s.lanes - 1))) is in
+    by split.0 s.last refl split.1
+  where
+    clock : (k : ℕ) (x : Lane) → is_proper s.plan ≡ true → s.last ≡ Some k → slice_get s.lanes k ≡ Some x → (c : Option Lane) → slice_get s.lanes (length s.lanes - 1) ≡ c →
+        may_go_on s (Some x) c ≡ true → (k : ℕ) × (x : Lane) × (clock : Lane) × GoesOn s k x clock
+    clock k x proper last at None at_clock is = cc
+    clock k x proper last at (Some c) at_clock is =
+        let split = and_parts (x.is_in_turn && may_give s.machine x) (not (has_shutdown (drop c.given s.plan.clock))) is in
+        let first = and_parts (x.is_in_turn) (may_give s.machine x) split.0 in (
+          k,
+          x,
+          c,
+          record { proper = proper; last = last; at = at; at_clock = at_clock; turn = first.0; may = first.1; none = off (has_shutdown (drop c.given s.plan.clock)) split.1 },
+        )
+
+    lane : (k : ℕ) → is_proper s.plan ≡ true → s.last ≡ Some k → (o : Option Lane) → slice_get s.lanes k ≡ o → may_go_on s o (slice_get s.lanes (length s.lanes - 1)) ≡ true →
+        (k : ℕ) × (x : Lane) × (clock : Lane) × GoesOn s k x clock
+    lane k proper last None at is = cc
+    lane k proper last (Some x) at is = clock k x proper last at (slice_get s.lanes (length s.lanes - 1)) refl is
+
+    by : is_proper s.plan ≡ true → (o : Option ℕ) → s.last ≡ o → may_go_on s (option_and_then (slice_get s.lanes) o) (slice_get s.lanes (length s.lanes - 1)) ≡ true →
+        (k : ℕ) × (x : Lane) × (clock : Lane) × GoesOn s k x clock
+    by proper None last is = cc
+    by proper (Some k) last is = lane k proper last (slice_get s.lanes k) refl is
+
+-- what it is for a lane of a task to be able to give
+within_turn : (m : Machine) (x : Lane) → (x.label ≡ None → x.is_in_turn ≡ false) → x.is_in_turn ≡ true → may_give m x ≡ true → (label : Bytes) × Within label x × (is_waiting m.waiting label ≡ false)
+within_turn m x turns turn may = by x.label refl
+  where
+    split : (is_some (slice_get x.lines x.given) ≡ true) × (is_ready m x.has_ended x.label ≡ true)
+    split = and_parts (is_some (slice_get x.lines x.given)) (is_ready m x.has_ended x.label) may
+
+    there : (o : Option NumberedLine) → is_some o ≡ true → (next : NumberedLine) × (o ≡ Some next)
+    there None is = cc
+    there (Some next) is = (next, refl)
+
+    by : (o : Option Bytes) → x.label ≡ o → (label : Bytes) × Within label x × (is_waiting m.waiting label ≡ false)
+    by None own = let clash : true ≡ false = sym turn ∙ turns own in cc
+    by (Some label) own =
+        let ready = and_parts (not x.has_ended) (is_none (waiting_command m label)) (ap (is_ready m x.has_ended) (sym own) ∙ split.1) in
+        let next = there (slice_get x.lines x.given) split.0 in (
+          label,
+          record { own = own; alive = off x.has_ended ready.0; turn = turn; next = next.0; line_at = next.1 },
+          none_waits m.waiting label ready.1,
+        )
+
+-- after a lane that breaks it the order does not become a serial one
+lost_broken : (s : State) (l : ℕ) (y : Lane) (next : NumberedLine) → Sound s → Gave s l y next → breaks s l ≡ true → Lost (given s l)
+lost_broken s l y next sound gave is = by y.is_in_turn refl broken.turn
+  where
+    broken : Breaks s l y
+    broken = breaks_so s l y gave.at is
+
+    left : (k : ℕ) (x clock : Lane) → GoesOn s k x clock → Owes (given s l)
+    left k x clock on =
+        let apart : k ≡ l → ⊥ = eqb-false k l (ap (λ o. is_lane o l) (sym on.last) ∙ broken.other) in
+        let off : l ≡ k → ⊥ = λ e. apart (sym e) in
+        let found = within_turn s.machine x (sound.turns k (gist x) (map_at gist s.lanes k x on.at)) on.turn on.may in
+        let label = found.0 in
+        let within = found.1 in
+        let held : Held k label x s = record {
+          at = on.at;
+          awake = found.2;
+          spared = spares s sound (proper_parts s.plan on.proper) k label x clock on.at within.own on.at_clock on.none;
+        } in
+        record {
+          k = k;
+          label = label;
+          lane = x;
+          within = within;
+          held = held_given k label x within s sound held l off;
+          other =
+              ap (λ last. is_lane last k) (stays_given s l y next gave).last ∙ ap (λ b. is_lane (if b then Some l else s.last) k) broken.task ∙ ne_eqb l k off;
+        }
+
+    by : (b : Bool) → y.is_in_turn ≡ b → b || turn_goes_on s ≡ true → Lost (given s l)
+    by true turn all = inl (loses s l y next gave turn broken.other)
+    by false turn on = let found = goes_on s on in inr (left found.0 found.1 found.2 found.3)
+
+-- a lane that may give has a line left
+gives_line : (s : State) (l : ℕ) (y : Lane) → slice_get s.lanes l ≡ Some y → may_give s.machine y ≡ true → (next : NumberedLine) × Gave s l y next
+gives_line s l y at may = by (slice_get y.lines y.given) refl (and_parts (is_some (slice_get y.lines y.given)) (is_ready s.machine y.has_ended y.label) may).0
+  where
+    by : (o : Option NumberedLine) → slice_get y.lines y.given ≡ o → is_some o ≡ true → (next : NumberedLine) × Gave s l y next
+    by None line_at is = cc
+    by (Some next) line_at is = (next, gave_at s l y next at line_at)
+
+-- after a lane that breaks it no order that ends is serial
+pub broken_ends : (s : State) (l : ℕ) (y : Lane) (q : Order) → Sound s → slice_get s.lanes l ≡ Some y → may_give s.machine y ≡ true → breaks s l ≡ true →
+    givers (after lanes (given s l) q) 0 ≡ [] → (after lanes (given s l) q).is_serial ≡ false
+broken_ends s l y q sound at may is none =
+    let found = gives_line s l y at may in
+    lost_ends (after lanes (given s l) q) (lost_after (given s l) q (sound_given s l sound) (lost_broken s l y found.0 sound found.1 is)) none
+
+-- any other lane leaves an order serial or not
+pub kept_serial : (s : State) (l : ℕ) → Sound s → breaks s l ≡ false → (given s l).is_serial ≡ s.is_serial
+unfolding breaks
+kept_serial s l sound is = by (gave s l)
+  where
+    spared : (label : Option Bytes) (last turn goes : Bool) → (label ≡ None → turn ≡ false) → is_some label && not last && (turn || goes) ≡ false → not turn || last ≡ true
+    spared None last turn goes turns is = ap (λ b. not b || last) (turns refl)
+    spared (Some own) true true goes turns is = refl
+    spared (Some own) true false goes turns is = refl
+    spared (Some own) false true goes turns is = cc
+    spared (Some own) false false goes turns is = refl
+
+    by : (given s l ≡ s) ⊎ ((y : Lane) × (next : NumberedLine) × Gave s l y next) → (given s l).is_serial ≡ s.is_serial
+    by (inl same) = ap (λ (s : State). s.is_serial) same
+    by (inr (y, next, gave)) =
+        serial_given s l y next gave
+        ∙ always s.is_serial (not y.is_in_turn || is_lane s.last l)
+        (spared y.label (is_lane s.last l) y.is_in_turn (turn_goes_on s) (sound.turns l (gist y) (map_at gist s.lanes l y gave.at)) (ap (lane_breaks s l) (sym gave.at) ∙ is))
