@@ -14,3 +14,4 @@ pub mod Ways
 pub mod SplitStates
 pub mod Turns
 pub mod TurnLaws
+pub mod StampLaws
