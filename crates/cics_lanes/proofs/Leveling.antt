@@ -1,5 +1,5 @@
 -- A level is the grouping of the orders that are followed, and the next one is what it leads to.
-use Rattle.std.proofs.Common.{◌≡◌, ℕ, suc, ◌+◌, Bool, true, false, not, if◌then◌else◌, List, [], ◌∷◌, ◌++◌, map, inr, refl, ap, sym, ◌∙◌, arith, subst}
+use Rattle.std.proofs.Common.{length, ◌≤◌, ◌≡◌, ℕ, suc, ◌+◌, Bool, true, false, not, if◌then◌else◌, List, [], ◌∷◌, ◌++◌, map, inr, refl, ap, sym, ◌∙◌, arith, subst}
 use Rattle.std.specs.List.{flat_map, filter}
 use Rattle.std.specs.Str.{bytes_eq}
 use Rattle.std.proofs.lemmas.List.{map-append}
@@ -9,7 +9,7 @@ use Rattle.cics_names.specs.Keyed.{Bytes}
 use Rattle.cics_lanes.specs.Orders.{Order, Lanes, IsOneOf, IsWay, AreStampedAlike, after, AreAmong}
 use Rattle.cics_lanes.specs.Endings.{Parts, kept_number}
 use Rattle.cics_lanes.specs.Groups.{added_all}
-use Rattle.cics_lanes.specs.Levels.{followed, lanes_of, is_none_left, led_joined, entry, spread, level, IsLevel, IsNext}
+use Rattle.cics_lanes.specs.Levels.{followed, lanes_of, is_none_left, led_joined, entry, spread, level, IsLevel, IsNext, state_count}
 use Rattle.cics_lanes.specs.declared.levels.Led.{Led}
 use Rattle.cics_lanes.proofs.Regrouping.{AreLaws, Each, Leads, keys, merged, regrouped}
 use Rattle.cics_lanes.proofs.Sublists.{among_all, among_trans, among_flat_map, among_filter, some_groups}
@@ -180,3 +180,19 @@ module _ {S : Type 0} (lanes : Lanes S) (breaks : S → ℕ → Bool) (stamp : B
           of_some (filter (λ o. found.0 (stamp b (after lanes s o))) is.orders) (among_filter (λ o. found.0 (stamp b (after lanes s o))) is.orders)
           (found.1 ∙ ap (added_all bytes_eq led_joined []) (filter_map_both (λ o. entry lanes breaks stamp b o 1 (after lanes s o)) (λ e. found.0 e.0) is.orders))
           (λ so. absurd (true≢false (sym so ∙ at)))
+
+-- as long as the levels have no more states than the limit, the search is whole
+pub level_met : {S : Type 0} (lanes : Lanes S) (breaks : S → ℕ → Bool) (stamp : Bool → S → Bytes) (b : Bool) (s : S) (n limit met more : ℕ) (w v : Bool) (es next : List (Bytes × Led)) →
+    IsLevel lanes breaks stamp b s n w es → IsNext lanes breaks stamp b s w v es next →
+    (w ≡ true → met ≤ state_count lanes breaks stamp b s n) → (state_count lanes breaks stamp b s n ≤ limit → w ≡ true) →
+    more ≤ met + length es → (met + length es ≤ limit → v ≡ w) →
+    (v ≡ true → more ≤ state_count lanes breaks stamp b s (suc n)) × (state_count lanes breaks stamp b s (suc n) ≤ limit → v ≡ true)
+level_met lanes breaks stamp b s n limit met more w v es next is on so_far within met_more stays = (
+  λ whole. let all = (on.whole whole).0 in omega (arith, so_far all, met_more, size all),
+  λ fits.
+      let all = within (omega (arith, fits)) in
+      stays (omega (arith, so_far all, size all, fits)) ∙ all,
+)
+  where
+    size : w ≡ true → length es ≡ length (level lanes breaks stamp b s (followed lanes breaks b n s))
+    size all = ap length (is.groups ∙ ap (level lanes breaks stamp b s) (is.whole all))

@@ -1,5 +1,5 @@
 -- The levels of a search: the states after orders of so many lines, states of one stamp once.
-use Rattle.std.specs.Prelude.{◌≡◌, ℕ, zero, suc, ◌+◌, Bool, true, false, not, if◌then◌else◌, List, [], ◌∷◌, ◌++◌, map, filter}
+use Rattle.std.specs.Prelude.{◌≡◌, ℕ, zero, suc, ◌+◌, Bool, true, false, not, if◌then◌else◌, List, [], ◌∷◌, ◌++◌, map, length, filter}
 use Rattle.std.specs.List.{flat_map}
 use Rattle.cics_names.specs.Keyed.{Bytes}
 use Rattle.cics_lanes.specs.Orders.{Order, Lanes, after, led_by, AreAmong}
@@ -55,6 +55,11 @@ pub record IsLevel {S : Type 0} (lanes : Lanes S) (breaks : S → ℕ → Bool) 
   pub among : AreAmong orders (followed lanes breaks b n s)
   pub groups : es ≡ level lanes breaks stamp b s orders
   pub whole : is_whole ≡ true → orders ≡ followed lanes breaks b n s
+
+-- how many states the first `n` levels have, if all orders are followed
+abbrev pub state_count : {S : Type 0} → Lanes S → (S → ℕ → Bool) → (Bool → S → Bytes) → Bool → S → ℕ → ℕ
+state_count lanes breaks stamp b s zero = 0
+state_count lanes breaks stamp b s (suc n) = state_count lanes breaks stamp b s n + length (level lanes breaks stamp b s (followed lanes breaks b n s))
 
 -- Some entries of a level are followed, and all if the search is whole after it.
 pub record IsNext {S : Type 0} (lanes : Lanes S) (breaks : S → ℕ → Bool) (stamp : Bool → S → Bytes) (b : Bool) (s : S) (was_whole is_whole : Bool) (es next : List (Bytes × Led)) : Type 0 where

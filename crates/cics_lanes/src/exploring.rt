@@ -1,11 +1,12 @@
 //! Follows orders level by level, and counts those that lead to each ending.
 
-ghost use Rattle.std.specs.Prelude.{◌≡◌, [], ◌∷◌, ◌++◌, true, map, IfOk, OnOk};
+ghost use Rattle.std.specs.Prelude.{◌≡◌, ◌≤◌, ◌<◌, ◌+◌, [], ◌∷◌, ◌++◌, length, map};
+ghost use Rattle.std.specs.Prelude.{true, false, IfOk, OnOk};
 ghost use Rattle.std.specs.Str.{bytes_eq};
 ghost use Rattle.cics_lanes.specs.Endings.{are_same};
 ghost use Rattle.cics_lanes.specs.Groups.{added_all};
 ghost use Rattle.cics_lanes.specs.Levels.{led_joined, led_on, spread, told};
-ghost use Rattle.cics_lanes.specs.Levels.{IsLevel, IsNext};
+ghost use Rattle.cics_lanes.specs.Levels.{IsLevel, IsNext, state_count};
 ghost use Rattle.cics_lanes.specs.Tallies.{tally_joined};
 ghost use Rattle.cics_lanes.specs.Reports.{IsReport};
 
@@ -35,14 +36,33 @@ struct Search {
     alloc: Global,
     // Whether it follows serial orders alone.
     is_serial: bool,
-    // How many states it follows, before it follows only some of each level.
+    // How many states its levels may have, before it follows only some of each.
     limit: u64,
     // How many of each level it follows then.
     share: u64,
-    // How many it has followed.
-    followed: u64,
+    // How many states its levels so far had.
+    met: u64,
     // Whether it has left out no state.
     is_whole: bool,
+}
+
+// Which states of a level are followed.
+#[derive(Clone, Copy)]
+struct Thinning {
+    // Whether only some are.
+    is_over: bool,
+    // How many are followed then, and how many there are.
+    share: u64,
+    count: usize,
+}
+
+impl Thinning {
+    // Returns whether the state of an index is followed. One where no lane may give always is.
+    fn keeps(&self, led: &Led, at: usize) -> bool
+        ensures { self.now.is_over ≡ false → result ≡ true }
+    {
+        !self.is_over || led.has_ended || is_kept(at, self.share, self.count)
+    }
 }
 
 // Returns whether the state of an index is followed, if `most` of `count` are: they are spread
@@ -65,23 +85,37 @@ fn with_lane(alloc: Global, order: &[usize], lane: usize) -> Result<Items<usize>
 }
 
 impl Search {
-    // Returns a search that has followed nothing yet. Orders have so many lines at most.
+    // Returns a search that has met no state yet. Orders have so many lines at most.
     fn new(alloc: Global, is_serial: bool, limit: u64, lines: usize) -> Search
-        ensures { result.is_serial ≡ is_serial }
+        ensures serial { result.is_serial ≡ is_serial }
+        ensures limit { result.limit ≡ limit }
+        ensures met { result.met ≡ 0 }
+        ensures whole { result.is_whole ≡ true }
     {
         Search {
             alloc,
             is_serial,
             limit,
             share: (limit / (lines as u64).saturating_add(1)).max(1),
-            followed: 0,
+            met: 0,
             is_whole: true,
         }
     }
 
-    // Returns whether the limit leaves only some states of a level that has so many.
-    fn is_over(&self, count: usize) -> bool {
-        self.followed.saturating_add(count as u64) > self.limit
+    // Counts the states of a level. Returns which of them are followed.
+    fn thin(&mut self, count: usize) -> Thinning
+        ensures over { result.is_over ≡ true → self.old.limit < self.old.met + count }
+        ensures met { self.new.met ≤ self.old.met + count }
+        ensures limit { self.new.limit ≡ self.old.limit }
+        ensures serial { self.new.is_serial ≡ self.old.is_serial }
+        ensures whole { self.new.is_whole ≡ self.old.is_whole }
+    {
+        self.met = self.met.saturating_add(count as u64);
+        Thinning {
+            is_over: self.met > self.limit,
+            share: self.share,
+            count,
+        }
     }
 
     // Follows the lanes of a state: adds the states that they lead to to the next level.
@@ -106,23 +140,20 @@ impl Search {
 
     // Follows an entry of a level: adds what it leads to to the next level.
     fn step<W: Walk>(
-        &mut self,
+        &self,
         walk: &mut W,
         stamp: Stamp,
         led: Led,
         next: &mut Level,
     ) -> Result<(), NoMemory>
         ensures next { OnOk result (next.new.entries ≡ added_all bytes_eq led_joined
-            next.old.entries (spread W.lanes W.breaks W.stamp self.old.is_serial
+            next.old.entries (spread W.lanes W.breaks W.stamp self.now.is_serial
             (W.start walk.old) (stamp, led))) }
         ensures start { OnOk result (W.start walk.new ≡ W.start walk.old) }
-        ensures serial { self.new.is_serial ≡ self.old.is_serial }
-        ensures whole { self.new.is_whole ≡ self.old.is_whole }
     {
         if led.has_ended {
             return add(next, stamp, led);
         }
-        self.followed = self.followed.saturating_add(1);
         self.follow(walk, &led, next)
     }
 
@@ -132,15 +163,18 @@ impl Search {
             (W.start walk.old) self.old.is_whole self.new.is_whole level.entries next.entries) }
         ensures start { OnOk result (W.start walk.new ≡ W.start walk.old) }
         ensures serial { OnOk result (self.new.is_serial ≡ self.old.is_serial) }
+        ensures limit { OnOk result (self.new.limit ≡ self.old.limit) }
+        ensures met { OnOk result (self.new.met ≤ self.old.met + length level.entries) }
+        ensures within { OnOk result (self.old.met + length level.entries ≤ self.old.limit →
+            self.new.is_whole ≡ self.old.is_whole) }
     {
-        let count = level.len();
-        let is_over = self.is_over(count);
+        let thinning = self.thin(level.len());
         let mut next = IndexMap::new(self.alloc);
         let mut at = 0usize;
         for (stamp, led) in level {
-            let is_followed = led.has_ended || !is_over || is_kept(at, self.share, count);
+            let is_kept = thinning.keeps(&led, at);
             at = at.saturating_add(1);
-            if is_followed {
+            if is_kept {
                 self.step(walk, stamp, led, &mut next)?;
             } else {
                 self.is_whole = false;
@@ -152,10 +186,14 @@ impl Search {
     // Follows orders from the start of a walk. Returns the level of the states after so many
     // lines.
     fn run<W: Walk>(&mut self, walk: &mut W, lines: usize) -> Result<Level, NoMemory>
+        requires met { self.old.met ≡ 0 }
+        requires whole { self.old.is_whole ≡ true }
         ensures level { IfOk result (λ level. IsLevel W.lanes W.breaks W.stamp self.old.is_serial
             (W.start walk.old) lines self.new.is_whole level.entries) }
         ensures start { OnOk result (W.start walk.new ≡ W.start walk.old) }
         ensures serial { OnOk result (self.new.is_serial ≡ self.old.is_serial) }
+        ensures within { OnOk result (state_count W.lanes W.breaks W.stamp self.old.is_serial
+            (W.start walk.old) lines ≤ self.old.limit → self.new.is_whole ≡ true) }
     {
         walk.restart()?;
         let (stamp, led) = entry(self.alloc, walk, self.is_serial, Items::new(self.alloc))?;
@@ -189,12 +227,12 @@ impl Search {
 /// orders is kept. Each ending stands once, with the first order that leads to it, and how many
 /// orders and serial orders do. Serial orders are followed by themselves.
 ///
-/// Once more than `limit` states would be followed, only some states of each level are. Then the
-/// report isn't whole: its endings are those of some orders, and numbers are lower bounds.
+/// If the levels have more than `limit` states, only some of each level are followed from there on.
+/// Then the report isn't whole: its endings are those of some orders, and numbers are lower bounds.
 ///
 /// Errors: `NoMemory`.
 ///
-/// Cost: O(states * lanes * lines) lines that are given, and as many stamps as states and lanes.
+/// Cost: O(states * lanes * lines) lines that are given, and O(states * lanes) stamps.
 pub fn explore<W: Walk>(alloc: Global, walk: &mut W, limit: u64) -> Result<Report, NoMemory>
     ensures { IfOk result (λ report. IsReport W.lanes W.ending W.serial
         (W.most (W.start walk.old)) (W.start walk.old) report) }

@@ -18,18 +18,18 @@ returns g c =
     let run : w.start c.run.new.walk ≡ s = c.in_ok-level.ensures.start ∙ begun in
     let between : w.start c.tell.new.walk ≡ s = c.in_ok-tell.ensures.start ∙ run in
     let run_too : w.start c.run-2.new.walk ≡ s = c.in_ok-level-2.ensures.start ∙ between in
-    let plain : c.run.new.self.is_serial ≡ false = c.in_ok-level.ensures.serial ∙ c.new-all.ensures in
-    let serial : c.run-2.new.self.is_serial ≡ true = c.in_ok-level-2.ensures.serial ∙ c.new-serial.ensures in
+    let plain : c.run.new.self.is_serial ≡ false = c.in_ok-level.ensures.serial ∙ c.new-all.ensures.serial in
+    let serial : c.run-2.new.self.is_serial ≡ true = c.in_ok-level-2.ensures.serial ∙ c.new-serial.ensures.serial in
     let most : c.line_count-lines.result ≡ w.most s = c.line_count-lines.ensures ∙ ap w.most c.in_ok-restart.ensures in
     let all : IsLevel w.lanes w.breaks w.stamp false s (w.most s) c.run.new.self.is_whole es
     = subst (λ (n : ℕ). IsLevel w.lanes w.breaks w.stamp false s n c.run.new.self.is_whole es) most
     (subst (λ u. IsLevel w.lanes w.breaks w.stamp false u c.line_count-lines.result c.run.new.self.is_whole es) begun
-    (subst (λ (b : Bool). IsLevel w.lanes w.breaks w.stamp b (w.start c.restart.new.self) c.line_count-lines.result c.run.new.self.is_whole es) c.new-all.ensures
+    (subst (λ (b : Bool). IsLevel w.lanes w.breaks w.stamp b (w.start c.restart.new.self) c.line_count-lines.result c.run.new.self.is_whole es) c.new-all.ensures.serial
     c.in_ok-level.ensures.level)) in
     let some : IsLevel w.lanes w.breaks w.stamp true s (w.most s) c.run-2.new.self.is_whole fs
     = subst (λ (n : ℕ). IsLevel w.lanes w.breaks w.stamp true s n c.run-2.new.self.is_whole fs) most
     (subst (λ u. IsLevel w.lanes w.breaks w.stamp true u c.line_count-lines.result c.run-2.new.self.is_whole fs) between
-    (subst (λ (b : Bool). IsLevel w.lanes w.breaks w.stamp b (w.start c.tell.new.walk) c.line_count-lines.result c.run-2.new.self.is_whole fs) c.new-serial.ensures
+    (subst (λ (b : Bool). IsLevel w.lanes w.breaks w.stamp b (w.start c.tell.new.walk) c.line_count-lines.result c.run-2.new.self.is_whole fs) c.new-serial.ensures.serial
     c.in_ok-level-2.ensures.level)) in
     let first : c.tell.new.met.entries ≡ added_all are_same tally_joined [] (map (told w.lanes w.ending false s) es)
     = c.in_ok-tell.ensures.met ∙ (λ i. added_all are_same tally_joined (c.new-met.ensures.empty i) (map (told w.lanes w.ending (plain i) (run i)) es)) in

@@ -1,4 +1,4 @@
-use Rattle.std.proofs.Common.{◌≡◌, List, []}
+use Rattle.std.proofs.Common.{◌≡◌, ◌≤◌, ◌+◌, length, false, List, []}
 use Rattle.std.specs.List.{flat_map}
 use Rattle.std.specs.Str.{bytes_eq}
 use Rattle.cics_names.specs.Keyed.{Bytes}
@@ -16,6 +16,9 @@ invariant-loop-stamp g l =
     record {
       start : w.start l.walk ≡ s;
       serial : l.self.is_serial ≡ l.fn.self.is_serial;
+      limit : l.self.limit ≡ l.fn.self.limit;
+      met : l.self.met ≤ l.fn.self.met + length l.fn.level.entries;
+      within : l.thinning.is_over ≡ false → l.self.is_whole ≡ l.fn.self.is_whole;
       some : List (Bytes × Led);
       part : IsPart l.fn.self.is_whole l.self.is_whole l.fn.level.entries l.stamp-iterator some;
       next : l.next.entries ≡ added_all bytes_eq led_joined [] (flat_map (spread w.lanes w.breaks w.stamp l.fn.self.is_serial s) some);

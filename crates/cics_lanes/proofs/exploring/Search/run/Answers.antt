@@ -1,10 +1,10 @@
-use Rattle.std.proofs.Common.{◌≡◌, ◌∙◌, suc, ◌+◌, ap, refl, subst, arith, Bool, ℕ, [], ◌∷◌, List}
+use Rattle.std.proofs.Common.{◌≡◌, ◌∙◌, suc, ◌+◌, ◌≤◌, length, sym, ap, refl, subst, arith, Bool, ℕ, [], ◌∷◌, List}
 use Rattle.std.specs.Str.{bytes_eq}
 use Rattle.cics_names.specs.Keyed.{Bytes}
 use Rattle.cics_lanes.specs.Groups.{added}
-use Rattle.cics_lanes.specs.Levels.{led_joined, entry, IsLevel, IsNext}
+use Rattle.cics_lanes.specs.Levels.{led_joined, entry, IsLevel, IsNext, state_count}
 use Rattle.cics_lanes.specs.declared.levels.Led.{Led}
-use Rattle.cics_lanes.proofs.Leveling.{first_level, level_on}
+use Rattle.cics_lanes.proofs.Leveling.{first_level, level_on, level_met}
 use Rattle.cics_lanes.proofs.exploring.Search.run.Goals as goal
 
 -- the start is the first level
@@ -17,6 +17,9 @@ loop-init g c =
     record {
       start = ap w.start c.in_ok-restart.ensures ∙ w.start_is_start c.args.walk.now;
       serial = refl;
+      limit = refl;
+      met = λ whole. omega (arith, c.requires.met);
+      within = λ fits. c.requires.whole;
       level = first_level w.lanes w.breaks w.stamp w.ending b s (w.stamps_tell b c.args.walk.now) c.args.self.now.is_whole c.add.new.met.entries
           (c.in_ok-add.ensures ∙ ap (λ (es : List (Bytes × Led)). added bytes_eq led_joined es c.in_ok-stamp.stamp c.in_ok-stamp.led) c.new-level.ensures.empty
           ∙ ap (λ (e : Bytes × Led). e ∷ []) made);
@@ -33,10 +36,16 @@ loop-preserved g c =
     let next : IsNext w.lanes w.breaks w.stamp b s c.loop.self.is_whole c.next.new.self.is_whole c.loop.level.entries c.in_ok-level.level.entries
     = subst (λ t. IsNext w.lanes w.breaks w.stamp b t c.loop.self.is_whole c.next.new.self.is_whole c.loop.level.entries c.in_ok-level.level.entries) inv.start
     (subst (λ (v : Bool). IsNext w.lanes w.breaks w.stamp v (w.start c.loop.walk) c.loop.self.is_whole c.next.new.self.is_whole c.loop.level.entries c.in_ok-level.level.entries) inv.serial step.next) in
+    let more = level_met w.lanes w.breaks w.stamp b s c.loop.counter c.args.self.now.limit c.loop.self.met c.next.new.self.met c.loop.self.is_whole c.next.new.self.is_whole
+    c.loop.level.entries c.in_ok-level.level.entries inv.level next inv.met inv.within step.met
+    (λ fits. step.within (subst (λ (n : ℕ). c.loop.self.met + length c.loop.level.entries ≤ n) (sym inv.limit) fits)) in
     let one : suc c.loop.counter ≡ c.loop.counter + 1 = omega arith in
     record {
       start = step.start ∙ inv.start;
       serial = step.serial ∙ inv.serial;
+      limit = step.limit ∙ inv.limit;
+      met = λ whole. subst (λ (n : ℕ). c.next.new.self.met ≤ state_count w.lanes w.breaks w.stamp b s n) one (more.0 whole);
+      within = λ fits. more.1 (subst (λ (n : ℕ). state_count w.lanes w.breaks w.stamp b s n ≤ c.args.self.now.limit) (sym one) fits);
       level = subst (λ (n : ℕ). IsLevel w.lanes w.breaks w.stamp b s n c.next.new.self.is_whole c.in_ok-level.level.entries) one
           (level_on w.lanes w.breaks w.stamp w.ending b s (w.stamps_tell b c.args.walk.now) c.loop.counter c.loop.self.is_whole c.next.new.self.is_whole
           c.loop.level.entries c.in_ok-level.level.entries inv.level next);

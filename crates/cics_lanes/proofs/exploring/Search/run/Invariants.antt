@@ -1,5 +1,5 @@
-use Rattle.std.proofs.Common.{◌≡◌}
-use Rattle.cics_lanes.specs.Levels.{IsLevel}
+use Rattle.std.proofs.Common.{◌≡◌, ◌≤◌, true}
+use Rattle.cics_lanes.specs.Levels.{IsLevel, state_count}
 use Rattle.cics_lanes.proofs.exploring.Search.run.Given as goal
 
 -- the level of the states after so many lines
@@ -10,5 +10,8 @@ invariant-loop g l =
     record {
       start : w.start l.walk ≡ s;
       serial : l.self.is_serial ≡ l.fn.self.is_serial;
+      limit : l.self.limit ≡ l.fn.self.limit;
+      met : l.self.is_whole ≡ true → l.self.met ≤ state_count w.lanes w.breaks w.stamp l.fn.self.is_serial s l.counter;
+      within : state_count w.lanes w.breaks w.stamp l.fn.self.is_serial s l.counter ≤ l.fn.self.limit → l.self.is_whole ≡ true;
       level : IsLevel w.lanes w.breaks w.stamp l.fn.self.is_serial s l.counter l.self.is_whole l.level.entries;
     }
