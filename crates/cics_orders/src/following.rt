@@ -1,10 +1,11 @@
 //! Every order of a plan.
 
-ghost use Rattle.std.specs.Prelude.{◌≡◌, true, IfOk};
+ghost use Rattle.std.specs.Prelude.{◌≡◌, Bool, true, IfOk};
 ghost use Rattle.cics_lanes.specs.Endings.{Parts};
 ghost use Rattle.cics_lanes.specs.Reports.{IsReport};
 ghost use Rattle.cics_plans.specs.Proper.{is_proper};
 ghost use Rattle.cics_orders.specs.Giving.{State, lanes, initial_state, line_count};
+ghost use Rattle.cics_orders.specs.Same.{SameState};
 
 use crate::walks::Walker;
 use cics_lanes::{Report, Walk, explore};
@@ -17,6 +18,16 @@ use std::marker::Model;
 pub trait Tells {
     /// The parts in which the ending of a state is told.
     ghost told: { State → Parts };
+
+    /// Whether the parts have all that tasks were told, and not only how each ended.
+    ghost all: { Bool };
+
+    /// States of which the same is seen have the same ending.
+    ghost alike: { (serial : Bool) (s t : State) → SameState all serial s t → told s ≡ told t };
+
+    /// Returns whether the parts have all that tasks were told.
+    fn has_told(&self) -> bool
+        ensures { result ≡ all };
 
     /// Returns the parts of the ending.
     ///
@@ -41,15 +52,17 @@ impl<T> Model for Following<T> {
 }
 
 impl<T: Tells> Walk for Following<T> {
-    ghost use Rattle.cics_orders.specs.Giving.{lanes, initial_state, line_count};
-    ghost use Rattle.cics_orders.specs.OrderLaws.{lanes_ordered, most_ends};
-    ghost use Rattle.cics_orders.specs.OrderLaws.{start_stays, start_again};
+    ghost use Rattle.cics_orders.specs.Giving.{lanes, line_count};
+    ghost use Rattle.cics_orders.specs.OrderLaws.{lanes_ordered};
+    ghost use Rattle.cics_orders.specs.Stamps.{state_stamp};
+    ghost use Rattle.cics_orders.specs.StampLaws.{proper_state, start_of, given_start};
+    ghost use Rattle.cics_orders.specs.StampLaws.{start_start, starts_end, stamps_tell};
     ghost use Rattle.cics_orders.specs.Turns.{breaks};
     ghost use Rattle.cics_orders.specs.TurnLaws.{serial_starts, keeps_serial, breaks_serial};
 
     ghost lanes = { lanes };
 
-    ghost start = { λ s. initial_state s.plan };
+    ghost start = { start_of };
 
     ghost ending = { T.told };
 
@@ -57,21 +70,25 @@ impl<T: Tells> Walk for Following<T> {
 
     ghost breaks = { breaks };
 
+    ghost stamp = { λ serial s. state_stamp T.all serial s };
+
     ghost most = { λ s. line_count s.plan };
 
     ghost is_ordered = { lanes_ordered };
 
-    ghost most_ends = { most_ends };
+    ghost most_ends = { starts_end };
 
-    ghost start_stays = { start_stays };
+    ghost start_stays = { given_start };
 
-    ghost start_is_start = { λ s. start_again s.plan };
+    ghost start_is_start = { start_start };
 
-    ghost serial_starts = { serial_starts };
+    ghost stamps_tell = { λ b s o p. stamps_tell T.all b T.told (T.alike b) s o p };
 
-    ghost keeps_serial = { keeps_serial };
+    ghost serial_starts = { λ s. serial_starts (proper_state s) };
 
-    ghost breaks_serial = { breaks_serial };
+    ghost keeps_serial = { λ s. keeps_serial (proper_state s) };
+
+    ghost breaks_serial = { λ s. breaks_serial (proper_state s) };
 
     fn restart(&mut self) -> Result<(), NoMemory> {
         self.walker.restart()
@@ -100,17 +117,23 @@ impl<T: Tells> Walk for Following<T> {
     fn breaks_serial(&self, lane: usize) -> bool {
         self.walker.breaks_serial(lane)
     }
+
+    fn stamp(&self, with_serial: bool, out: &mut Vec<u8>) -> Result<(), NoMemory> {
+        self.walker.stamp(self.teller.has_told(), with_serial, out)
+    }
 }
 
-/// Follows every order of a plan's lines, at most `limit`. Returns the endings that they lead to.
+/// Follows every order of a plan's lines, as `cics_lanes::explore` does. Returns the endings that
+/// they lead to.
 ///
 /// If the report is whole, the endings are those of all orders. Each stands once, with the first
 /// order that leads to it, and how many orders and serial orders do. They stand in the order of
-/// their first orders. Else they are the endings of the first `limit` orders.
+/// their first orders.
 ///
 /// Errors: `NoMemory`.
 ///
-/// Cost: each order is run from the start.
+/// Cost: the first order that leads to each state is run from the start, once for each lane that
+/// may give then.
 pub fn explore_script<T: Tells + Drop>(
     alloc: Global,
     plan: Plan,
@@ -119,7 +142,7 @@ pub fn explore_script<T: Tells + Drop>(
 ) -> Result<Report, NoMemory>
     requires { is_proper plan ≡ true }
     ensures { IfOk result (λ report. IsReport lanes T.told (λ s. s.is_serial) (line_count plan)
-        limit (initial_state plan) report) }
+        (initial_state plan) report) }
 {
     let mut walk = Following {
         walker: Walker::new(alloc, plan)?,

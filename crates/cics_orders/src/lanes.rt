@@ -27,8 +27,8 @@ pub struct Lane {
     pub is_in_turn: bool,
 }
 
-// Returns whether an outcome ends its task.
-fn is_last(outcome: &Outcome) -> bool
+/// Returns whether an outcome ends its task.
+pub(crate) fn is_last(outcome: &Outcome) -> bool
     ensures { result ≡ is_last outcome.now }
 {
     match outcome {

@@ -6,6 +6,7 @@ mod following;
 mod lanes;
 mod laws;
 mod shutdowns;
+mod stamping;
 mod starting;
 mod walks;
 

@@ -1,6 +1,7 @@
 //! The region of a script, and the lanes that give their lines to it.
 
-ghost use Rattle.std.specs.Prelude.{◌≡◌, ◌&&◌, suc, true, Some, Ok, IfOk, OnOk, nat_le, slice_get};
+ghost use Rattle.std.specs.Prelude.{◌≡◌, ◌&&◌, ◌++◌, suc, true, Some, Ok, IfOk, OnOk, nat_le};
+ghost use Rattle.std.specs.Prelude.{slice_get};
 ghost use Rattle.cics_machine.specs.Waking.{IsAtRest};
 ghost use Rattle.cics_script.specs.declared.lines.Line.TheVariants.{Issue, Clock, Shutdown};
 ghost use Rattle.cics_lanes.specs.Orders.{IsFirst, numbered_from};
@@ -8,15 +9,18 @@ ghost use Rattle.cics_orders.specs.Giving.{State, initial_state, line_count, is_
 ghost use Rattle.cics_orders.specs.Giving.{ends_turn, is_end, is_lane, counted, after_line};
 ghost use Rattle.cics_orders.specs.Giving.{drained, drained_once, givers, given};
 ghost use Rattle.cics_orders.specs.Giving.{Takes, IsGivable, next_says};
+ghost use Rattle.cics_orders.specs.StampLaws.{start_of};
+ghost use Rattle.cics_orders.specs.Stamps.{state_stamp};
 ghost use Rattle.cics_orders.specs.Turns.{turn_goes_on, breaks};
 ghost use Rattle.cics_plans.specs.Proper.{is_proper};
 
 use crate::events;
 use crate::lanes::{Lane, hear, hear_step, initial_lanes, shut_all};
 use crate::shutdowns::lines_to_shutdown;
+use crate::stamping::{stamp_lanes, stamp_last};
 use crate::starting::initial_region;
 use cics_dispatch::Region;
-use cics_names::{Command, Name8, NoMemory, Verb};
+use cics_names::{Command, Name8, NoMemory, Verb, stamp_flag};
 use cics_plans::{Plan, read};
 use cics_script::{Line, LineFault};
 use std::alloc::Global;
@@ -211,9 +215,9 @@ impl Walker {
     /// Goes back to the initial state.
     ///
     /// Errors: `NoMemory`.
-    #[tactic(auto, unfolding(crate::specs::Giving::initial_state))]
+    #[tactic(auto, using(crate::specs::StampLaws::proper_stays), unfolding(crate::specs::Giving::initial_state))]
     pub fn restart(&mut self) -> Result<(), NoMemory>
-        ensures { OnOk result (self.new ≡ initial_state self.old.plan) }
+        ensures { OnOk result (self.new ≡ start_of self.old) }
     {
         self.lanes = initial_lanes(self.alloc, &self.plan)?;
         self.region = initial_region(self.alloc, &self.plan)?;
@@ -394,5 +398,20 @@ impl Walker {
         self.follow_read(says)?;
         self.drain()?;
         Ok(())
+    }
+
+    /// Appends the stamp of this state: walkers of one plan with the same stamp go on alike. With
+    /// `told` it has all that tasks were told, else how they have ended. With `serial` it also has
+    /// what tells whether an order that is serial so far stays so.
+    ///
+    /// Errors: `NoMemory`.
+    #[tactic(auto, unfolding(crate::specs::Stamps::state_stamp))]
+    pub fn stamp(&self, told: bool, serial: bool, out: &mut Vec<u8>) -> Result<(), NoMemory>
+        ensures { OnOk result (out.new.items ≡ out.old.items ++ state_stamp told serial self.now) }
+    {
+        stamp_lanes(out, self.lanes.as_slice(), told, serial)?;
+        stamp_last(out, self.last, serial)?;
+        stamp_flag(out, serial && self.is_serial)?;
+        self.region.stamp(out)
     }
 }

@@ -14,12 +14,12 @@ use Rattle.cics_survey.specs.declared.surveys.Survey.{Survey}
 abbrev pub told_of : Bool → State → Parts
 told_of with_told s = parts_of s.machine with_told s.lanes
 
--- the report on the orders of a plan within a limit
-abbrev pub IsReportOf : Plan → Bool → ℕ → Report → Type 0
-IsReportOf p with_told limit r = IsReport lanes (told_of with_told) (λ s. s.is_serial) (line_count p) limit (initial_state p) r
+-- a report on the orders of a plan
+abbrev pub IsReportOf : Plan → Bool → Report → Type 0
+IsReportOf p with_told r = IsReport lanes (told_of with_told) (λ s. s.is_serial) (line_count p) (initial_state p) r
 
 -- the fault of a script, or what it was taken apart into, with the report on its orders
-abbrev pub IsSurvey : Result Planned (ℕ × ScriptFault) → Bool → ℕ → Result Survey (ℕ × ScriptFault) → Type 0
-IsSurvey (Ok p) with_told limit (Ok s) = (s.planned ≡ p) × IsReportOf p.plan with_told limit s.report
-IsSurvey (Err f) with_told limit (Err g) = g ≡ f
-IsSurvey _ with_told limit _ = ⊥
+abbrev pub IsSurvey : Result Planned (ℕ × ScriptFault) → Bool → Result Survey (ℕ × ScriptFault) → Type 0
+IsSurvey (Ok p) with_told (Ok s) = (s.planned ≡ p) × IsReportOf p.plan with_told s.report
+IsSurvey (Err f) with_told (Err g) = g ≡ f
+IsSurvey _ with_told _ = ⊥

@@ -22,7 +22,7 @@ pub struct Survey {
 // Follows the orders of a plan.
 fn follow(alloc: Global, plan: Plan, with_told: bool, limit: u64) -> Result<Report, NoMemory>
     requires { is_proper plan ≡ true }
-    ensures { IfOk result (IsReportOf plan with_told limit) }
+    ensures { IfOk result (IsReportOf plan with_told) }
 {
     if with_told {
         explore_script(alloc, plan, Answers { alloc }, limit)
@@ -31,11 +31,12 @@ fn follow(alloc: Global, plan: Plan, with_told: bool, limit: u64) -> Result<Repo
     }
 }
 
-/// Takes a script apart, and follows the orders of its lines, at most `limit`. `lines` are its
-/// lines, each without its line end. `with_told` tells endings apart by what tasks were told too.
-/// If a line has a fault, returns the number of the first such line and its fault instead.
+/// Takes a script apart, and follows the orders of its lines as `cics_lanes::explore` does.
+/// `lines` are its lines, each without its line end. `with_told` tells endings apart by what tasks
+/// were told too. If a line has a fault, returns the number of the first such line and its fault
+/// instead.
 ///
-/// Errors: `NoMemory`. Cost: each order is run from the start.
+/// Errors: `NoMemory`. Cost: that of `explore_script`.
 pub fn survey_script(
     alloc: Global,
     lines: &[Record],
@@ -43,7 +44,7 @@ pub fn survey_script(
     limit: u64,
 ) -> Result<Result<Survey, (u64, ScriptFault)>, NoMemory>
     ensures { IfOk result (IsSurvey (planned (taken_apart nothing_taken 1 lines.now))
-        with_told limit) }
+        with_told) }
 {
     let planned = match plan_of(alloc, lines)? {
         Ok(planned) => planned,

@@ -19,9 +19,18 @@ pub(crate) struct Answers {
 
 impl Tells for States {
     ghost use Rattle.std.specs.Prelude.{false};
+    ghost use Rattle.cics_endings.specs.Alike.{parts_alike};
     ghost use Rattle.cics_survey.specs.Surveys.{told_of};
 
     ghost told = { told_of false };
+
+    ghost all = { false };
+
+    ghost alike = { parts_alike false };
+
+    fn has_told(&self) -> bool {
+        false
+    }
 
     fn tell(&self, walker: &Walker) -> Result<Items<Record>, NoMemory> {
         parts_of(self.alloc, walker.region(), false, walker.lanes())
@@ -30,9 +39,18 @@ impl Tells for States {
 
 impl Tells for Answers {
     ghost use Rattle.std.specs.Prelude.{true};
+    ghost use Rattle.cics_endings.specs.Alike.{parts_alike};
     ghost use Rattle.cics_survey.specs.Surveys.{told_of};
 
     ghost told = { told_of true };
+
+    ghost all = { true };
+
+    ghost alike = { parts_alike true };
+
+    fn has_told(&self) -> bool {
+        true
+    }
 
     fn tell(&self, walker: &Walker) -> Result<Items<Record>, NoMemory> {
         parts_of(self.alloc, walker.region(), true, walker.lanes())

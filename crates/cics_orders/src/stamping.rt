@@ -1,0 +1,184 @@
+//! The stamps of what tasks were told, and of lanes.
+
+ghost use Rattle.std.specs.Prelude.{◌≡◌, ◌++◌, map, OnOk};
+ghost use Rattle.cics_names.specs.Stamps.{number_stamp, text_stamp, option_stamp, list_stamp};
+ghost use Rattle.cics_orders.specs.Stamps.{count_stamp, reply_stamp, outcome_stamp, told_of};
+ghost use Rattle.cics_orders.specs.Stamps.{seen, last_seen, lane_stamp};
+
+use crate::lanes::{Lane, is_last};
+use cics_dispatch::{Number, Outcome, Reply};
+use cics_names::{NoMemory, Record, stamp_flag, stamp_number, stamp_text};
+
+// Appends the stamp of a record that may be missing.
+fn stamp_content(out: &mut Vec<u8>, content: &Option<Record>) -> Result<(), NoMemory>
+    ensures { OnOk result (out.new.items
+        ≡ out.old.items ++ option_stamp text_stamp content.now) }
+{
+    match content {
+        Some(content) => {
+            stamp_number(out, 1)?;
+            stamp_text(out, content.bytes())
+        }
+        None => stamp_number(out, 0),
+    }
+}
+
+// Appends the stamp of the number of an item, or of deleted records, which may be missing.
+fn stamp_count(out: &mut Vec<u8>, number: Option<Number>) -> Result<(), NoMemory>
+    ensures { OnOk result (out.new.items ≡ out.old.items ++ option_stamp count_stamp number) }
+{
+    match number {
+        Some(Number::Item(item)) => {
+            stamp_number(out, 1)?;
+            stamp_number(out, 0)?;
+            stamp_number(out, item)
+        }
+        Some(Number::Numrec(records)) => {
+            stamp_number(out, 1)?;
+            stamp_number(out, 1)?;
+            stamp_number(out, records)
+        }
+        None => stamp_number(out, 0),
+    }
+}
+
+// Appends the stamp of a reply.
+fn stamp_reply(out: &mut Vec<u8>, reply: &Reply) -> Result<(), NoMemory>
+    ensures { OnOk result (out.new.items ≡ out.old.items ++ reply_stamp reply.now) }
+{
+    stamp_number(out, reply.condition.number())?;
+    stamp_content(out, &reply.key)?;
+    stamp_content(out, &reply.content)?;
+    stamp_count(out, reply.number)
+}
+
+// Appends the stamp of a reply that may be missing.
+fn stamp_told(out: &mut Vec<u8>, reply: &Option<Reply>) -> Result<(), NoMemory>
+    ensures { OnOk result (out.new.items
+        ≡ out.old.items ++ option_stamp reply_stamp reply.now) }
+{
+    match reply {
+        Some(reply) => {
+            stamp_number(out, 1)?;
+            stamp_reply(out, reply)
+        }
+        None => stamp_number(out, 0),
+    }
+}
+
+// Appends the stamps of the kind of an outcome, and of what it names.
+fn stamp_kind(out: &mut Vec<u8>, kind: u64, name: &[u8]) -> Result<(), NoMemory>
+    ensures { OnOk result (out.new.items
+        ≡ out.old.items ++ (number_stamp kind ++ text_stamp name.now)) }
+{
+    stamp_number(out, kind)?;
+    stamp_text(out, name)
+}
+
+// Appends the stamp of an outcome.
+fn stamp_outcome(out: &mut Vec<u8>, outcome: &Outcome) -> Result<(), NoMemory>
+    ensures { OnOk result (out.new.items ≡ out.old.items ++ outcome_stamp outcome.now) }
+{
+    match outcome {
+        Outcome::Replied(reply) => {
+            stamp_kind(out, 0, &[])?;
+            stamp_number(out, 1)?;
+            stamp_reply(out, reply)
+        }
+        Outcome::Waiting(label) => {
+            stamp_kind(out, 1, &label.bytes())?;
+            stamp_number(out, 0)
+        }
+        Outcome::Abended(code, reply) => {
+            stamp_kind(out, 2, &code.0.bytes())?;
+            stamp_told(out, reply)
+        }
+        Outcome::Ended => {
+            stamp_kind(out, 3, &[])?;
+            stamp_number(out, 0)
+        }
+    }
+}
+
+// Returns what an ending tells of what a task was told: all, or how the task has ended.
+fn told_of(told: &[Outcome], all: bool) -> &[Outcome]
+    ensures { result.now ≡ told_of all told.now }
+{
+    if all {
+        return told;
+    }
+    if told.is_empty() {
+        return told;
+    }
+    let last = told.len() - 1;
+    if is_last(&told[last]) {
+        &told[last..]
+    } else {
+        &told[told.len()..]
+    }
+}
+
+// Appends the stamp of outcomes.
+fn stamp_outcomes(out: &mut Vec<u8>, outcomes: &[Outcome]) -> Result<(), NoMemory>
+    ensures { OnOk result (out.new.items
+        ≡ out.old.items ++ list_stamp outcome_stamp outcomes.now) }
+{
+    for outcome in outcomes {
+        stamp_number(out, 1)?;
+        stamp_outcome(out, outcome)?;
+    }
+    stamp_number(out, 0)
+}
+
+impl Lane {
+    /// Appends its stamp, but for its label and its lines. With `told` it has all that its task was
+    /// told, else how it has ended. Only with `serial` it has whether the task is within a turn.
+    pub(crate) fn stamp(&self, told: bool, serial: bool, out: &mut Vec<u8>) -> Result<(), NoMemory>
+        ensures { OnOk result (out.new.items
+            ≡ out.old.items ++ lane_stamp (seen told serial self.now)) }
+    {
+        stamp_number(out, self.given as u64)?;
+        stamp_flag(out, self.has_ended)?;
+        stamp_outcomes(out, told_of(self.told.as_slice(), told))?;
+        stamp_flag(out, serial && self.is_in_turn)
+    }
+}
+
+/// Appends the stamps of lanes.
+///
+/// Errors: `NoMemory`.
+pub(crate) fn stamp_lanes(
+    out: &mut Vec<u8>,
+    lanes: &[Lane],
+    told: bool,
+    serial: bool,
+) -> Result<(), NoMemory>
+    ensures { OnOk result (out.new.items
+        ≡ out.old.items ++ list_stamp lane_stamp (map (seen told serial) lanes.now)) }
+{
+    for lane in lanes {
+        stamp_number(out, 1)?;
+        lane.stamp(told, serial, out)?;
+    }
+    stamp_number(out, 0)
+}
+
+/// Appends the stamp of the number of the lane that gave last, if there is one and it is seen.
+///
+/// Errors: `NoMemory`.
+pub(crate) fn stamp_last(
+    out: &mut Vec<u8>,
+    last: Option<usize>,
+    is_seen: bool,
+) -> Result<(), NoMemory>
+    ensures { OnOk result (out.new.items
+        ≡ out.old.items ++ option_stamp number_stamp (last_seen is_seen last)) }
+{
+    match last {
+        Some(number) if is_seen => {
+            stamp_number(out, 1)?;
+            stamp_number(out, number as u64)
+        }
+        _ => stamp_number(out, 0),
+    }
+}
