@@ -31,10 +31,10 @@ fn follow(alloc: Global, plan: Plan, with_told: bool, limit: u64) -> Result<Repo
     }
 }
 
-/// Takes a script apart, and follows the orders of its lines as `cics_lanes::explore` does.
-/// `lines` are its lines, each without its line end. `with_told` tells endings apart by what tasks
-/// were told too. If a line has a fault, returns the number of the first such line and its fault
-/// instead.
+/// Takes a script apart, and follows the orders of its lines through about `limit` states, as
+/// `cics_lanes::explore` does. `lines` are its lines, each without its line end. `with_told` tells
+/// endings apart by what tasks were told too. If a line has a fault, returns the number of the
+/// first such line and its fault instead.
 ///
 /// Errors: `NoMemory`. Cost: that of `explore_script`.
 pub fn survey_script(
