@@ -75,10 +75,10 @@ T1 EXEC CICS SYNCPOINT ROLLBACK
 END";
 
 /// About how many states are followed, if the command line doesn't say.
-const STATES: u64 = 100_000;
+const STATES: u64 = 50_000;
 
 /// What the help says of that.
-const LIMIT: &str = "Follow about N states (100000)";
+const LIMIT: &str = "Follow about N states (50000)";
 
 /// What a command line asks for.
 ///
