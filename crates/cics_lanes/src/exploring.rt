@@ -40,13 +40,13 @@ struct Search {
     limit: u64,
     // How many of each level it follows then.
     share: u64,
-    // How many states its levels so far had.
+    // How many states its levels so far had in which a lane may give.
     met: u64,
     // Whether it has left out no state.
     is_whole: bool,
 }
 
-// Which states of a level are followed.
+// Which of a level's states are followed in which a lane may give. The others always are.
 #[derive(Clone, Copy)]
 struct Thinning {
     // Whether only some are.
@@ -57,11 +57,11 @@ struct Thinning {
 }
 
 impl Thinning {
-    // Returns whether the state of an index is followed. One where no lane may give always is.
-    fn keeps(&self, led: &Led, at: usize) -> bool
+    // Returns whether the state of an index is followed.
+    fn keeps(&self, at: usize) -> bool
         ensures { self.now.is_over ≡ false → result ≡ true }
     {
-        !self.is_over || led.has_ended || is_kept(at, self.share, self.count)
+        !self.is_over || is_kept(at, self.share, self.count)
     }
 }
 
@@ -70,6 +70,21 @@ impl Thinning {
 fn is_kept(at: usize, most: u64, count: usize) -> bool {
     let (at, most, count) = (at as u128, u128::from(most), (count as u128).max(1));
     at * most / count != (at + 1) * most / count
+}
+
+// Returns how many states of a level have a lane that may give.
+fn live_count(level: &Level) -> usize
+    ensures { result ≤ length level.now.entries }
+{
+    let mut count = 0;
+    for at in 0..level.len() {
+        if let Some((_, led)) = level.get_index(at) {
+            if !led.has_ended {
+                count += 1;
+            }
+        }
+    }
+    count
 }
 
 // Returns an order with one lane more.
@@ -102,7 +117,7 @@ impl Search {
         }
     }
 
-    // Counts the states of a level. Returns which of them are followed.
+    // Counts so many states of a level. Returns which of them are followed.
     fn thin(&mut self, count: usize) -> Thinning
         ensures over { result.is_over ≡ true → self.old.limit < self.old.met + count }
         ensures met { self.new.met ≤ self.old.met + count }
@@ -168,12 +183,12 @@ impl Search {
         ensures within { OnOk result (self.old.met + length level.entries ≤ self.old.limit →
             self.new.is_whole ≡ self.old.is_whole) }
     {
-        let thinning = self.thin(level.len());
+        let thinning = self.thin(live_count(&level));
         let mut next = IndexMap::new(self.alloc);
         let mut at = 0usize;
         for (stamp, led) in level {
-            let is_kept = thinning.keeps(&led, at);
-            at = at.saturating_add(1);
+            let is_kept = led.has_ended || thinning.keeps(at);
+            at = at.saturating_add(usize::from(!led.has_ended));
             if is_kept {
                 self.step(walk, stamp, led, &mut next)?;
             } else {
