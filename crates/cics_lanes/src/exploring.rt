@@ -249,8 +249,13 @@ impl Search {
 ///
 /// Cost: O(states * lanes * lines) lines that are given, and O(states * lanes) stamps.
 pub fn explore<W: Walk>(alloc: Global, walk: &mut W, limit: u64) -> Result<Report, NoMemory>
-    ensures { IfOk result (λ report. IsReport W.lanes W.ending W.serial
+    ensures report { IfOk result (λ report. IsReport W.lanes W.ending W.serial
         (W.most (W.start walk.old)) (W.start walk.old) report) }
+    ensures within { IfOk result (λ report. state_count W.lanes W.breaks W.stamp false
+        (W.start walk.old) (W.most (W.start walk.old)) ≤ limit → report.is_whole ≡ true) }
+    ensures serial_within { IfOk result (λ report. state_count W.lanes W.breaks W.stamp true
+        (W.start walk.old) (W.most (W.start walk.old)) ≤ limit →
+        report.has_all_serial ≡ true) }
 {
     walk.restart()?;
     let lines = walk.line_count();

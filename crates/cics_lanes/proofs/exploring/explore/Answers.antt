@@ -1,14 +1,14 @@
-use Rattle.std.proofs.Common.{◌≡◌, ◌∙◌, ap, subst, map, true, false, Bool, ℕ, []}
+use Rattle.std.proofs.Common.{arith, ◌≡◌, ◌∙◌, ap, subst, map, true, false, Bool, ℕ, []}
 use Rattle.cics_lanes.specs.Endings.{are_same}
 use Rattle.cics_lanes.specs.Groups.{added_all}
-use Rattle.cics_lanes.specs.Levels.{told, IsLevel}
+use Rattle.cics_lanes.specs.Levels.{told, IsLevel, state_count}
 use Rattle.cics_lanes.specs.Tallies.{tally_joined, ending_of}
 use Rattle.cics_lanes.proofs.Reporting.{searched}
 use Rattle.cics_lanes.proofs.exploring.explore.Goals as goal
 
 -- both searches are told
-pub returns : goal.returns
-returns g c =
+pub returns-clause-report : goal.returns-clause-report
+returns-clause-report g c =
     let w = g.W.Walk in
     let t = c.args.walk.now in
     let s = w.start t in
@@ -37,3 +37,24 @@ returns g c =
     = c.in_ok-tell-2.ensures.met ∙ (λ i. added_all are_same tally_joined (first i) (map (told w.lanes w.ending (serial i) (run_too i)) fs)) in
     searched w.lanes w.breaks w.stamp w.ending w.serial s (λ b. w.stamps_tell b t) (w.most s) c.run.new.self.is_whole c.run-2.new.self.is_whole es fs c.in_ok-endings_of.field-0
     (w.serial_starts t) (w.most_ends t) (w.keeps_serial t) (w.breaks_serial t) all some (c.in_ok-endings_of.ensures ∙ ap (map ending_of) both)
+
+-- no state is left out within the limit
+pub returns-clause-within : goal.returns-clause-within
+returns-clause-within g c = λ fits.
+    let w = g.W.Walk in
+    let t = c.args.walk.now in
+    let begun : w.start c.restart.new.self ≡ w.start t = ap w.start c.in_ok-restart.ensures ∙ w.start_is_start t in
+    let most : c.line_count-lines.result ≡ w.most (w.start t) = c.line_count-lines.ensures ∙ ap w.most c.in_ok-restart.ensures in
+    let same : state_count w.lanes w.breaks w.stamp c.new-all.result.is_serial (w.start c.restart.new.self) c.line_count-lines.result ≡ state_count w.lanes w.breaks w.stamp false (w.start t) (w.most (w.start t))
+    = λ i. state_count w.lanes w.breaks w.stamp (c.new-all.ensures.serial i) (begun i) (most i) in
+    c.in_ok-level.ensures.within (omega (arith, same, fits, c.new-all.ensures.limit))
+
+pub returns-clause-serial_within : goal.returns-clause-serial_within
+returns-clause-serial_within g c = λ fits.
+    let w = g.W.Walk in
+    let t = c.args.walk.now in
+    let begun : w.start c.tell.new.walk ≡ w.start t = c.in_ok-tell.ensures.start ∙ c.in_ok-level.ensures.start ∙ ap w.start c.in_ok-restart.ensures ∙ w.start_is_start t in
+    let most : c.line_count-lines.result ≡ w.most (w.start t) = c.line_count-lines.ensures ∙ ap w.most c.in_ok-restart.ensures in
+    let same : state_count w.lanes w.breaks w.stamp c.new-serial.result.is_serial (w.start c.tell.new.walk) c.line_count-lines.result ≡ state_count w.lanes w.breaks w.stamp true (w.start t) (w.most (w.start t))
+    = λ i. state_count w.lanes w.breaks w.stamp (c.new-serial.ensures.serial i) (begun i) (most i) in
+    c.in_ok-level-2.ensures.within (omega (arith, same, fits, c.new-serial.ensures.limit))
