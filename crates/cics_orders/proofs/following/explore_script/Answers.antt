@@ -10,4 +10,4 @@ pub returns : goal.returns
 unfolding initial_state
 returns g c =
     let start : start_of (initial_state c.args.plan) ≡ initial_state c.args.plan = ap initial_state (proper_stays c.args.plan c.requires) in
-    subst (λ (s : State). IfOk c.explore.result (λ report. IsReport lanes g.T.Tells.told (λ s. s.is_serial) (line_count s.plan) s report)) (ap start_of c.in_ok-new.ensures ∙ start) c.explore.ensures
+    subst (λ (s : State). IfOk c.explore.result (λ report. IsReport lanes g.T.Tells.told (λ s. s.is_serial) (line_count s.plan) s report)) (ap start_of c.in_ok-new.ensures ∙ start) c.explore.ensures.report
