@@ -3,7 +3,8 @@
 //! This file has what several steps share: the first fault, the end of a unit, an answer, a wait,
 //! an updating command. `performing` issues commands. `browsing`, `enqueuing` and `queues` execute
 //! those on files, values and queues that ask for no updating command. `waking` resumes waiting
-//! commands and times tasks out. `blocking`, `listing` and `shutdown` have the other calls.
+//! commands and times tasks out. `blocking`, `listing`, `shutdown` and `stamping` have the other
+//! calls.
 
 mod blocking;
 mod browsing;
@@ -12,6 +13,7 @@ mod listing;
 mod performing;
 mod queues;
 mod shutdown;
+mod stamping;
 mod waking;
 
 ghost use Rattle.std.specs.Prelude.{◌≡◌, ◌<◌, ◌≤◌, true, false, Option, Some, None, length, IfOk};

@@ -1,11 +1,12 @@
 //! A region: tasks that share files and queues, their waits, and their units of work.
 
-ghost use Rattle.std.specs.Prelude.{◌≡◌, ◌&&◌, if◌then◌else◌, None, true, false, ℕ, length};
+ghost use Rattle.std.specs.Prelude.{◌≡◌, ◌&&◌, ◌++◌, if◌then◌else◌, None, true, false, ℕ, length};
 ghost use Rattle.std.specs.Prelude.{IfOk, IfErr, IfSome, OnOk, OnErr};
 ghost use Rattle.std.specs.Bool.{OnTrue};
 ghost use Rattle.cics_history.specs.Events.{is_live};
 ghost use Rattle.cics_history.specs.Headline.{HoldsCommitted};
 ghost use Rattle.cics_machine.specs.Machine.{beginning_region};
+ghost use Rattle.cics_machine.specs.Stamps.{region_stamp};
 ghost use Rattle.cics_machine.specs.Steps.{attached, issued};
 ghost use Rattle.cics_machine.specs.Waking.{clock_set, woken, expired, IsAtRest};
 ghost use Rattle.cics_machine.specs.First.{IsFirstToGoOn, IsFirstTooLate};
@@ -415,5 +416,21 @@ impl Region {
         ensures serializable { IsSerializableRegion self.now }
     {
         self.dispatcher.replayed()
+    }
+
+    /// Appends the region's stamp: bytes that tell all of its future. Take two regions of one
+    /// opening with the same stamp, whose waiting commands are the same. The same events are then
+    /// answered alike in both.
+    ///
+    /// Errors: `NoMemory`.
+    ///
+    /// Cost: that of `replayed`, and O(commands executed) for each task with an open unit.
+    pub fn stamp(&self, out: &mut Vec<u8>) -> Result<(), NoMemory>
+        ensures stamp { OnOk result (out.new.items
+            ≡ out.old.items ++ region_stamp self.now.machine) }
+        ensures headline { IsHeadlineRegion self.now }
+        ensures serializable { IsSerializableRegion self.now }
+    {
+        self.dispatcher.stamp(out)
     }
 }

@@ -15,3 +15,4 @@ pub mod SplitStates
 pub mod Turns
 pub mod TurnLaws
 pub mod StampLaws
+pub mod Opened

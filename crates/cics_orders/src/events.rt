@@ -1,9 +1,11 @@
-//! The events of a region, each as one step of its machine.
+//! The events of a region, each as one step of its machine. What the region opened with stays as it
+//! is.
 
 ghost use Rattle.std.specs.Prelude.{◌≡◌, IfOk, OnOk};
 ghost use Rattle.std.specs.Result.{result_ok};
 ghost use Rattle.cics_orders.specs.Giving.{IsAnswered, Happens, issuing, timing, shutting};
 ghost use Rattle.cics_orders.specs.Giving.{attaching, Drains};
+ghost use Rattle.cics_orders.specs.Opened.{KeepsOpening};
 
 use cics_dispatch::{Outcome, Refused, Region};
 use cics_names::{Command, Name8, NoMemory};
@@ -27,32 +29,36 @@ pub(crate) fn issue(
     label: Name8,
     command: Command,
 ) -> Result<Option<Outcome>, NoMemory>
-    ensures { IfOk result (λ told. Happens region.old.machine
+    ensures told { IfOk result (λ told. Happens region.old.machine
         (issuing region.old.machine label command) told region.new.machine) }
+    ensures opening { KeepsOpening region.old.machine region.new.machine }
 {
     answered(region.issue(label, command))
 }
 
 /// Sets the clock. Returns `None` if that was refused.
 pub(crate) fn set_clock(region: &mut Region, seconds: u64) -> Result<Option<()>, NoMemory>
-    ensures { IfOk result (λ told. Happens region.old.machine
+    ensures told { IfOk result (λ told. Happens region.old.machine
         (timing region.old.machine seconds) told region.new.machine) }
+    ensures opening { KeepsOpening region.old.machine region.new.machine }
 {
     answered(region.set_clock(seconds))
 }
 
 /// Shuts a region down. Returns `None` if that was refused.
 pub(crate) fn shut_down(region: &mut Region) -> Result<Option<u64>, NoMemory>
-    ensures { IfOk result (λ told. Happens region.old.machine
+    ensures told { IfOk result (λ told. Happens region.old.machine
         (shutting region.old.machine) told region.new.machine) }
+    ensures opening { KeepsOpening region.old.machine region.new.machine }
 {
     answered(region.shutdown())
 }
 
 /// Attaches a task. Returns `None` if that was refused.
 pub(crate) fn attach(region: &mut Region, task: &TaskPlan) -> Result<Option<()>, NoMemory>
-    ensures { IfOk result (λ told. Happens region.old.machine
+    ensures told { IfOk result (λ told. Happens region.old.machine
         (attaching region.old.machine task.now.label task.now.dtimout) told region.new.machine) }
+    ensures opening { KeepsOpening region.old.machine region.new.machine }
 {
     answered(region.attach(task.label, task.transaction, task.dtimout))
 }
@@ -61,7 +67,8 @@ pub(crate) fn attach(region: &mut Region, task: &TaskPlan) -> Result<Option<()>,
 /// the first task that has waited too long. Returns the label of its task and the outcome, or
 /// `None` if there was no step to take.
 pub(crate) fn drain_step(region: &mut Region) -> Result<Option<(Name8, Outcome)>, NoMemory>
-    ensures { IfOk result (λ told. Drains region.old.machine told region.new.machine) }
+    ensures told { IfOk result (λ told. Drains region.old.machine told region.new.machine) }
+    ensures opening { KeepsOpening region.old.machine region.new.machine }
 {
     match region.wake() {
         Ok(Some(woken)) => Ok(Some((woken.label, woken.outcome))),

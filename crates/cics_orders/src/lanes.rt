@@ -4,6 +4,7 @@ ghost use Rattle.std.specs.Prelude.{◌≡◌, ◌<◌, IfOk, OnOk, length, map}
 ghost use Rattle.cics_orders.specs.Giving.{fresh_lane, initial_lanes, is_of, is_last};
 ghost use Rattle.cics_plans.specs.Firsts.{first_place};
 ghost use Rattle.cics_orders.specs.Giving.{told_more, with_told, hearing, with_given, shut};
+ghost use Rattle.cics_orders.specs.Opened.{rewound, KeepsLanes};
 
 use cics_dispatch::Outcome;
 use cics_names::{Items, Name8, NoMemory, Record};
@@ -85,10 +86,21 @@ impl Lane {
 
     // Tells its task an outcome.
     fn tell(&mut self, outcome: Outcome) -> Result<(), NoMemory>
-        ensures { OnOk result (self.new ≡ told_more self.old outcome) }
+        ensures told { OnOk result (self.new ≡ told_more self.old outcome) }
+        ensures lane { rewound self.new ≡ rewound self.old }
     {
         self.has_ended = is_last(&outcome);
         self.told.push(outcome)
+    }
+
+    // Takes all its lines back.
+    fn rewind(&mut self, alloc: Global)
+        ensures { self.new ≡ rewound self.old }
+    {
+        self.given = 0;
+        self.told = Items::new(alloc);
+        self.has_ended = false;
+        self.is_in_turn = false;
     }
 }
 
@@ -118,7 +130,8 @@ fn place_of(lanes: &[Lane], label: &Name8) -> Option<usize>
 
 /// Tells the task of a label an outcome.
 pub(crate) fn tell(lanes: &mut Vec<Lane>, label: &Name8, outcome: Outcome) -> Result<(), NoMemory>
-    ensures { OnOk result (lanes.new.items ≡ with_told lanes.old.items label.now outcome) }
+    ensures told { OnOk result (lanes.new.items ≡ with_told lanes.old.items label.now outcome) }
+    ensures lanes { KeepsLanes lanes.old.items lanes.new.items }
 {
     match place_of(lanes.as_slice(), label) {
         Some(at) => {
@@ -131,7 +144,8 @@ pub(crate) fn tell(lanes: &mut Vec<Lane>, label: &Name8, outcome: Outcome) -> Re
 
 /// Tells the task of a label an outcome, unless its command waits.
 pub(crate) fn hear(lanes: &mut Vec<Lane>, label: &Name8, outcome: Outcome) -> Result<(), NoMemory>
-    ensures { OnOk result (lanes.new.items ≡ hearing lanes.old.items label.now outcome) }
+    ensures told { OnOk result (lanes.new.items ≡ hearing lanes.old.items label.now outcome) }
+    ensures lanes { KeepsLanes lanes.old.items lanes.new.items }
 {
     match outcome {
         Outcome::Waiting(_) => Ok(()),
@@ -141,7 +155,8 @@ pub(crate) fn hear(lanes: &mut Vec<Lane>, label: &Name8, outcome: Outcome) -> Re
 
 /// Tells a task the outcome of a step of draining: its label, and the outcome.
 pub(crate) fn hear_step(lanes: &mut Vec<Lane>, told: (Name8, Outcome)) -> Result<(), NoMemory>
-    ensures { OnOk result (lanes.new.items ≡ hearing lanes.old.items told.0 told.1) }
+    ensures told { OnOk result (lanes.new.items ≡ hearing lanes.old.items told.0 told.1) }
+    ensures lanes { KeepsLanes lanes.old.items lanes.new.items }
 {
     let (label, outcome) = told;
     hear(lanes, &label, outcome)
@@ -153,5 +168,14 @@ pub(crate) fn shut_all(lanes: &mut Vec<Lane>)
 {
     for i in 0..lanes.len() {
         lanes[i].has_ended = true;
+    }
+}
+
+/// Takes all lines of all lanes back.
+pub(crate) fn rewind_all(alloc: Global, lanes: &mut Vec<Lane>)
+    ensures { lanes.new.items ≡ map rewound lanes.old.items }
+{
+    for i in 0..lanes.len() {
+        lanes[i].rewind(alloc);
     }
 }

@@ -7,6 +7,7 @@ ghost use Rattle.std.specs.List.{fold};
 ghost use Rattle.cics_plans.specs.Defining.{defined_by};
 ghost use Rattle.cics_orders.specs.Giving.{defined_more, opened};
 ghost use Rattle.cics_orders.specs.Giving.{with_task, initial_machine};
+ghost use Rattle.cics_orders.specs.Opened.{KeepsOpening};
 
 use crate::events;
 use cics_dispatch::Region;
@@ -52,7 +53,8 @@ fn opened(alloc: Global, lines: &[(u64, Record)]) -> Result<Opening, NoMemory>
 // Attaches a task, unless that is refused.
 #[tactic(auto, unfolding(crate::specs::Giving::with_task))]
 fn attach(region: &mut Region, task: &TaskPlan) -> Result<(), NoMemory>
-    ensures { OnOk result (region.new.machine ≡ with_task region.old.machine task.now) }
+    ensures task { OnOk result (region.new.machine ≡ with_task region.old.machine task.now) }
+    ensures opening { KeepsOpening region.old.machine region.new.machine }
 {
     events::attach(region, task)?;
     Ok(())
@@ -70,7 +72,9 @@ fn region_of(opening: Opening) -> Result<Region, NoMemory>
 
 // Attaches tasks.
 fn attach_all(region: &mut Region, tasks: &[TaskPlan]) -> Result<(), NoMemory>
-    ensures { OnOk result (region.new.machine ≡ fold with_task region.old.machine tasks.now) }
+    ensures tasks { OnOk result (region.new.machine
+        ≡ fold with_task region.old.machine tasks.now) }
+    ensures opening { KeepsOpening region.old.machine region.new.machine }
 {
     for task in tasks {
         attach(region, task)?;
@@ -83,9 +87,24 @@ fn attach_all(region: &mut Region, tasks: &[TaskPlan]) -> Result<(), NoMemory>
 ///
 /// Errors: `NoMemory`.
 pub(crate) fn initial_region(alloc: Global, plan: &Plan) -> Result<Region, NoMemory>
-    ensures { IfOk result (λ region. region.machine ≡ initial_machine plan.now) }
+    ensures machine { IfOk result (λ region. region.machine ≡ initial_machine plan.now) }
+    ensures opening { IfOk result (λ region. region.machine.units.opening
+        ≡ opened plan.now.definitions) }
 {
     let mut region = region_of(opened(alloc, plan.definitions.as_slice())?)?;
     attach_all(&mut region, plan.tasks.as_slice())?;
     Ok(region)
+}
+
+/// Goes back to the region before the first line: what the region opened with is there, and the
+/// plan's tasks are attached.
+///
+/// Errors: `NoMemory`.
+pub(crate) fn restart(region: &mut Region, plan: &Plan) -> Result<(), NoMemory>
+    ensures machine { OnOk result (region.new.machine
+        ≡ fold with_task (beginning_region region.old.machine.units.opening) plan.now.tasks) }
+    ensures opening { KeepsOpening region.old.machine region.new.machine }
+{
+    region.restart()?;
+    attach_all(region, plan.tasks.as_slice())
 }

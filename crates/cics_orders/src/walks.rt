@@ -15,10 +15,10 @@ ghost use Rattle.cics_orders.specs.Turns.{turn_goes_on, breaks};
 ghost use Rattle.cics_plans.specs.Proper.{is_proper};
 
 use crate::events;
-use crate::lanes::{Lane, hear, hear_step, initial_lanes, shut_all};
+use crate::lanes::{Lane, hear, hear_step, initial_lanes, rewind_all, shut_all};
 use crate::shutdowns::lines_to_shutdown;
 use crate::stamping::{stamp_lanes, stamp_last};
-use crate::starting::initial_region;
+use crate::starting::{initial_region, restart};
 use cics_dispatch::Region;
 use cics_names::{Command, Name8, NoMemory, Verb, stamp_flag};
 use cics_plans::{Plan, read};
@@ -46,9 +46,10 @@ pub struct Walker {
 }
 
 impl Model for Walker {
-    ghost use Rattle.std.specs.Prelude.{◌≡◌, true};
+    ghost use Rattle.std.specs.Prelude.{◌≡◌, true, map};
     ghost use Rattle.cics_plans.specs.Proper.{is_proper};
-    ghost use Rattle.cics_orders.specs.Giving.{State, line_count};
+    ghost use Rattle.cics_orders.specs.Giving.{State, line_count, opened, initial_lanes};
+    ghost use Rattle.cics_orders.specs.Opened.{rewound};
     ghost use Rattle.cics_orders.specs.Turns.{lines_to_shutdown};
 
     ghost Value = { State };
@@ -62,7 +63,9 @@ impl Model for Walker {
     } };
 
     ghost invariant = { λ w. (w.most ≡ line_count w.plan)
-        × (w.to_shutdown ≡ lines_to_shutdown w.plan.clock) × (is_proper w.plan ≡ true) };
+        × (w.to_shutdown ≡ lines_to_shutdown w.plan.clock) × (is_proper w.plan ≡ true)
+        × (w.region.machine.units.opening ≡ opened w.plan.definitions)
+        × (map rewound w.lanes.items ≡ initial_lanes w.plan) };
 }
 
 // Returns how many lines the lanes of a plan have.
@@ -219,8 +222,8 @@ impl Walker {
     pub fn restart(&mut self) -> Result<(), NoMemory>
         ensures { OnOk result (self.new ≡ start_of self.old) }
     {
-        self.lanes = initial_lanes(self.alloc, &self.plan)?;
-        self.region = initial_region(self.alloc, &self.plan)?;
+        restart(&mut self.region, &self.plan)?;
+        rewind_all(self.alloc, &mut self.lanes);
         self.last = None;
         self.is_serial = true;
         Ok(())
