@@ -13,6 +13,7 @@ ghost use Rattle.cics_lanes.specs.Reports.{IsReport};
 use crate::endings::{Ending, Met, Parts, Tally, endings_of};
 use crate::groups::add;
 use crate::levels::{Led, Level, Stamp, entry, go_to};
+use crate::progress::{Progress, Stand};
 use crate::walks::Walk;
 use cics_names::{Items, NoMemory};
 use indexmap::IndexMap;
@@ -44,6 +45,8 @@ struct Search {
     met: u64,
     // Whether it has left out no state.
     is_whole: bool,
+    // Where it stands.
+    stand: Stand,
 }
 
 // Which of a level's states are followed in which a lane may give. The others always are.
@@ -114,6 +117,12 @@ impl Search {
             share: (limit / (lines as u64).saturating_add(1)).max(1),
             met: 0,
             is_whole: true,
+            stand: Stand {
+                is_serial,
+                level: 0,
+                levels: lines,
+                states: 0,
+            },
         }
     }
 
@@ -173,7 +182,12 @@ impl Search {
     }
 
     // Follows the states of a level, or some of them. Returns the next level.
-    fn next<W: Walk>(&mut self, walk: &mut W, level: Level) -> Result<Level, NoMemory>
+    fn next<W: Walk, P: Progress>(
+        &mut self,
+        walk: &mut W,
+        level: Level,
+        progress: &mut P,
+    ) -> Result<Level, NoMemory>
         ensures next { IfOk result (λ next. IsNext W.lanes W.breaks W.stamp self.old.is_serial
             (W.start walk.old) self.old.is_whole self.new.is_whole level.entries next.entries) }
         ensures start { OnOk result (W.start walk.new ≡ W.start walk.old) }
@@ -191,16 +205,24 @@ impl Search {
             at = at.saturating_add(usize::from(!led.has_ended));
             if is_kept {
                 self.step(walk, stamp, led, &mut next)?;
+                self.stand.states = self.stand.states.saturating_add(1);
+                progress.tell(self.stand);
             } else {
                 self.is_whole = false;
             }
         }
+        self.stand.level = self.stand.level.saturating_add(1);
         Ok(next)
     }
 
     // Follows orders from the start of a walk. Returns the level of the states after so many
     // lines.
-    fn run<W: Walk>(&mut self, walk: &mut W, lines: usize) -> Result<Level, NoMemory>
+    fn run<W: Walk, P: Progress>(
+        &mut self,
+        walk: &mut W,
+        lines: usize,
+        progress: &mut P,
+    ) -> Result<Level, NoMemory>
         requires met { self.old.met ≡ 0 }
         requires whole { self.old.is_whole ≡ true }
         ensures level { IfOk result (λ level. IsLevel W.lanes W.breaks W.stamp self.old.is_serial
@@ -215,7 +237,7 @@ impl Search {
         let mut level = IndexMap::new(self.alloc);
         add(&mut level, stamp, led)?;
         for _ in 0..lines {
-            level = self.next(walk, level)?;
+            level = self.next(walk, level, progress)?;
         }
         Ok(level)
     }
@@ -245,10 +267,17 @@ impl Search {
 /// If the levels have more than `limit` states, only some of each level are followed from there on.
 /// Then the report isn't whole: its endings are those of some orders, and numbers are lower bounds.
 ///
+/// `progress` is told after each state that is followed how far the search is.
+///
 /// Errors: `NoMemory`.
 ///
 /// Cost: O(states * lanes * lines) lines that are given, and O(states * lanes) stamps.
-pub fn explore<W: Walk>(alloc: Global, walk: &mut W, limit: u64) -> Result<Report, NoMemory>
+pub fn explore<W: Walk, P: Progress>(
+    alloc: Global,
+    walk: &mut W,
+    limit: u64,
+    progress: &mut P,
+) -> Result<Report, NoMemory>
     ensures report { IfOk result (λ report. IsReport W.lanes W.ending W.serial
         (W.most (W.start walk.old)) (W.start walk.old) report) }
     ensures within { IfOk result (λ report. state_count W.lanes W.breaks W.stamp false
@@ -261,10 +290,10 @@ pub fn explore<W: Walk>(alloc: Global, walk: &mut W, limit: u64) -> Result<Repor
     let lines = walk.line_count();
     let mut met = IndexMap::new(alloc);
     let mut all = Search::new(alloc, false, limit, lines);
-    let level = all.run(walk, lines)?;
+    let level = all.run(walk, lines, progress)?;
     all.tell(walk, level, &mut met)?;
     let mut serial = Search::new(alloc, true, limit, lines);
-    let level = serial.run(walk, lines)?;
+    let level = serial.run(walk, lines, progress)?;
     serial.tell(walk, level, &mut met)?;
     Ok(Report {
         endings: endings_of(alloc, met)?,

@@ -5,16 +5,18 @@
 //! it leads to. An ending is told in *parts*, each a text. A *stamp* is bytes that tell how a state
 //! goes on: states of one stamp are followed once.
 //!
-//! Read `walks`, which says what a caller implements, then `exploring`, `levels`, `endings` and
-//! `groups`.
+//! Read `walks`, which says what a caller implements, then `exploring`, `levels`, `endings`,
+//! `groups` and `progress`.
 #![tactic(auto)]
 
 mod endings;
 mod exploring;
 mod groups;
 mod levels;
+mod progress;
 mod walks;
 
 pub use endings::Ending;
 pub use exploring::{Report, explore};
+pub use progress::{Progress, Silent, Stand};
 pub use walks::Walk;

@@ -8,7 +8,7 @@ ghost use Rattle.cics_orders.specs.Giving.{State, lanes, initial_state, line_cou
 ghost use Rattle.cics_orders.specs.Same.{SameState};
 
 use crate::walks::Walker;
-use cics_lanes::{Report, Walk, explore};
+use cics_lanes::{Progress, Report, Walk, explore};
 use cics_names::{Items, NoMemory, Record};
 use cics_plans::Plan;
 use std::alloc::Global;
@@ -34,6 +34,13 @@ pub trait Tells {
     /// Errors: `NoMemory`.
     fn tell(&self, walker: &Walker) -> Result<Items<Record>, NoMemory>
         ensures { IfOk result (λ parts. parts ≡ told walker.now) };
+}
+
+/// A plan, and what tells its endings.
+#[derive(Drop)]
+pub struct ToldPlan<T> {
+    pub plan: Plan,
+    pub teller: T,
 }
 
 // A walker, and what tells its endings.
@@ -134,19 +141,19 @@ impl<T: Tells> Walk for Following<T> {
 ///
 /// Cost: the first order that leads to each state is run from the start, once for each lane that
 /// may give then.
-pub fn explore_script<T: Tells + Drop>(
+pub fn explore_script<T: Tells + Drop, P: Progress>(
     alloc: Global,
-    plan: Plan,
-    teller: T,
+    told: ToldPlan<T>,
     limit: u64,
+    progress: &mut P,
 ) -> Result<Report, NoMemory>
-    requires { is_proper plan ≡ true }
-    ensures { IfOk result (λ report. IsReport lanes T.told (λ s. s.is_serial) (line_count plan)
-        (initial_state plan) report) }
+    requires { is_proper told.plan ≡ true }
+    ensures { IfOk result (λ report. IsReport lanes T.told (λ s. s.is_serial)
+        (line_count told.plan) (initial_state told.plan) report) }
 {
     let mut walk = Following {
-        walker: Walker::new(alloc, plan)?,
-        teller,
+        walker: Walker::new(alloc, told.plan)?,
+        teller: told.teller,
     };
-    explore(alloc, &mut walk, limit)
+    explore(alloc, &mut walk, limit, progress)
 }

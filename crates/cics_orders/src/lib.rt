@@ -10,7 +10,7 @@ mod stamping;
 mod starting;
 mod walks;
 
-pub use following::{Tells, explore_script};
+pub use following::{Tells, ToldPlan, explore_script};
 pub use lanes::Lane;
 pub use laws::{lanes_tell_ended_tasks, lines_are_not_refused, orders_rest};
 pub use walks::Walker;

@@ -7,6 +7,7 @@ ghost use Rattle.cics_whole.specs.Reads.{read_failures, write_failures};
 ghost use Rattle.cics_survey.specs.Written.{ending_of, Writes, IsPrinted, Surveys};
 
 use crate::surveys::{Survey, survey_script};
+use cics_lanes::Silent;
 use cics_names::NoMemory;
 use cics_report::{push_fault, push_report, push_script};
 use cics_session::{Orders, RunFault, Sink, Source, write_all};
@@ -54,7 +55,7 @@ fn push_orders(out: &mut Vec<u8>, script: &[u8], wanted: Orders) -> Result<Surve
 {
     let alloc = *out.allocator();
     let lines = lines_of(alloc, script)?;
-    match survey_script(alloc, lines.as_slice(), wanted.told, wanted.limit)? {
+    match survey_script(alloc, lines.as_slice(), wanted, &mut Silent)? {
         Ok(survey) => push_survey(out, &survey, wanted),
         Err((number, fault)) => {
             push_fault(out, number, fault)?;

@@ -6,10 +6,11 @@ ghost use Rattle.cics_plans.specs.Taking.{nothing_taken, taken_apart, planned};
 ghost use Rattle.cics_survey.specs.Surveys.{IsReportOf, IsSurvey};
 
 use crate::tellers::{Answers, States};
-use cics_lanes::Report;
+use cics_lanes::{Progress, Report};
 use cics_names::{NoMemory, Record};
-use cics_orders::explore_script;
+use cics_orders::{ToldPlan, explore_script};
 use cics_plans::{Plan, Planned, ScriptFault, plan_of};
+use cics_session::Orders;
 use std::alloc::Global;
 
 /// A script taken apart, and the report on its orders.
@@ -20,31 +21,38 @@ pub struct Survey {
 }
 
 // Follows the orders of a plan.
-fn follow(alloc: Global, plan: Plan, with_told: bool, limit: u64) -> Result<Report, NoMemory>
+fn follow<P: Progress>(
+    alloc: Global,
+    plan: Plan,
+    wanted: Orders,
+    progress: &mut P,
+) -> Result<Report, NoMemory>
     requires { is_proper plan ≡ true }
-    ensures { IfOk result (IsReportOf plan with_told) }
+    ensures { IfOk result (IsReportOf plan wanted.told) }
 {
-    if with_told {
-        explore_script(alloc, plan, Answers { alloc }, limit)
+    if wanted.told {
+        let teller = Answers { alloc };
+        explore_script(alloc, ToldPlan { plan, teller }, wanted.limit, progress)
     } else {
-        explore_script(alloc, plan, States { alloc }, limit)
+        let teller = States { alloc };
+        explore_script(alloc, ToldPlan { plan, teller }, wanted.limit, progress)
     }
 }
 
-/// Takes a script apart, and follows the orders of its lines through about `limit` states, as
-/// `cics_lanes::explore` does. `lines` are its lines, each without its line end. `with_told` tells
-/// endings apart by what tasks were told too. If a line has a fault, returns the number of the
-/// first such line and its fault instead.
+/// Takes a script apart, and follows the orders of its lines through about `wanted.limit` states,
+/// as `cics_lanes::explore` does. `lines` are its lines, each without its line end. `wanted.told`
+/// tells endings apart by what tasks were told too. If a line has a fault, returns the number of
+/// the first such line and its fault instead.
 ///
 /// Errors: `NoMemory`. Cost: that of `explore_script`.
-pub fn survey_script(
+pub fn survey_script<P: Progress>(
     alloc: Global,
     lines: &[Record],
-    with_told: bool,
-    limit: u64,
+    wanted: Orders,
+    progress: &mut P,
 ) -> Result<Result<Survey, (u64, ScriptFault)>, NoMemory>
     ensures { IfOk result (IsSurvey (planned (taken_apart nothing_taken 1 lines.now))
-        with_told) }
+        wanted.told) }
 {
     let planned = match plan_of(alloc, lines)? {
         Ok(planned) => planned,
@@ -55,6 +63,6 @@ pub fn survey_script(
         Ok(own) => own,
         Err(fault) => return Ok(Err(fault)),
     };
-    let report = follow(alloc, own.plan, with_told, limit)?;
+    let report = follow(alloc, own.plan, wanted, progress)?;
     Ok(Ok(Survey { planned, report }))
 }

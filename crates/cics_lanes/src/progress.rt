@@ -1,0 +1,28 @@
+//! How far a search is.
+
+/// Where a search stands.
+#[derive(Clone, Copy)]
+pub struct Stand {
+    /// Whether it follows serial orders alone.
+    pub is_serial: bool,
+    /// The number of lines after which its states are.
+    pub level: usize,
+    /// The most lines of an order.
+    pub levels: usize,
+    /// How many states it has followed.
+    pub states: u64,
+}
+
+/// Is told how far a search is.
+pub trait Progress {
+    /// Takes where a search stands. It is called after each state that is followed.
+    fn tell(&mut self, stand: Stand);
+}
+
+/// Doesn't tell how far a search is.
+#[derive(Drop)]
+pub struct Silent;
+
+impl Progress for Silent {
+    fn tell(&mut self, _stand: Stand) {}
+}
