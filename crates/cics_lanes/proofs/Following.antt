@@ -1,6 +1,8 @@
 -- A state and a level are followed, entry by entry.
-use Rattle.std.proofs.Common.{◌≡◌, ◌<◌, ℕ, ◌+◌, Bool, true, false, if◌then◌else◌, List, [], ◌∷◌, ◌++◌, map, length, take, get_or, inl, inr, refl, ap, sym, ◌∙◌, append-nil, append_assoc, subst}
-use Rattle.std.specs.List.{flat_map}
+use Rattle.std.proofs.Common.{◌≡◌, ◌<◌, ℕ, zero, suc, ◌+◌, Bool, true, false, not, cond, Some, None, if◌then◌else◌, List, [], ◌∷◌, ◌++◌, map, length, take, drop, get_or, arith, inl, inr, refl, ap, sym, ◌∙◌, append-nil, append_assoc, subst}
+use Rattle.std.specs.List.{flat_map, slice_get}
+use Rattle.std.proofs.lemmas.List.Sums.{sum_by_more}
+use Rattle.std.proofs.lemmas.Option.{slice_get_within, get_or_from_slice_get}
 use Rattle.std.specs.Str.{bytes_eq}
 use Rattle.std.proofs.lemmas.Bool.{true≢false}
 use Rattle.std.proofs.lemmas.Grind.{flat_map-append}
@@ -8,7 +10,7 @@ use Rattle.std.proofs.lemmas.List.{map-append, take_more}
 use Rattle.cics_names.specs.Keyed.{Bytes}
 use Rattle.cics_lanes.specs.Orders.{Order, Lanes, AreAmong, after}
 use Rattle.cics_lanes.specs.Groups.{added, added_all}
-use Rattle.cics_lanes.specs.Levels.{led_joined, led_on, spread, IsNext}
+use Rattle.cics_lanes.specs.Levels.{led_joined, led_on, live, spread, IsNext}
 use Rattle.cics_lanes.specs.declared.levels.Led.{Led}
 use Rattle.cics_lanes.proofs.Regrouping.{added_all-append}
 
@@ -27,6 +29,31 @@ added_more eq join f ls i base now next k x short so_far one is =
     ∙ ap (λ e. added eq join (added_all eq join base (map f (take i ls))) e.0 e.1) one
     ∙ sym (added_all-append eq join base (map f (take i ls)) (f (get_or ls i 0) ∷ []))
     ∙ ap (added_all eq join base) (sym (map-append f (take i ls) (get_or ls i 0 ∷ [])) ∙ ap (map f) (sym (take_more ls i 0 short)))
+
+-- what the lanes from a place on lead to
+pub lane_next : {X : Type 0} (f : ℕ → X) (ls : List ℕ) (i : ℕ) (x : X) (xs : List X) → x ∷ xs ≡ map f (drop i ls) →
+    (i < length ls) × (x ≡ f (get_or ls i 0)) × (xs ≡ map f (drop (suc i) ls))
+lane_next f [] zero x xs is = absurd cc
+lane_next f [] (suc i) x xs is = absurd cc
+lane_next f (l ∷ ls) zero x xs is = (omega arith, cc, cc)
+lane_next f (l ∷ ls) (suc i) x xs is = let rest = lane_next f ls i x xs is in (omega (arith, rest.0), rest.1, rest.2)
+
+pub lanes_end : {X : Type 0} (f : ℕ → X) (ls : List ℕ) (i : ℕ) → [] ≡ map f (drop i ls) → take i ls ≡ ls
+lanes_end f [] zero is = refl
+lanes_end f [] (suc i) is = refl
+lanes_end f (l ∷ ls) zero is = absurd cc
+lanes_end f (l ∷ ls) (suc i) is = ap (λ ks. l ∷ ks) (lanes_end f ls i is)
+
+-- a state more is counted if a lane may give there
+pub live_more : (es : List (Bytes × Led)) (i : ℕ) (e : Bytes × Led) → slice_get es i ≡ Some e → live (take (i + 1) es) ≡ live (take i es) + cond (not e.1.has_ended) 1 0
+live_more es i e is =
+    sum_by_more (λ f. cond (not f.1.has_ended) 1 0) es i e (slice_get_within es i e is)
+    ∙ ap (λ f. live (take i es) + cond (not f.1.has_ended) 1 0) (get_or_from_slice_get es i e e is)
+
+pub none_past : {X : Type 0} (xs : List X) (i : ℕ) → i < length xs → None ≡ slice_get xs i → ⊥
+none_past [] i short is = omega (arith, short)
+none_past (x ∷ xs) zero short is = absurd cc
+none_past (x ∷ xs) (suc i) short is = none_past xs i (omega (arith, short)) is
 
 -- ---- The entries of a level
 

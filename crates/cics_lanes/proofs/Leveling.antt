@@ -1,5 +1,5 @@
 -- A level is the grouping of the orders that are followed, and the next one is what it leads to.
-use Rattle.std.proofs.Common.{length, ◌≤◌, ◌≡◌, ℕ, suc, ◌+◌, Bool, true, false, not, if◌then◌else◌, List, [], ◌∷◌, ◌++◌, map, inr, refl, ap, sym, ◌∙◌, arith, subst}
+use Rattle.std.proofs.Common.{◌≤◌, ◌≡◌, ℕ, suc, ◌+◌, Bool, true, false, not, if◌then◌else◌, List, [], ◌∷◌, ◌++◌, map, inr, refl, ap, sym, ◌∙◌, arith, subst}
 use Rattle.std.specs.List.{flat_map, filter}
 use Rattle.std.specs.Str.{bytes_eq}
 use Rattle.std.proofs.lemmas.List.{map-append}
@@ -9,9 +9,9 @@ use Rattle.cics_names.specs.Keyed.{Bytes}
 use Rattle.cics_lanes.specs.Orders.{Order, Lanes, IsOneOf, IsWay, AreStampedAlike, after, AreAmong}
 use Rattle.cics_lanes.specs.Endings.{Parts, kept_number}
 use Rattle.cics_lanes.specs.Groups.{added_all}
-use Rattle.cics_lanes.specs.Levels.{followed, lanes_of, is_none_left, led_joined, entry, spread, level, IsLevel, IsNext, state_count}
+use Rattle.cics_lanes.specs.Levels.{followed, lanes_of, is_none_left, led_joined, entry, spread, level, live, IsEntry, IsLevel, IsNext, state_count}
 use Rattle.cics_lanes.specs.declared.levels.Led.{Led}
-use Rattle.cics_lanes.proofs.Regrouping.{AreLaws, Each, Leads, keys, merged, regrouped}
+use Rattle.cics_lanes.proofs.Regrouping.{AreLaws, Each, Leads, keys, merged, each_added_all, regrouped}
 use Rattle.cics_lanes.proofs.Sublists.{among_all, among_trans, among_flat_map, among_filter, some_groups}
 use Rattle.cics_lanes.proofs.Ways.{each_among, each_on, after-append, longer, grows, each_own, each_lane, are_ways, filter_map_both}
 
@@ -31,23 +31,16 @@ led_laws = record {
 module _ {S : Type 0} (lanes : Lanes S) (breaks : S → ℕ → Bool) (stamp : Bool → S → Bytes) (ending : S → Parts) (b : Bool) (s : S)
     (tell : (o p : Order) → IsWay lanes s o → IsWay lanes s p → stamp b (after lanes s o) ≡ stamp b (after lanes s p) →
     AreStampedAlike lanes ending breaks (stamp b) b (after lanes s o) (after lanes s p)) where
-  -- an entry is that of its first order
-  pub record IsEntry (e : Bytes × Led) : Type 0 where
-    pub way : IsWay lanes s e.1.first
-    pub stamped : e.0 ≡ stamp b (after lanes s e.1.first)
-    pub lanes_there : e.1.lanes ≡ lanes_of lanes breaks b (after lanes s e.1.first)
-    pub ended : e.1.has_ended ≡ is_none_left (lanes.givers (after lanes s e.1.first) 0)
-
   entry_of : Order → Bytes × Led
   entry_of o = entry lanes breaks stamp b o 1 (after lanes s o)
 
-  pub are_entries : (os : List Order) → Each (IsWay lanes s) os → Each IsEntry (map (λ o. entry lanes breaks stamp b o 1 (after lanes s o)) os)
+  pub are_entries : (os : List Order) → Each (IsWay lanes s) os → Each (IsEntry lanes breaks stamp b s) (map (λ o. entry lanes breaks stamp b o 1 (after lanes s o)) os)
   are_entries [] ways = tt
   are_entries (o ∷ os) ways = (record { way = ways.0; stamped = refl; lanes_there = refl; ended = refl }, are_entries os ways.1)
 
   -- ---- Entries of one stamp
 
-  pub same_there : (g e : Bytes × Led) → IsEntry g → IsEntry e → g.0 ≡ e.0 →
+  pub same_there : (g e : Bytes × Led) → IsEntry lanes breaks stamp b s g → IsEntry lanes breaks stamp b s e → g.0 ≡ e.0 →
       AreStampedAlike lanes ending breaks (stamp b) b (after lanes s g.1.first) (after lanes s e.1.first)
   same_there g e first second one = tell g.1.first e.1.first first.way second.way (sym first.stamped ∙ one ∙ second.stamped)
 
@@ -59,7 +52,7 @@ module _ {S : Type 0} (lanes : Lanes S) (breaks : S → ℕ → Bool) (stamp : B
       by rest true is = rw (same l all.0, is) rest
       by rest false is = rw (same l all.0, is) (ap (λ ks. l ∷ ks) rest)
 
-  same_lanes : (x y : S) → AreStampedAlike lanes ending breaks (stamp b) b x y → lanes_of lanes breaks b x ≡ lanes_of lanes breaks b y
+  pub same_lanes : (x y : S) → AreStampedAlike lanes ending breaks (stamp b) b x y → lanes_of lanes breaks b x ≡ lanes_of lanes breaks b y
   same_lanes x y alike = by b refl
     where
       by : (c : Bool) → b ≡ c →
@@ -81,7 +74,7 @@ module _ {S : Type 0} (lanes : Lanes S) (breaks : S → ℕ → Bool) (stamp : B
   merged_lanes x y o p m n [] = refl
   merged_lanes x y o p m n (l ∷ ls) = ap (λ es. entry lanes breaks stamp b (o ++ l ∷ []) (kept_number (m + n)) (lanes.given x l) ∷ es) (merged_lanes x y o p m n ls)
 
-  spread_alike : (g e : Bytes × Led) → IsEntry g → IsEntry e → g.0 ≡ e.0 → keys (spread lanes breaks stamp b s g) ≡ keys (spread lanes breaks stamp b s e)
+  spread_alike : (g e : Bytes × Led) → IsEntry lanes breaks stamp b s g → IsEntry lanes breaks stamp b s e → g.0 ≡ e.0 → keys (spread lanes breaks stamp b s g) ≡ keys (spread lanes breaks stamp b s e)
   spread_alike g e first second one = by (is_none_left (lanes.givers (after lanes s g.1.first) 0)) first.ended (second.ended ∙ ap is_none_left (sym (same_there g e first second one).givers))
     where
       by : (c : Bool) → g.1.has_ended ≡ c → e.1.has_ended ≡ c → keys (spread lanes breaks stamp b s g) ≡ keys (spread lanes breaks stamp b s e)
@@ -96,7 +89,7 @@ module _ {S : Type 0} (lanes : Lanes S) (breaks : S → ℕ → Bool) (stamp : B
           rw (p, q) (same_keys x y g.1.first e.1.first g.1.count e.1.count g.1.lanes all
           ∙ ap (λ ls. keys (map (λ l. entry lanes breaks stamp b (e.1.first ++ l ∷ []) e.1.count (lanes.given y l)) ls)) (sym both))
 
-  spread_merges : (g e : Bytes × Led) → IsEntry g → IsEntry e → g.0 ≡ e.0 →
+  spread_merges : (g e : Bytes × Led) → IsEntry lanes breaks stamp b s g → IsEntry lanes breaks stamp b s e → g.0 ≡ e.0 →
       spread lanes breaks stamp b s (g.0, led_joined g.1 e.1) ≡ merged bytes_eq led_joined (spread lanes breaks stamp b s g) (spread lanes breaks stamp b s e)
   spread_merges g e first second one = by (is_none_left (lanes.givers (after lanes s g.1.first) 0)) first.ended (second.ended ∙ ap is_none_left (sym (same_there g e first second one).givers))
     where
@@ -111,7 +104,7 @@ module _ {S : Type 0} (lanes : Lanes S) (breaks : S → ℕ → Bool) (stamp : B
           ∙ ap (λ ls. merged bytes_eq led_joined (map (λ l. entry lanes breaks stamp b (g.1.first ++ l ∷ []) g.1.count (lanes.given x l)) g.1.lanes)
           (map (λ l. entry lanes breaks stamp b (e.1.first ++ l ∷ []) e.1.count (lanes.given y l)) ls)) (sym both))
 
-  leads_on : Leads led_joined bytes_eq led_joined (spread lanes breaks stamp b s) IsEntry
+  leads_on : Leads led_joined bytes_eq led_joined (spread lanes breaks stamp b s) (IsEntry lanes breaks stamp b s)
   leads_on = record {
     stays = λ g x is. record { way = is.way; stamped = is.stamped; lanes_there = is.lanes_there; ended = is.ended };
     alike = spread_alike;
@@ -149,9 +142,17 @@ module _ {S : Type 0} (lanes : Lanes S) (breaks : S → ℕ → Bool) (stamp : B
   next_level : (os : List Order) → Each (IsWay lanes s) os →
       added_all bytes_eq led_joined [] (flat_map (spread lanes breaks stamp b s) (level lanes breaks stamp b s os)) ≡ level lanes breaks stamp b s (flat_map (longer lanes breaks b s) os)
   next_level os ways =
-      regrouped bytes_eq led_joined led_laws bytes_eq led_joined led_laws (spread lanes breaks stamp b s) IsEntry leads_on
+      regrouped bytes_eq led_joined led_laws bytes_eq led_joined led_laws (spread lanes breaks stamp b s) (IsEntry lanes breaks stamp b s) leads_on
       (map (λ o. entry lanes breaks stamp b o 1 (after lanes s o)) os) [] [] tt (are_entries os ways)
       ∙ ap (added_all bytes_eq led_joined []) (spread_all os)
+
+  -- each entry of a level is that of its first order
+  pub level_entries : (n : ℕ) (w : Bool) (es : List (Bytes × Led)) → IsLevel lanes breaks stamp b s n w es → Each (IsEntry lanes breaks stamp b s) es
+  level_entries n w es is =
+      let ways = each_among (IsWay lanes s) is.orders (followed lanes breaks b n s) is.among (are_ways lanes breaks b n s) in
+      subst (Each (IsEntry lanes breaks stamp b s)) (sym is.groups)
+      (each_added_all bytes_eq led_joined led_laws bytes_eq led_joined led_laws (spread lanes breaks stamp b s) (IsEntry lanes breaks stamp b s) leads_on
+      (map (λ o. entry lanes breaks stamp b o 1 (after lanes s o)) is.orders) [] tt (are_entries is.orders ways))
 
   pub first_level : (w : Bool) (es : List (Bytes × Led)) → es ≡ entry lanes breaks stamp b [] 1 s ∷ [] → IsLevel lanes breaks stamp b s 0 w es
   first_level w es is = record { orders = [] ∷ []; among = inr ([], refl, refl); groups = is; whole = λ _. refl }
@@ -181,11 +182,11 @@ module _ {S : Type 0} (lanes : Lanes S) (breaks : S → ℕ → Bool) (stamp : B
           (found.1 ∙ ap (added_all bytes_eq led_joined []) (filter_map_both (λ o. entry lanes breaks stamp b o 1 (after lanes s o)) (λ e. found.0 e.0) is.orders))
           (λ so. absurd (true≢false (sym so ∙ at)))
 
--- as long as the levels have no more states than the limit, the search is whole
+-- as long as the levels have no more states in which a lane may give than the limit, the search is whole
 pub level_met : {S : Type 0} (lanes : Lanes S) (breaks : S → ℕ → Bool) (stamp : Bool → S → Bytes) (b : Bool) (s : S) (n limit met more : ℕ) (w v : Bool) (es next : List (Bytes × Led)) →
     IsLevel lanes breaks stamp b s n w es → IsNext lanes breaks stamp b s w v es next →
     (w ≡ true → met ≤ state_count lanes breaks stamp b s n) → (state_count lanes breaks stamp b s n ≤ limit → w ≡ true) →
-    more ≤ met + length es → (met + length es ≤ limit → v ≡ w) →
+    more ≤ met + live es → (met + live es ≤ limit → v ≡ w) →
     (v ≡ true → more ≤ state_count lanes breaks stamp b s (suc n)) × (state_count lanes breaks stamp b s (suc n) ≤ limit → v ≡ true)
 level_met lanes breaks stamp b s n limit met more w v es next is on so_far within met_more stays = (
   λ whole. let all = (on.whole whole).0 in omega (arith, so_far all, met_more, size all),
@@ -194,5 +195,5 @@ level_met lanes breaks stamp b s n limit met more w v es next is on so_far withi
       stays (omega (arith, so_far all, size all, fits)) ∙ all,
 )
   where
-    size : w ≡ true → length es ≡ length (level lanes breaks stamp b s (followed lanes breaks b n s))
-    size all = ap length (is.groups ∙ ap (level lanes breaks stamp b s) (is.whole all))
+    size : w ≡ true → live es ≡ live (level lanes breaks stamp b s (followed lanes breaks b n s))
+    size all = ap live (is.groups ∙ ap (level lanes breaks stamp b s) (is.whole all))

@@ -1,4 +1,5 @@
 pub mod Adding
+pub mod Advancing
 pub mod Following
 pub mod Givers
 pub mod Leveling

@@ -6,7 +6,7 @@ use Rattle.cics_names.specs.Keyed.{Bytes}
 use Rattle.cics_lanes.specs.Orders.{Order, Lanes, IsOneOf, IsWay, AreStampedAlike, after, orders, AreAmong}
 use Rattle.cics_lanes.specs.Endings.{Parts, Reported, are_same, run_to, joined}
 use Rattle.cics_lanes.specs.Groups.{added_all}
-use Rattle.cics_lanes.specs.Levels.{followed, led_joined, entry, level, told, IsLevel}
+use Rattle.cics_lanes.specs.Levels.{followed, led_joined, entry, level, told, IsEntry, IsLevel}
 use Rattle.cics_lanes.specs.Tallies.{tally_joined, ending_of}
 use Rattle.cics_lanes.specs.Reports.{runs, serial_of, IsReport}
 use Rattle.cics_lanes.specs.declared.endings.Tally.{Tally}
@@ -14,7 +14,7 @@ use Rattle.cics_lanes.specs.declared.levels.Led.{Led}
 use Rattle.cics_lanes.proofs.Parts.{same_decides}
 use Rattle.cics_lanes.proofs.Regrouping.{AreLaws, Each, Leads, merged, regrouped}
 use Rattle.cics_lanes.proofs.Ways.{each_all, each_among, are_ways, all_followed, serial_followed, filter_map_both}
-use Rattle.cics_lanes.proofs.Leveling.{kept_sums, kept_swap, led_laws, IsEntry, are_entries, same_there}
+use Rattle.cics_lanes.proofs.Leveling.{kept_sums, kept_swap, led_laws, are_entries, same_there}
 use Rattle.cics_lanes.proofs.Tallying.{run_tells, all_told, whole_report}
 
 tally_laws : AreLaws are_same tally_joined
@@ -28,7 +28,7 @@ module _ {S : Type 0} (lanes : Lanes S) (breaks : S → ℕ → Bool) (stamp : B
     (tell : (b : Bool) (o p : Order) → IsWay lanes s o → IsWay lanes s p → stamp b (after lanes s o) ≡ stamp b (after lanes s p) →
     AreStampedAlike lanes ending breaks (stamp b) b (after lanes s o) (after lanes s p)) where
   leads_told : (b : Bool) →
-      Leads led_joined are_same tally_joined (λ e. told lanes ending b s e ∷ []) (IsEntry lanes breaks stamp ending b s (tell b))
+      Leads led_joined are_same tally_joined (λ e. told lanes ending b s e ∷ []) (IsEntry lanes breaks stamp b s)
   leads_told b = record {
     stays = λ g x is. record { way = is.way; stamped = is.stamped; lanes_there = is.lanes_there; ended = is.ended };
     alike = λ g e first second one. ap (λ p. p ∷ []) (same_there lanes breaks stamp ending b s (tell b) g e first second one).ends;
@@ -55,7 +55,7 @@ module _ {S : Type 0} (lanes : Lanes S) (breaks : S → ℕ → Bool) (stamp : B
       ≡ added_all are_same tally_joined met (map (run_tells b) (runs lanes ending serial s os))
   told_level b os ways met =
       ap (added_all are_same tally_joined met) (sym (told_flat b (level lanes breaks stamp b s os)))
-      ∙ regrouped bytes_eq led_joined led_laws are_same tally_joined tally_laws (λ e. told lanes ending b s e ∷ []) (IsEntry lanes breaks stamp ending b s (tell b)) (leads_told b)
+      ∙ regrouped bytes_eq led_joined led_laws are_same tally_joined tally_laws (λ e. told lanes ending b s e ∷ []) (IsEntry lanes breaks stamp b s) (leads_told b)
       (map (λ o. entry lanes breaks stamp b o 1 (after lanes s o)) os) [] met tt (are_entries lanes breaks stamp ending b s (tell b) os ways)
       ∙ ap (added_all are_same tally_joined met) (told_runs b os)
 

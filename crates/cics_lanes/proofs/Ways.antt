@@ -1,5 +1,5 @@
 -- The orders that a search follows, line by line, are those that it is to follow.
-use Rattle.std.proofs.Common.{◌≡◌, inl, inr, ℕ, zero, suc, Bool, true, false, not, if◌then◌else◌, List, [], ◌∷◌, ◌++◌, map, All, refl, ap, sym, ◌∙◌, arith, append-nil, append_assoc, subst}
+use Rattle.std.proofs.Common.{◌≡◌, ◌<◌, length, get_or, inl, inr, ℕ, zero, suc, Bool, true, false, not, if◌then◌else◌, List, [], ◌∷◌, ◌++◌, map, All, refl, ap, sym, ◌∙◌, arith, append-nil, append_assoc, subst}
 use Rattle.std.specs.List.{flat_map, filter}
 use Rattle.std.proofs.lemmas.Grind.{flat_map-append}
 use Rattle.std.proofs.lemmas.List.{map-append}
@@ -69,6 +69,11 @@ each_one ks (l ∷ ls) =
     at : (js : List ℕ) → IsOneOf l (js ++ l ∷ ls)
     at [] = inl refl
     at (j ∷ js) = inr (at js)
+
+pub each_at : {X : Type 0} (P : X → Type 0) (xs : List X) (i : ℕ) (d : X) → Each P xs → i < length xs → P (get_or xs i d)
+each_at P [] i d all short = absurd (omega (arith, short))
+each_at P (x ∷ xs) zero d all short = all.0
+each_at P (x ∷ xs) (suc i) d all short = each_at P xs i d all.1 (omega (arith, short))
 
 -- each of these lanes is one of them
 pub each_own : (ls : List ℕ) → Each (λ l. IsOneOf l ls) ls

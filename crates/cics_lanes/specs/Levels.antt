@@ -1,8 +1,8 @@
 -- The levels of a search: the states after orders of so many lines, states of one stamp once.
-use Rattle.std.specs.Prelude.{◌≡◌, ℕ, zero, suc, ◌+◌, Bool, true, false, not, if◌then◌else◌, List, [], ◌∷◌, ◌++◌, map, length, filter}
-use Rattle.std.specs.List.{flat_map}
+use Rattle.std.specs.Prelude.{◌≡◌, ℕ, zero, suc, ◌+◌, Bool, true, false, not, if◌then◌else◌, List, [], ◌∷◌, ◌++◌, map, filter}
+use Rattle.std.specs.List.{count_by, flat_map}
 use Rattle.cics_names.specs.Keyed.{Bytes}
-use Rattle.cics_lanes.specs.Orders.{Order, Lanes, after, led_by, AreAmong}
+use Rattle.cics_lanes.specs.Orders.{Order, Lanes, IsWay, after, led_by, AreAmong}
 use Rattle.cics_lanes.specs.Endings.{Parts, kept_number}
 use Rattle.cics_lanes.specs.Groups.{added_all}
 use Rattle.std.specs.Str.{bytes_eq}
@@ -34,6 +34,13 @@ abbrev pub entry : {S : Type 0} → Lanes S → (S → ℕ → Bool) → (Bool �
 entry lanes breaks stamp b o n x =
     (stamp b x, record { first = o; lanes = lanes_of lanes breaks b x; has_ended = is_none_left (lanes.givers x 0); count = n })
 
+-- an entry is that of its first order
+pub record IsEntry {S : Type 0} (lanes : Lanes S) (breaks : S → ℕ → Bool) (stamp : Bool → S → Bytes) (b : Bool) (s : S) (e : Bytes × Led) : Type 0 where
+  pub way : IsWay lanes s e.1.first
+  pub stamped : e.0 ≡ stamp b (after lanes s e.1.first)
+  pub lanes_there : e.1.lanes ≡ lanes_of lanes breaks b (after lanes s e.1.first)
+  pub ended : e.1.has_ended ≡ is_none_left (lanes.givers (after lanes s e.1.first) 0)
+
 -- the entries of the next level that the lanes of a state lead to, from the start `s`
 abbrev pub led_on : {S : Type 0} → Lanes S → (S → ℕ → Bool) → (Bool → S → Bytes) → Bool → S → Led → List (Bytes × Led)
 led_on lanes breaks stamp b s led =
@@ -56,10 +63,14 @@ pub record IsLevel {S : Type 0} (lanes : Lanes S) (breaks : S → ℕ → Bool) 
   pub groups : es ≡ level lanes breaks stamp b s orders
   pub whole : is_whole ≡ true → orders ≡ followed lanes breaks b n s
 
--- how many states the first `n` levels have, if all orders are followed
+-- how many states of a level have a lane that may give
+abbrev pub live : List (Bytes × Led) → ℕ
+live es = count_by (λ e. not e.1.has_ended) es
+
+-- how many states of the first `n` levels have a lane that may give, if all orders are followed
 abbrev pub state_count : {S : Type 0} → Lanes S → (S → ℕ → Bool) → (Bool → S → Bytes) → Bool → S → ℕ → ℕ
 state_count lanes breaks stamp b s zero = 0
-state_count lanes breaks stamp b s (suc n) = state_count lanes breaks stamp b s n + length (level lanes breaks stamp b s (followed lanes breaks b n s))
+state_count lanes breaks stamp b s (suc n) = state_count lanes breaks stamp b s n + live (level lanes breaks stamp b s (followed lanes breaks b n s))
 
 -- Some entries of a level are followed, and all if the search is whole after it.
 pub record IsNext {S : Type 0} (lanes : Lanes S) (breaks : S → ℕ → Bool) (stamp : Bool → S → Bytes) (b : Bool) (s : S) (was_whole is_whole : Bool) (es next : List (Bytes × Led)) : Type 0 where

@@ -4,4 +4,5 @@ pub mod EndingLaws
 pub mod Groups
 pub mod Tallies
 pub mod Levels
+pub mod Ahead
 pub mod Reports

@@ -1,18 +1,20 @@
 //! Follows orders level by level, and counts those that lead to each ending.
 
-ghost use Rattle.std.specs.Prelude.{◌≡◌, ◌≤◌, ◌<◌, ◌+◌, [], ◌∷◌, ◌++◌, length, map};
+ghost use Rattle.std.specs.Prelude.{◌≡◌, ◌≤◌, ◌<◌, ◌+◌, [], ◌∷◌, ◌++◌, map, ℕ};
 ghost use Rattle.std.specs.Prelude.{true, false, IfOk, OnOk};
 ghost use Rattle.std.specs.Str.{bytes_eq};
 ghost use Rattle.cics_lanes.specs.Endings.{are_same};
 ghost use Rattle.cics_lanes.specs.Groups.{added_all};
-ghost use Rattle.cics_lanes.specs.Levels.{led_joined, led_on, spread, told};
+ghost use Rattle.cics_lanes.specs.Ahead.{IsKnown};
+ghost use Rattle.cics_lanes.specs.Levels.{led_joined, led_on, live, spread, told, IsEntry};
 ghost use Rattle.cics_lanes.specs.Levels.{IsLevel, IsNext, state_count};
 ghost use Rattle.cics_lanes.specs.Tallies.{tally_joined};
 ghost use Rattle.cics_lanes.specs.Reports.{IsReport};
 
+use crate::ahead::Known;
 use crate::endings::{Ending, Met, Parts, Tally, endings_of};
 use crate::groups::add;
-use crate::levels::{Led, Level, Stamp, entry, go_to};
+use crate::levels::{Led, Level, Stamp, go_to, look, with_lane};
 use crate::progress::{Progress, Stand};
 use crate::walks::Walk;
 use cics_names::{Items, NoMemory};
@@ -77,7 +79,7 @@ fn is_kept(at: usize, most: u64, count: usize) -> bool {
 
 // Returns how many states of a level have a lane that may give.
 fn live_count(level: &Level) -> usize
-    ensures { result ≤ length level.now.entries }
+    ensures { result ≡ live level.now.entries }
 {
     let mut count = 0;
     for at in 0..level.len() {
@@ -88,18 +90,6 @@ fn live_count(level: &Level) -> usize
         }
     }
     count
-}
-
-// Returns an order with one lane more.
-fn with_lane(alloc: Global, order: &[usize], lane: usize) -> Result<Items<usize>, NoMemory>
-    ensures { IfOk result (λ longer. longer ≡ order.now ++ lane ∷ []) }
-{
-    let mut longer = Items::new(alloc);
-    for i in 0..order.len() {
-        longer.push(order[i])?;
-    }
-    longer.push(lane)?;
-    Ok(longer)
 }
 
 impl Search {
@@ -143,21 +133,33 @@ impl Search {
     }
 
     // Follows the lanes of a state: adds the states that they lead to to the next level.
-    fn follow<W: Walk>(&self, walk: &mut W, led: &Led, next: &mut Level) -> Result<(), NoMemory>
+    fn follow<W: Walk>(
+        &self,
+        walk: &mut W,
+        known: &mut Known,
+        entry: (Stamp, Led),
+        next: &mut Level,
+    ) -> Result<(), NoMemory>
+        requires entry { IsEntry W.lanes W.breaks W.stamp self.now.is_serial (W.start walk.old)
+            entry }
+        requires known { IsKnown W.lanes W.breaks W.stamp self.now.is_serial (W.start walk.old)
+            known.old.entries }
+        ensures known { OnOk result (IsKnown W.lanes W.breaks W.stamp self.now.is_serial
+            (W.start walk.old) known.new.entries) }
         ensures next { OnOk result (next.new.entries ≡ added_all bytes_eq led_joined
             next.old.entries (led_on W.lanes W.breaks W.stamp self.now.is_serial
-            (W.start walk.old) led.now)) }
+            (W.start walk.old) entry.1)) }
         ensures start { OnOk result (W.start walk.new ≡ W.start walk.old) }
     {
+        let (stamp, led) = entry;
+        let states = led.lead_on(walk, known, &stamp, self.is_serial)?;
         let lanes = led.lanes.as_slice();
-        for i in 0..lanes.len() {
-            let lane = lanes[i];
-            go_to(walk, led.first.as_slice())?;
-            walk.give(lane)?;
-            let first = with_lane(self.alloc, led.first.as_slice(), lane)?;
-            let (stamp, mut reached) = entry(self.alloc, walk, self.is_serial, first)?;
-            reached.count = led.count;
-            add(next, stamp, reached)?;
+        let mut at = 0usize;
+        for reached in states.into_vec() {
+            let first = with_lane(self.alloc, led.first.as_slice(), lanes[at])?;
+            at += 1;
+            let (stamp, led) = reached.led_by(first, led.count);
+            add(next, stamp, led)?;
         }
         Ok(())
     }
@@ -166,35 +168,48 @@ impl Search {
     fn step<W: Walk>(
         &self,
         walk: &mut W,
-        stamp: Stamp,
-        led: Led,
+        known: &mut Known,
+        entry: (Stamp, Led),
         next: &mut Level,
     ) -> Result<(), NoMemory>
+        requires entry { IsEntry W.lanes W.breaks W.stamp self.now.is_serial (W.start walk.old)
+            entry }
+        requires known { IsKnown W.lanes W.breaks W.stamp self.now.is_serial (W.start walk.old)
+            known.old.entries }
+        ensures known { OnOk result (IsKnown W.lanes W.breaks W.stamp self.now.is_serial
+            (W.start walk.old) known.new.entries) }
         ensures next { OnOk result (next.new.entries ≡ added_all bytes_eq led_joined
             next.old.entries (spread W.lanes W.breaks W.stamp self.now.is_serial
-            (W.start walk.old) (stamp, led))) }
+            (W.start walk.old) entry)) }
         ensures start { OnOk result (W.start walk.new ≡ W.start walk.old) }
     {
-        if led.has_ended {
-            return add(next, stamp, led);
+        if entry.1.has_ended {
+            return add(next, entry.0, entry.1);
         }
-        self.follow(walk, &led, next)
+        self.follow(walk, known, entry, next)
     }
 
     // Follows the states of a level, or some of them. Returns the next level.
     fn next<W: Walk, P: Progress>(
         &mut self,
         walk: &mut W,
+        known: &mut Known,
         level: Level,
         progress: &mut P,
     ) -> Result<Level, NoMemory>
+        requires level { (n : ℕ) × IsLevel W.lanes W.breaks W.stamp self.old.is_serial
+            (W.start walk.old) n self.old.is_whole level.entries }
+        requires known { IsKnown W.lanes W.breaks W.stamp self.old.is_serial (W.start walk.old)
+            known.old.entries }
+        ensures known { OnOk result (IsKnown W.lanes W.breaks W.stamp self.old.is_serial
+            (W.start walk.old) known.new.entries) }
         ensures next { IfOk result (λ next. IsNext W.lanes W.breaks W.stamp self.old.is_serial
             (W.start walk.old) self.old.is_whole self.new.is_whole level.entries next.entries) }
         ensures start { OnOk result (W.start walk.new ≡ W.start walk.old) }
         ensures serial { OnOk result (self.new.is_serial ≡ self.old.is_serial) }
         ensures limit { OnOk result (self.new.limit ≡ self.old.limit) }
-        ensures met { OnOk result (self.new.met ≤ self.old.met + length level.entries) }
-        ensures within { OnOk result (self.old.met + length level.entries ≤ self.old.limit →
+        ensures met { OnOk result (self.new.met ≤ self.old.met + live level.entries) }
+        ensures within { OnOk result (self.old.met + live level.entries ≤ self.old.limit →
             self.new.is_whole ≡ self.old.is_whole) }
     {
         let thinning = self.thin(live_count(&level));
@@ -204,7 +219,7 @@ impl Search {
             let is_kept = led.has_ended || thinning.keeps(at);
             at = at.saturating_add(usize::from(!led.has_ended));
             if is_kept {
-                self.step(walk, stamp, led, &mut next)?;
+                self.step(walk, known, (stamp, led), &mut next)?;
                 self.stand.states = self.stand.states.saturating_add(1);
                 progress.tell(self.stand);
             } else {
@@ -233,11 +248,13 @@ impl Search {
             (W.start walk.old) lines ≤ self.old.limit → self.new.is_whole ≡ true) }
     {
         walk.restart()?;
-        let (stamp, led) = entry(self.alloc, walk, self.is_serial, Items::new(self.alloc))?;
+        let here = look(self.alloc, walk, self.is_serial)?;
+        let (stamp, led) = here.led_by(Items::new(self.alloc), 1);
+        let mut known = IndexMap::new(self.alloc);
         let mut level = IndexMap::new(self.alloc);
         add(&mut level, stamp, led)?;
         for _ in 0..lines {
-            level = self.next(walk, level, progress)?;
+            level = self.next(walk, &mut known, level, progress)?;
         }
         Ok(level)
     }

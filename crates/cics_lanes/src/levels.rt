@@ -7,7 +7,8 @@ ghost use Rattle.std.specs.Prelude.{◌≡◌, [], ◌∷◌, ◌++◌, List, If
 ghost use Rattle.std.specs.List.{flat_map};
 ghost use Rattle.cics_lanes.specs.Orders.{after};
 ghost use Rattle.cics_lanes.specs.Groups.{added_all};
-ghost use Rattle.cics_lanes.specs.Levels.{led_joined, lanes_of, entry};
+ghost use Rattle.cics_lanes.specs.Levels.{led_joined, lanes_of};
+ghost use Rattle.cics_lanes.specs.Ahead.{reached};
 
 use crate::groups::Join;
 use crate::walks::Walk;
@@ -67,6 +68,83 @@ impl Hash for Stamp {
     }
 }
 
+impl Stamp {
+    // Returns a copy.
+    fn copy(&self, alloc: Global) -> Result<Stamp, NoMemory>
+        ensures { IfOk result (λ s. s ≡ self.now) }
+    {
+        let mut bytes = Vec::new(alloc);
+        bytes.extend_from_slice(self.bytes.as_slice())?;
+        Ok(Stamp { bytes })
+    }
+}
+
+/// A state that orders lead to.
+#[derive(Drop)]
+pub(crate) struct Reached {
+    pub(crate) stamp: Stamp,
+    /// The lanes that are followed from there.
+    pub(crate) lanes: Items<usize>,
+    /// Whether no lane may give there.
+    pub(crate) has_ended: bool,
+}
+
+impl Reached {
+    /// Returns a copy. Errors: `NoMemory`.
+    pub(crate) fn copy(&self, alloc: Global) -> Result<Reached, NoMemory>
+        ensures { IfOk result (λ r. r ≡ self.now) }
+    {
+        Ok(Reached {
+            stamp: self.stamp.copy(alloc)?,
+            lanes: copied(alloc, self.lanes.as_slice())?,
+            has_ended: self.has_ended,
+        })
+    }
+
+    /// Returns its entry, to which so many orders lead.
+    pub(crate) fn led_by(self, first: Items<usize>, count: u128) -> (Stamp, Led)
+        ensures { result ≡ (
+          self.stamp,
+          record {
+            first = first;
+            lanes = self.lanes;
+            has_ended = self.has_ended;
+            count = count;
+          },
+        ) }
+    {
+        let led = Led {
+            first,
+            lanes: self.lanes,
+            has_ended: self.has_ended,
+            count,
+        };
+        (self.stamp, led)
+    }
+}
+
+// Returns a copy of lanes.
+fn copied(alloc: Global, lanes: &[usize]) -> Result<Items<usize>, NoMemory>
+    ensures { IfOk result (λ copy. copy ≡ lanes.now) }
+{
+    let mut copy = Vec::new(alloc);
+    copy.extend_from_slice(lanes)?;
+    Ok(Items::from_vec(copy))
+}
+
+/// Returns an order with one lane more. Errors: `NoMemory`.
+pub(crate) fn with_lane(
+    alloc: Global,
+    order: &[usize],
+    lane: usize,
+) -> Result<Items<usize>, NoMemory>
+    ensures { IfOk result (λ longer. longer ≡ order.now ++ lane ∷ []) }
+{
+    let mut longer = copied(alloc, order)?;
+    longer.push(lane)?;
+    Ok(longer)
+}
+
 /// Orders that lead to states of one stamp.
 #[derive(Drop)]
 pub(crate) struct Led {
@@ -118,25 +196,18 @@ fn lanes_of<W: Walk>(alloc: Global, walk: &W, is_serial: bool) -> Result<Items<u
     Ok(lanes)
 }
 
-/// Returns the entry of the state of a walk, to which one order leads.
-pub(crate) fn entry<W: Walk>(
-    alloc: Global,
-    walk: &W,
-    is_serial: bool,
-    first: Items<usize>,
-) -> Result<(Stamp, Led), NoMemory>
-    ensures { IfOk result (λ made.
-        made ≡ entry W.lanes W.breaks W.stamp is_serial first 1 walk.now) }
+/// Returns the state of a walk.
+pub(crate) fn look<W: Walk>(alloc: Global, walk: &W, is_serial: bool) -> Result<Reached, NoMemory>
+    ensures { IfOk result (λ state.
+        state ≡ reached W.lanes W.breaks W.stamp is_serial walk.now) }
 {
     let mut bytes = Vec::new(alloc);
     walk.stamp(is_serial, &mut bytes)?;
     let lanes = lanes_of(alloc, walk, is_serial)?;
     let has_ended = walk.first_giver().is_none();
-    let led = Led {
-        first,
+    Ok(Reached {
+        stamp: Stamp { bytes },
         lanes,
         has_ended,
-        count: 1,
-    };
-    Ok((Stamp { bytes }, led))
+    })
 }

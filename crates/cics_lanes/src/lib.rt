@@ -9,6 +9,7 @@
 //! `groups` and `progress`.
 #![tactic(auto)]
 
+mod ahead;
 mod endings;
 mod exploring;
 mod groups;

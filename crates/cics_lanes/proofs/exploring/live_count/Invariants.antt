@@ -1,6 +1,7 @@
-use Rattle.std.proofs.Common.{◌≤◌}
+use Rattle.std.proofs.Common.{◌≡◌, take}
+use Rattle.cics_lanes.specs.Levels.{live}
 use Rattle.cics_lanes.proofs.exploring.live_count.Given as goal
 
--- no more are counted than were passed
+-- those so far are counted
 abbrev pub invariant-loop-at : goal.invariant-loop-at
-invariant-loop-at l = l.count ≤ l.at
+invariant-loop-at l = l.count ≡ live (take l.at l.level.entries)

@@ -1,17 +1,19 @@
-use Rattle.std.proofs.Common.{◌≡◌, ◌++◌, ◌∷◌, [], map, take}
+use Rattle.std.proofs.Common.{◌≡◌, ◌++◌, ◌∷◌, [], map, take, drop}
 use Rattle.std.specs.Str.{bytes_eq}
+use Rattle.std.specs.Vec.Iter.{into_iter_items}
 use Rattle.cics_lanes.specs.Orders.{after}
 use Rattle.cics_lanes.specs.Groups.{added_all}
+use Rattle.cics_lanes.specs.Ahead.{reached}
 use Rattle.cics_lanes.specs.Levels.{led_joined, entry}
 use Rattle.cics_lanes.proofs.exploring.Search.follow.Given as goal
 
 -- the states that the lanes so far lead to are added
-abbrev pub invariant-loop-i : goal.invariant-loop-i
-invariant-loop-i g l =
+abbrev pub invariant-loop-reached : goal.invariant-loop-reached
+invariant-loop-reached g l =
     let w = g.W.Walk in
-    let s = w.start l.fn.walk in
+    let x = after w.lanes (w.start l.fn.walk) l.fn.entry.1.first in
     record {
-      start : w.start l.walk ≡ s;
+      left : into_iter_items l.reached-iterator ≡ map (λ k. reached w.lanes w.breaks w.stamp l.self.is_serial (w.lanes.given x k)) (drop l.at l.lanes);
       next : l.next.entries ≡ added_all bytes_eq led_joined l.fn.next.entries
-          (map (λ k. entry w.lanes w.breaks w.stamp l.self.is_serial (l.led.first ++ k ∷ []) l.led.count (w.lanes.given (after w.lanes s l.led.first) k)) (take l.i l.lanes));
+          (map (λ k. entry w.lanes w.breaks w.stamp l.self.is_serial (l.fn.entry.1.first ++ k ∷ []) l.fn.entry.1.count (w.lanes.given x k)) (take l.at l.lanes));
     }

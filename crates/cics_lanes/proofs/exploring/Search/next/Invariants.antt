@@ -1,11 +1,13 @@
-use Rattle.std.proofs.Common.{◌≡◌, ◌≤◌, ◌+◌, length, false, List, []}
+use Rattle.std.proofs.Common.{◌≡◌, ◌≤◌, ◌+◌, false, List, []}
 use Rattle.std.specs.List.{flat_map}
 use Rattle.std.specs.Str.{bytes_eq}
 use Rattle.cics_names.specs.Keyed.{Bytes}
 use Rattle.cics_lanes.specs.Groups.{added_all}
-use Rattle.cics_lanes.specs.Levels.{led_joined, spread}
+use Rattle.cics_lanes.specs.Levels.{led_joined, live, spread, IsEntry}
+use Rattle.cics_lanes.specs.Ahead.{IsKnown}
 use Rattle.cics_lanes.specs.declared.levels.Led.{Led}
 use Rattle.cics_lanes.proofs.Following.{IsPart}
+use Rattle.cics_lanes.proofs.Regrouping.{Each}
 use Rattle.cics_lanes.proofs.exploring.Search.next.Given as goal
 
 -- the states that some of the entries so far lead to are added
@@ -15,9 +17,11 @@ invariant-loop-stamp g l =
     let s = w.start l.fn.walk in
     record {
       start : w.start l.walk ≡ s;
+      known : IsKnown w.lanes w.breaks w.stamp l.fn.self.is_serial s l.known.entries;
+      left : Each (IsEntry w.lanes w.breaks w.stamp l.fn.self.is_serial s) l.stamp-iterator;
       serial : l.self.is_serial ≡ l.fn.self.is_serial;
       limit : l.self.limit ≡ l.fn.self.limit;
-      met : l.self.met ≤ l.fn.self.met + length l.fn.level.entries;
+      met : l.self.met ≤ l.fn.self.met + live l.fn.level.entries;
       within : l.thinning.is_over ≡ false → l.self.is_whole ≡ l.fn.self.is_whole;
       some : List (Bytes × Led);
       part : IsPart l.fn.self.is_whole l.self.is_whole l.fn.level.entries l.stamp-iterator some;

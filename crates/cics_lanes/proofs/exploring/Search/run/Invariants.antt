@@ -1,5 +1,6 @@
 use Rattle.std.proofs.Common.{◌≡◌, ◌≤◌, true}
 use Rattle.cics_lanes.specs.Levels.{IsLevel, state_count}
+use Rattle.cics_lanes.specs.Ahead.{IsKnown}
 use Rattle.cics_lanes.proofs.exploring.Search.run.Given as goal
 
 -- the level of the states after so many lines
@@ -9,6 +10,7 @@ invariant-loop g l =
     let s = w.start l.fn.walk in
     record {
       start : w.start l.walk ≡ s;
+      known : IsKnown w.lanes w.breaks w.stamp l.fn.self.is_serial s l.known.entries;
       serial : l.self.is_serial ≡ l.fn.self.is_serial;
       limit : l.self.limit ≡ l.fn.self.limit;
       met : l.self.is_whole ≡ true → l.self.met ≤ state_count w.lanes w.breaks w.stamp l.fn.self.is_serial s l.counter;

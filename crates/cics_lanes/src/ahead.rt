@@ -1,0 +1,101 @@
+//! Where the lanes of states lead, as far as that is known before they are followed.
+//!
+//! To go to a state takes each line of its first order. So a walk that is at a state goes on from
+//! there along lanes that were not tried yet, and what it comes to is kept for later levels.
+
+ghost use Rattle.std.specs.Prelude.{◌≡◌, [], None, IfOk, OnOk, IfSome};
+ghost use Rattle.std.specs.Option.{unwrap_or};
+ghost use Rattle.std.specs.Map.{lookup};
+ghost use Rattle.std.specs.Str.{bytes_eq};
+ghost use Rattle.indexmap.specs.IndexMap.{get, UpdatesBy};
+ghost use Rattle.cics_lanes.specs.Orders.{after};
+ghost use Rattle.cics_lanes.specs.Levels.{IsEntry};
+ghost use Rattle.cics_lanes.specs.Ahead.{reached, all_reached, IsMet, IsKnown};
+
+use crate::levels::{Led, Reached, Stamp, go_to, look};
+use crate::walks::Walk;
+use cics_names::{Items, NoMemory};
+use indexmap::IndexMap;
+use std::alloc::Global;
+
+/// The states that the first lanes of states lead to, by the stamps of these.
+pub(crate) type Known = IndexMap<Stamp, Items<Reached>>;
+
+// The most lines that a walk goes on.
+const MOST_AHEAD: usize = 10;
+
+// Takes what is known of the states of a stamp.
+fn take(alloc: Global, known: &mut Known, stamp: &Stamp) -> Items<Reached>
+    ensures found { result ≡ unwrap_or (get bytes_eq known.old stamp.now) [] }
+    ensures taken { UpdatesBy bytes_eq (bytes_eq stamp.now) known.old known.new None }
+{
+    match known.swap_remove(stamp) {
+        Some(states) => states,
+        None => Items::new(alloc),
+    }
+}
+
+// Goes on from the state of a walk along lanes that aren't known yet.
+fn go_on<W: Walk>(
+    walk: &mut W,
+    known: &mut Known,
+    from: &Reached,
+    is_serial: bool,
+) -> Result<(), NoMemory>
+    requires met { IsMet W.lanes (W.start walk.old) walk.old }
+    requires from { from.now ≡ reached W.lanes W.breaks W.stamp is_serial walk.old }
+    requires known { IsKnown W.lanes W.breaks W.stamp is_serial (W.start walk.old)
+        known.old.entries }
+    ensures known { OnOk result (IsKnown W.lanes W.breaks W.stamp is_serial (W.start walk.old)
+        known.new.entries) }
+    ensures start { OnOk result (W.start walk.new ≡ W.start walk.old) }
+{
+    let alloc = *known.allocator();
+    let mut here = from.copy(alloc)?;
+    for _ in 0..MOST_AHEAD {
+        let mut states = take(alloc, known, &here.stamp);
+        if states.len() >= here.lanes.len() {
+            known.insert(here.stamp, states)?;
+            return Ok(());
+        }
+        walk.give(here.lanes.as_slice()[states.len()])?;
+        let there = look(alloc, walk, is_serial)?;
+        states.push(there.copy(alloc)?)?;
+        known.insert(here.stamp, states)?;
+        here = there;
+    }
+    Ok(())
+}
+
+impl Led {
+    /// Returns the states that its lanes lead to. `stamp` is that of its state. Errors: `NoMemory`.
+    pub(crate) fn lead_on<W: Walk>(
+        &self,
+        walk: &mut W,
+        known: &mut Known,
+        stamp: &Stamp,
+        is_serial: bool,
+    ) -> Result<Items<Reached>, NoMemory>
+        requires entry { IsEntry W.lanes W.breaks W.stamp is_serial (W.start walk.old)
+            (stamp.now, self.now) }
+        requires known { IsKnown W.lanes W.breaks W.stamp is_serial (W.start walk.old)
+            known.old.entries }
+        ensures states { IfOk result (λ states. states ≡ all_reached W.lanes W.breaks W.stamp
+            is_serial (after W.lanes (W.start walk.old) self.now.first)) }
+        ensures known { OnOk result (IsKnown W.lanes W.breaks W.stamp is_serial
+            (W.start walk.old) known.new.entries) }
+        ensures start { OnOk result (W.start walk.new ≡ W.start walk.old) }
+    {
+        let alloc = *known.allocator();
+        let lanes = self.lanes.as_slice();
+        let mut states = take(alloc, known, stamp);
+        for i in states.len()..lanes.len() {
+            go_to(walk, self.first.as_slice())?;
+            walk.give(lanes[i])?;
+            let there = look(alloc, walk, is_serial)?;
+            go_on(walk, known, &there, is_serial)?;
+            states.push(there)?;
+        }
+        Ok(states)
+    }
+}
