@@ -1,10 +1,10 @@
 //! The commands that a task issues.
 
-ghost use Rattle.std.specs.Prelude.{◌≡◌};
+ghost use Rattle.std.specs.Prelude.{◌≡◌, IfOk};
 ghost use Rattle.std.specs.Option.{option_copied};
 ghost use Rattle.cics_names.specs.Commands.{file_named, length_of};
 
-use crate::{Name4, Name8, Record};
+use crate::{Name4, Name8, NoMemory, Record};
 
 /// A command, as a task issues it.
 pub struct Command {
@@ -35,7 +35,7 @@ impl Drop for Command {
 /// - `from`: what is written; `length`, if it is given, says how many of its first bytes.
 /// - `length` of a command that reads: how many bytes the task takes, if it is given. A longer
 ///   content is answered LENGERR with its first bytes, and counts as read.
-#[derive(Drop)]
+#[derive(Clone, Drop)]
 pub enum Verb {
     /// READ (file control): reads the record of a key. With `gteq` that is the smallest key that
     /// isn't below the one given, with `generic` a key that begins with it. With both it is the
@@ -169,6 +169,18 @@ pub enum Verb {
     Abend {
         code: Option<Name4>,
     },
+}
+
+impl Command {
+    /// Returns a copy of the command. The only error is `NoMemory`.
+    pub fn copy(&self) -> Result<Command, NoMemory>
+        ensures { IfOk result (λ copy. copy ≡ self.now) }
+    {
+        Ok(Command {
+            verb: self.verb.clone()?,
+            resp: self.resp,
+        })
+    }
 }
 
 impl Verb {

@@ -234,6 +234,20 @@ impl Record {
     }
 }
 
+// For derives of what holds records. A clone is a `copy`.
+impl Clone for Record {
+    ghost use Rattle.std.specs.Prelude.{◌≡◌};
+
+    ghost is_clone = { λ r copy. copy ≡ r };
+
+    fn clone(&self) -> Result<Record, AllocError> {
+        match self.copy() {
+            Ok(copy) => Ok(copy),
+            Err(NoMemory) => Err(AllocError),
+        }
+    }
+}
+
 impl PartialEq for Record {
     ghost use Rattle.std.specs.Prelude.{◌==◌};
     ghost use Rattle.std.proofs.Common.{rules};

@@ -274,6 +274,24 @@ impl Opening {
         Ok(())
     }
 
+    /// Returns an opening with the same definitions and loaded records.
+    ///
+    /// Errors: `NoMemory`. Cost: O(bytes copied).
+    pub fn copy(&self) -> Result<Opening, NoMemory>
+        ensures { IfOk result (λ copy. copy ≡ self.now) }
+    {
+        let mut prefixes = Items::new(self.alloc);
+        for prefix in self.prefixes.as_slice() {
+            prefixes.push(*prefix)?;
+        }
+        Ok(Opening {
+            files: self.files.copy()?,
+            prefixes,
+            queues: self.queues.copy()?,
+            alloc: self.alloc,
+        })
+    }
+
     /// Returns the allocator that gives the memory for all that is defined and loaded.
     pub fn allocator(&self) -> Global {
         self.alloc
