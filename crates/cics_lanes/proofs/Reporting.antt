@@ -4,9 +4,9 @@ use Rattle.std.specs.List.{flat_map}
 use Rattle.std.specs.Str.{bytes_eq}
 use Rattle.cics_names.specs.Keyed.{Bytes}
 use Rattle.cics_lanes.specs.Orders.{Order, Lanes, IsOneOf, IsWay, AreStampedAlike, after, orders, AreAmong}
-use Rattle.cics_lanes.specs.Endings.{Parts, Reported, are_same, run_to, joined}
+use Rattle.cics_lanes.specs.Endings.{Parts, Reported, are_same, run_to, report_of_both}
 use Rattle.cics_lanes.specs.Groups.{added_all}
-use Rattle.cics_lanes.specs.Levels.{followed, led_joined, entry, level, told, IsEntry, IsLevel}
+use Rattle.cics_lanes.specs.Levels.{followed, led_joined, entry, level, tallied, IsEntry, IsLevel}
 use Rattle.cics_lanes.specs.Tallies.{tally_joined, ending_of}
 use Rattle.cics_lanes.specs.Reports.{runs, serial_of, IsReport}
 use Rattle.cics_lanes.specs.declared.endings.Tally.{Tally}
@@ -28,7 +28,7 @@ module _ {S : Type 0} (lanes : Lanes S) (breaks : S → ℕ → Bool) (stamp : B
     (tell : (b : Bool) (o p : Order) → IsWay lanes s o → IsWay lanes s p → stamp b (after lanes s o) ≡ stamp b (after lanes s p) →
     AreStampedAlike lanes ending breaks (stamp b) b (after lanes s o) (after lanes s p)) where
   leads_told : (b : Bool) →
-      Leads led_joined are_same tally_joined (λ e. told lanes ending b s e ∷ []) (IsEntry lanes breaks stamp b s)
+      Leads led_joined are_same tally_joined (λ e. tallied lanes ending b s e ∷ []) (IsEntry lanes breaks stamp b s)
   leads_told b = record {
     stays = λ g x is. record { way = is.way; stamped = is.stamped; lanes_there = is.lanes_there; ended = is.ended };
     alike = λ g e first second one. ap (λ p. p ∷ []) (same_there lanes breaks stamp ending b s (tell b) g e first second one).ends;
@@ -36,26 +36,26 @@ module _ {S : Type 0} (lanes : Lanes S) (breaks : S → ℕ → Bool) (stamp : B
   }
     where
       by : (g e : Bytes × Led) (c : Bool) →
-          told lanes ending c s (g.0, led_joined g.1 e.1) ∷ [] ≡ merged are_same tally_joined (told lanes ending c s g ∷ []) (told lanes ending c s e ∷ [])
+          tallied lanes ending c s (g.0, led_joined g.1 e.1) ∷ [] ≡ merged are_same tally_joined (tallied lanes ending c s g ∷ []) (tallied lanes ending c s e ∷ [])
       by g e true = refl
       by g e false = refl
 
-  told_flat : (b : Bool) (es : List (Bytes × Led)) → flat_map (λ e. told lanes ending b s e ∷ []) es ≡ map (told lanes ending b s) es
+  told_flat : (b : Bool) (es : List (Bytes × Led)) → flat_map (λ e. tallied lanes ending b s e ∷ []) es ≡ map (tallied lanes ending b s) es
   told_flat b [] = refl
-  told_flat b (e ∷ es) = ap (λ ts. told lanes ending b s e ∷ ts) (told_flat b es)
+  told_flat b (e ∷ es) = ap (λ ts. tallied lanes ending b s e ∷ ts) (told_flat b es)
 
   told_runs : (b : Bool) (os : List Order) →
-      flat_map (λ e. told lanes ending b s e ∷ []) (map (λ o. entry lanes breaks stamp b o 1 (after lanes s o)) os) ≡ map (run_tells b) (runs lanes ending serial s os)
+      flat_map (λ e. tallied lanes ending b s e ∷ []) (map (λ o. entry lanes breaks stamp b o 1 (after lanes s o)) os) ≡ map (run_tells b) (runs lanes ending serial s os)
   told_runs b [] = refl
   told_runs b (o ∷ os) = ap (λ ts. run_tells b (run_to ending serial o (after lanes s o)) ∷ ts) (told_runs b os)
 
   -- what a level tells is what its orders tell
   told_level : (b : Bool) (os : List Order) → Each (IsWay lanes s) os → (met : List (Parts × Tally)) →
-      added_all are_same tally_joined met (map (told lanes ending b s) (level lanes breaks stamp b s os))
+      added_all are_same tally_joined met (map (tallied lanes ending b s) (level lanes breaks stamp b s os))
       ≡ added_all are_same tally_joined met (map (run_tells b) (runs lanes ending serial s os))
   told_level b os ways met =
       ap (added_all are_same tally_joined met) (sym (told_flat b (level lanes breaks stamp b s os)))
-      ∙ regrouped bytes_eq led_joined led_laws are_same tally_joined tally_laws (λ e. told lanes ending b s e ∷ []) (IsEntry lanes breaks stamp b s) (leads_told b)
+      ∙ regrouped bytes_eq led_joined led_laws are_same tally_joined tally_laws (λ e. tallied lanes ending b s e ∷ []) (IsEntry lanes breaks stamp b s) (leads_told b)
       (map (λ o. entry lanes breaks stamp b o 1 (after lanes s o)) os) [] met tt (are_entries lanes breaks stamp ending b s (tell b) os ways)
       ∙ ap (added_all are_same tally_joined met) (told_runs b os)
 
@@ -71,17 +71,17 @@ module _ {S : Type 0} (lanes : Lanes S) (breaks : S → ℕ → Bool) (stamp : B
       IsWay lanes (lanes.given (after lanes s o) l) q → lanes.givers (after lanes (lanes.given (after lanes s o) l) q) 0 ≡ [] →
       serial (after lanes (lanes.given (after lanes s o) l) q) ≡ false) →
       IsLevel lanes breaks stamp false s n w es → IsLevel lanes breaks stamp true s n v fs →
-      endings ≡ map ending_of (added_all are_same tally_joined (added_all are_same tally_joined [] (map (told lanes ending false s) es)) (map (told lanes ending true s) fs)) →
+      endings ≡ map ending_of (added_all are_same tally_joined (added_all are_same tally_joined [] (map (tallied lanes ending false s) es)) (map (tallied lanes ending true s) fs)) →
       IsReport lanes ending serial n s (record { endings = endings; is_whole = w; has_all_serial = v })
   searched n w v es fs endings starts ends keeps breaking all some is =
       let serials : serial_of lanes serial s (orders lanes n s) ≡ followed lanes breaks true n s
       = serial_followed lanes breaks serial s keeps breaking n [] tt starts (each_all (λ o. lanes.givers (after lanes s o) 0 ≡ []) (orders lanes n s) ends) in
       let every : followed lanes breaks false n s ≡ orders lanes n s = all_followed lanes breaks n s in
-      let reported : endings ≡ joined (runs lanes ending serial s all.orders) (runs lanes ending serial s some.orders)
+      let reported : endings ≡ report_of_both (runs lanes ending serial s all.orders) (runs lanes ending serial s some.orders)
       = is
-      ∙ ap (λ ts. map ending_of (added_all are_same tally_joined (added_all are_same tally_joined [] (map (told lanes ending false s) ts)) (map (told lanes ending true s) fs))) all.groups
-      ∙ ap (λ ts. map ending_of (added_all are_same tally_joined (added_all are_same tally_joined [] (map (told lanes ending false s) (level lanes breaks stamp false s all.orders))) (map (told lanes ending true s) ts))) some.groups
-      ∙ ap (λ met. map ending_of (added_all are_same tally_joined met (map (told lanes ending true s) (level lanes breaks stamp true s some.orders))))
+      ∙ ap (λ ts. map ending_of (added_all are_same tally_joined (added_all are_same tally_joined [] (map (tallied lanes ending false s) ts)) (map (tallied lanes ending true s) fs))) all.groups
+      ∙ ap (λ ts. map ending_of (added_all are_same tally_joined (added_all are_same tally_joined [] (map (tallied lanes ending false s) (level lanes breaks stamp false s all.orders))) (map (tallied lanes ending true s) ts))) some.groups
+      ∙ ap (λ met. map ending_of (added_all are_same tally_joined met (map (tallied lanes ending true s) (level lanes breaks stamp true s some.orders))))
       (told_level false all.orders (level_ways false n w es all) [])
       ∙ ap (map ending_of) (told_level true some.orders (level_ways true n v fs some) (added_all are_same tally_joined [] (map (run_tells false) (runs lanes ending serial s all.orders))))
       ∙ all_told (runs lanes ending serial s all.orders) (runs lanes ending serial s some.orders) in
@@ -95,9 +95,9 @@ module _ {S : Type 0} (lanes : Lanes S) (breaks : S → ℕ → Bool) (stamp : B
         has_all_serial = λ at. some.whole at ∙ sym serials;
         whole = λ at too.
             reported
-            ∙ ap (λ os. joined (runs lanes ending serial s os) (runs lanes ending serial s some.orders)) (all.whole at ∙ every)
-            ∙ ap (λ os. joined (runs lanes ending serial s (orders lanes n s)) (runs lanes ending serial s os)) (some.whole too ∙ sym serials)
-            ∙ ap (joined (runs lanes ending serial s (orders lanes n s)))
+            ∙ ap (λ os. report_of_both (runs lanes ending serial s os) (runs lanes ending serial s some.orders)) (all.whole at ∙ every)
+            ∙ ap (λ os. report_of_both (runs lanes ending serial s (orders lanes n s)) (runs lanes ending serial s os)) (some.whole too ∙ sym serials)
+            ∙ ap (report_of_both (runs lanes ending serial s (orders lanes n s)))
             (sym (filter_map_both (λ o. run_to ending serial o (after lanes s o)) (λ r. r.is_serial) (orders lanes n s)))
             ∙ whole_report (runs lanes ending serial s (orders lanes n s));
       }

@@ -5,7 +5,7 @@ use Rattle.std.proofs.lemmas.List.Sums.{sum_by-append}
 use Rattle.std.proofs.lemmas.List.Elements.{filter-append}
 use Rattle.std.proofs.lemmas.List.{map-append}
 use Rattle.std.proofs.lemmas.Bool.{true≢false}
-use Rattle.cics_lanes.specs.Endings.{Run, Parts, are_same, firsts, kept_number, reported, report, joined_of, joined}
+use Rattle.cics_lanes.specs.Endings.{Run, Parts, are_same, firsts, kept_number, reported, report, reported_of_both, report_of_both}
 use Rattle.cics_lanes.specs.Groups.{added, added_all}
 use Rattle.cics_lanes.specs.Tallies.{tally_joined, ending_of}
 use Rattle.cics_lanes.specs.declared.endings.Tally.{Tally}
@@ -255,13 +255,13 @@ serial_told (r ∷ us) rs ss =
     ∙ ap (λ ts. entries (tally rs (ss ++ r ∷ [])) (firsts ts)) (append_assoc rs ss (r ∷ [])))
     ∙ serial_told us rs (ss ++ r ∷ []) ∙ ap (λ ts. entries (tally rs ts) (firsts (rs ++ ts))) (append_assoc ss (r ∷ []) us)
 
-endings_joined : (rs ss ts : List Run) → map ending_of (entries (tally rs ss) ts) ≡ map (joined_of rs ss) ts
+endings_joined : (rs ss ts : List Run) → map ending_of (entries (tally rs ss) ts) ≡ map (reported_of_both rs ss) ts
 endings_joined rs ss [] = refl
-endings_joined rs ss (t ∷ ts) = ap (λ es. joined_of rs ss t ∷ es) (endings_joined rs ss ts)
+endings_joined rs ss (t ∷ ts) = ap (λ es. reported_of_both rs ss t ∷ es) (endings_joined rs ss ts)
 
 -- what runs tell, and then serial runs, are their endings
 pub all_told : (rs ss : List Run) →
-    map ending_of (added_all are_same tally_joined (added_all are_same tally_joined [] (map (run_tells false) rs)) (map (run_tells true) ss)) ≡ joined rs ss
+    map ending_of (added_all are_same tally_joined (added_all are_same tally_joined [] (map (run_tells false) rs)) (map (run_tells true) ss)) ≡ report_of_both rs ss
 all_told rs ss =
     ap (λ es. map ending_of (added_all are_same tally_joined es (map (run_tells true) ss)))
     (orders_told rs [] ∙ ap (λ ts. entries (tally rs []) (firsts ts)) (sym (append-nil rs)))
@@ -351,7 +351,7 @@ count_fewer p q (r ∷ rs) = by (count_fewer p q rs) (p r) (q r) refl refl
 greater : (m n : ℕ) → n ≤ m → max (kept_number m) (kept_number n) ≡ kept_number m
 greater m n fewer = omega (arith, fewer)
 
-joined_whole : (rs ts : List Run) → map (joined_of rs (filter (λ r. r.is_serial) rs)) ts ≡ map (reported rs) ts
+joined_whole : (rs ts : List Run) → map (reported_of_both rs (filter (λ r. r.is_serial) rs)) ts ≡ map (reported rs) ts
 joined_whole rs [] = refl
 joined_whole rs (t ∷ ts) = λ i. record {
   order = t.order;
@@ -362,8 +362,8 @@ joined_whole rs (t ∷ ts) = λ i. record {
 } ∷ joined_whole rs ts i
 
 -- with all runs and all serial ones it is their report
-pub whole_report : (rs : List Run) → joined rs (filter (λ r. r.is_serial) rs) ≡ report rs
+pub whole_report : (rs : List Run) → report_of_both rs (filter (λ r. r.is_serial) rs) ≡ report rs
 whole_report rs =
-    ap (map (joined_of rs (filter (λ r. r.is_serial) rs)))
+    ap (map (reported_of_both rs (filter (λ r. r.is_serial) rs)))
     (firsts_same (filter (λ r. r.is_serial) rs) rs (each_filter (λ r. list_any (λ s. leads r s) rs ≡ true) (λ r. r.is_serial) rs (each_leads [] rs)))
     ∙ joined_whole rs (firsts rs)

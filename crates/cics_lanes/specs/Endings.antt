@@ -56,8 +56,8 @@ run_to ending serial o s = record { order = o; ending = ending s; is_serial = se
 
 -- the ending of a run as it is reported, if serial runs are counted by themselves: each of them is
 -- one more that leads there, unless the others count more
-abbrev pub joined_of : List Run → List Run → Run → Reported
-joined_of rs ss r = record {
+abbrev pub reported_of_both : List Run → List Run → Run → Reported
+reported_of_both rs ss r = record {
   order = r.order;
   ending = r.ending;
   orders = max (kept_number (count_by (λ s. are_same s.ending r.ending) rs)) (kept_number (count_by (λ s. are_same s.ending r.ending) ss));
@@ -66,5 +66,5 @@ joined_of rs ss r = record {
 
 -- the endings of runs and of serial runs: each once, in the order of the first runs that lead to
 -- them, of which the serial ones come last
-abbrev pub joined : List Run → List Run → List Reported
-joined rs ss = map (joined_of rs ss) (firsts (rs ++ ss))
+abbrev pub report_of_both : List Run → List Run → List Reported
+report_of_both rs ss = map (reported_of_both rs ss) (firsts (rs ++ ss))

@@ -80,8 +80,8 @@ pub record IsNext {S : Type 0} (lanes : Lanes S) (breaks : S → ℕ → Bool) (
   pub leads : next ≡ added_all bytes_eq led_joined [] (flat_map (spread lanes breaks stamp b s) some)
 
 -- what an entry tells: the parts of its ending, and how many orders or serial orders lead there
-abbrev pub told : {S : Type 0} → Lanes S → (S → Parts) → Bool → S → Bytes × Led → Parts × Tally
-told lanes ending b s e = (
+abbrev pub tallied : {S : Type 0} → Lanes S → (S → Parts) → Bool → S → Bytes × Led → Parts × Tally
+tallied lanes ending b s e = (
   ending (after lanes s e.1.first),
   record { order = e.1.first; orders = if b then 0 else e.1.count; serial = if b then e.1.count else 0 },
 )

@@ -1,7 +1,7 @@
 -- What is reported of the orders of a state.
 use Rattle.std.specs.Prelude.{◌≡◌, ℕ, Bool, true, List, map, filter}
 use Rattle.cics_lanes.specs.Orders.{Order, Lanes, after, orders, AreAmong}
-use Rattle.cics_lanes.specs.Endings.{Parts, Run, run_to, report, joined}
+use Rattle.cics_lanes.specs.Endings.{Parts, Run, run_to, report, report_of_both}
 use Rattle.cics_lanes.specs.declared.exploring.Report.{Report}
 
 -- the runs of these orders from a state
@@ -19,7 +19,7 @@ pub record IsReport {S : Type 0} (lanes : Lanes S) (ending : S → Parts) (seria
   pub serially : List Order
   pub among : AreAmong followed (orders lanes most s)
   pub serially_among : AreAmong serially (serial_of lanes serial s (orders lanes most s))
-  pub endings : r.endings ≡ joined (runs lanes ending serial s followed) (runs lanes ending serial s serially)
+  pub endings : r.endings ≡ report_of_both (runs lanes ending serial s followed) (runs lanes ending serial s serially)
   pub is_whole : r.is_whole ≡ true → followed ≡ orders lanes most s
   pub has_all_serial : r.has_all_serial ≡ true → serially ≡ serial_of lanes serial s (orders lanes most s)
   pub whole : r.is_whole ≡ true → r.has_all_serial ≡ true → r.endings ≡ report (runs lanes ending serial s (orders lanes most s))

@@ -6,7 +6,7 @@ ghost use Rattle.std.specs.Str.{bytes_eq};
 ghost use Rattle.cics_lanes.specs.Endings.{are_same};
 ghost use Rattle.cics_lanes.specs.Groups.{added_all};
 ghost use Rattle.cics_lanes.specs.Ahead.{IsKnown};
-ghost use Rattle.cics_lanes.specs.Levels.{led_joined, led_on, live, spread, told, IsEntry};
+ghost use Rattle.cics_lanes.specs.Levels.{led_joined, led_on, live, spread, tallied, IsEntry};
 ghost use Rattle.cics_lanes.specs.Levels.{IsLevel, IsNext, state_count};
 ghost use Rattle.cics_lanes.specs.Tallies.{tally_joined};
 ghost use Rattle.cics_lanes.specs.Reports.{IsReport};
@@ -216,11 +216,12 @@ impl Search {
         let mut next = IndexMap::new(self.alloc);
         let mut at = 0usize;
         for (stamp, led) in level {
-            let is_kept = led.has_ended || thinning.keeps(at);
-            at = at.saturating_add(usize::from(!led.has_ended));
+            let may_go_on = !led.has_ended;
+            let is_kept = !may_go_on || thinning.keeps(at);
+            at = at.saturating_add(usize::from(may_go_on));
             if is_kept {
                 self.step(walk, known, (stamp, led), &mut next)?;
-                self.stand.states = self.stand.states.saturating_add(1);
+                self.stand.states = self.stand.states.saturating_add(u64::from(may_go_on));
                 progress.tell(self.stand);
             } else {
                 self.is_whole = false;
@@ -260,9 +261,9 @@ impl Search {
     }
 
     // Counts the orders of a level for the endings that they lead to.
-    fn tell<W: Walk>(&self, walk: &mut W, level: Level, met: &mut Met) -> Result<(), NoMemory>
+    fn tally<W: Walk>(&self, walk: &mut W, level: Level, met: &mut Met) -> Result<(), NoMemory>
         ensures met { OnOk result (met.new.entries ≡ added_all are_same tally_joined
-            met.old.entries (map (told W.lanes W.ending self.now.is_serial (W.start walk.old))
+            met.old.entries (map (tallied W.lanes W.ending self.now.is_serial (W.start walk.old))
             level.entries)) }
         ensures start { OnOk result (W.start walk.new ≡ W.start walk.old) }
     {
@@ -308,10 +309,10 @@ pub fn explore<W: Walk, P: Progress>(
     let mut met = IndexMap::new(alloc);
     let mut all = Search::new(alloc, false, limit, lines);
     let level = all.run(walk, lines, progress)?;
-    all.tell(walk, level, &mut met)?;
+    all.tally(walk, level, &mut met)?;
     let mut serial = Search::new(alloc, true, limit, lines);
     let level = serial.run(walk, lines, progress)?;
-    serial.tell(walk, level, &mut met)?;
+    serial.tally(walk, level, &mut met)?;
     Ok(Report {
         endings: endings_of(alloc, met)?,
         is_whole: all.is_whole,

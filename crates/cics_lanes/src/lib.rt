@@ -5,8 +5,8 @@
 //! it leads to. An ending is told in *parts*, each a text. A *stamp* is bytes that tell how a state
 //! goes on: states of one stamp are followed once.
 //!
-//! Read `walks`, which says what a caller implements, then `exploring`, `levels`, `endings`,
-//! `groups` and `progress`.
+//! Read `walks`, which says what a caller implements, then `exploring`, `levels`, `ahead`,
+//! `endings`, `groups` and `progress`.
 #![tactic(auto)]
 
 mod ahead;
