@@ -1,9 +1,13 @@
 -- Whether a line that is left shuts the region down: it does exactly if fewer lines are given than
 -- there are up to the last one that does.
-use Rattle.std.proofs.Common.{◌≡◌, ◌<◌, ◌≤◌, ℕ, zero, suc, ◌+◌, Bool, true, false, not, ◌||◌, ◌&&◌, ◌-◌, List, [], ◌∷◌, length, drop, None, Some, option_and_then, slice_get, nat_le, refl, ap, sym, ◌∙◌, arith}
+use Rattle.std.proofs.Common.{◌≡◌, ◌<◌, ◌≤◌, ℕ, zero, suc, ◌+◌, Bool, true, false, not, ◌||◌, ◌&&◌, ◌-◌, List, [], ◌∷◌, length, map, drop, get_or, Option, None, Some, option_map, option_and_then, slice_get, nat_le, Result, refl, ap, sym, ◌∙◌, arith}
+use Rattle.std.proofs.lemmas.List.{drop_more}
+use Rattle.std.proofs.lemmas.Option.{slice_get-map, slice_get_read, slice_get_within, get_or_from_slice_get}
 use Rattle.std.proofs.lemmas.Bool.{leb-true, leb-false}
 use Rattle.std.specs.Prelude.{if◌then◌else◌}
 use Rattle.cics_script.specs.Lines.{line}
+use Rattle.cics_script.specs.declared.lines.Line.{Line}
+use Rattle.cics_script.specs.declared.faults.LineFault.{LineFault}
 use Rattle.cics_plans.specs.Taking.{NumberedLine}
 use Rattle.cics_plans.specs.Proper.{is_proper}
 use Rattle.cics_orders.specs.Giving.{State, may_give}
@@ -62,7 +66,7 @@ pub given_all : (n : ℕ) (lines : List NumberedLine) → not (has_shutdown (dro
 given_all n lines = all_given n lines (nat_le (lines_to_shutdown lines) n) (leb-true (lines_to_shutdown lines) n) (leb-false (lines_to_shutdown lines) n)
 
 -- counting them, a line further
-pub count_step : (i count : ℕ) (next : NumberedLine) (lines : List NumberedLine) →
+count_step : (i count : ℕ) (next : NumberedLine) (lines : List NumberedLine) →
     (if has_shutdown lines then (i + 1) + lines_to_shutdown lines else if is_shutdown (line next.1) then i + 1 else count)
     ≡ (if has_shutdown (next ∷ lines) then i + lines_to_shutdown (next ∷ lines) else count)
 count_step i count next lines = by (is_shutdown (line next.1)) (has_shutdown lines) refl
@@ -74,6 +78,25 @@ count_step i count next lines = by (is_shutdown (line next.1)) (has_shutdown lin
     by true false is = omega (arith, none_there lines is)
     by false true is = omega arith
     by false false is = refl
+
+-- the same, as what the lines say is at hand
+pub count_said : (i count : ℕ) (r : Result Line LineFault) (lines : List NumberedLine) (said : List (Result Line LineFault)) → said ≡ map (λ (n : NumberedLine). line n.1) lines → i < length said → r ≡ get_or said i r →
+    (if has_shutdown (drop (i + 1) lines) then (i + 1) + lines_to_shutdown (drop (i + 1) lines) else if is_shutdown r then i + 1 else count)
+    ≡ (if has_shutdown (drop i lines) then i + lines_to_shutdown (drop i lines) else count)
+count_said i count r lines said all within is = by (slice_get lines i) refl (sym (slice_get-map (λ (n : NumberedLine). line n.1) lines i) ∙ ap (λ xs. slice_get xs i) (sym all) ∙ slice_get_read said (length said) i r refl within is)
+  where
+    by : (o : Option NumberedLine) → slice_get lines i ≡ o → option_map (λ (n : NumberedLine). line n.1) o ≡ Some r →
+        (if has_shutdown (drop (i + 1) lines) then (i + 1) + lines_to_shutdown (drop (i + 1) lines) else if is_shutdown r then i + 1 else count)
+        ≡ (if has_shutdown (drop i lines) then i + lines_to_shutdown (drop i lines) else count)
+    by None at none = cc
+    by (Some next) at says =
+        let rest = drop (i + 1) lines in
+        let same : r ≡ line next.1 = cc in
+        let here : next ∷ rest ≡ drop i lines
+        = ap (λ n. n ∷ rest) (sym (get_or_from_slice_get lines i next next at)) ∙ sym (drop_more lines i next (slice_get_within lines i next at)) in
+        ap (λ r. if has_shutdown rest then (i + 1) + lines_to_shutdown rest else if is_shutdown r then i + 1 else count) same
+        ∙ count_step i count next rest
+        ∙ ap (λ ls. if has_shutdown ls then i + lines_to_shutdown ls else count) here
 
 -- ---- What a turn that goes on is
 

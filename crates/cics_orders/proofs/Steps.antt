@@ -1,7 +1,7 @@
 -- What an event's call answers is its step, and a lane gives its next line.
-use Rattle.std.proofs.Common.{◌≡◌, ◌<◌, ℕ, Bool, List, length, Option, None, Some, Result, Ok, Err, refl, ap, sym, ◌∙◌, subst}
+use Rattle.std.proofs.Common.{◌≡◌, ◌<◌, ℕ, Bool, List, length, map, Option, None, Some, Result, Ok, Err, refl, ap, sym, ◌∙◌, subst}
 use Rattle.std.specs.Prelude.{slice_get, option_map, option_and_then, IfOk, OnOk}
-use Rattle.std.proofs.lemmas.Option.{slice_get_within}
+use Rattle.std.proofs.lemmas.Option.{slice_get_within, slice_get-map}
 use Rattle.std.specs.Result.{result_ok}
 use Rattle.cics_machine.specs.Machine.{RegionValue}
 use Rattle.cics_machine.specs.Steps.{Stepped}
@@ -39,12 +39,17 @@ module _ {X : Type 0} (wants : Bool) (old : RegionValue) (step : Stepped (Result
 
 -- ---- A line is given
 
--- what the next line of a lane says
-pub says_next : (xs : List Lane) (l : ℕ) (lane : Lane) (next : NumberedLine) → slice_get xs l ≡ Some lane → slice_get lane.lines lane.given ≡ Some next →
-    next_says xs l ≡ Some (line next.1)
-says_next xs l lane next at found =
+-- what the next line of a lane says is among what its lines say
+pub said_next : (xs : List Lane) (l : ℕ) (lane : Lane) (said : List (Result Line LineFault)) → slice_get xs l ≡ Some lane → said ≡ map (λ (n : NumberedLine). line n.1) lane.lines →
+    next_says xs l ≡ slice_get said lane.given
+said_next xs l lane said at all =
     ap (λ o. option_map (λ next. line next.1) (option_and_then (λ lane. slice_get lane.lines lane.given) o)) at
-    ∙ ap (λ o. option_map (λ next. line next.1) o) found
+    ∙ sym (slice_get-map (λ (n : NumberedLine). line n.1) lane.lines lane.given)
+    ∙ ap (λ xs. slice_get xs lane.given) (sym all)
+
+-- no lane is there
+pub no_lane_says : (xs : List Lane) (l : ℕ) → slice_get xs l ≡ None → next_says xs l ≡ None
+no_lane_says xs l none = ap (λ o. option_map (λ next. line next.1) (option_and_then (λ lane. slice_get lane.lines lane.given) o)) none
 
 -- a lane without a line left gives none
 pub gives_none : (s : State) (l : ℕ) → next_says s.lanes l ≡ None → given s l ≡ s

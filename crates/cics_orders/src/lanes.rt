@@ -1,13 +1,15 @@
 //! Lanes, and what their tasks are told.
 
-ghost use Rattle.std.specs.Prelude.{◌≡◌, ◌<◌, IfOk, OnOk, length, map};
-ghost use Rattle.cics_orders.specs.Giving.{fresh_lane, initial_lanes, is_of, is_last};
+ghost use Rattle.std.specs.Prelude.{◌≡◌, ◌<◌, [], ◌∷◌, ◌++◌, None, IfOk, OnOk, length, map};
+ghost use Rattle.cics_orders.specs.Giving.{fresh_lane, task_lane, is_of, is_last};
+ghost use Rattle.cics_orders.specs.GivenLanes.{frame};
 ghost use Rattle.cics_plans.specs.Firsts.{first_place};
 ghost use Rattle.cics_orders.specs.Giving.{told_more, with_told, hearing, with_given, shut};
 
+use crate::lines::Lines;
 use cics_dispatch::Outcome;
-use cics_names::{Items, Name8, NoMemory, Record};
-use cics_plans::{Plan, is_same};
+use cics_names::{Items, Name8, NoMemory};
+use cics_plans::{TaskPlan, is_same};
 use std::alloc::Global;
 
 /// The lines of a task or of the clock, and how far they are given.
@@ -16,7 +18,7 @@ pub struct Lane {
     /// The label of its task, or none if it is the clock's.
     pub label: Option<Name8>,
     /// Its lines, each with its number.
-    pub lines: Items<(u64, Record)>,
+    pub lines: Lines,
     /// How many of its lines are given.
     pub given: usize,
     /// What its task was told, for each line that was answered.
@@ -37,30 +39,19 @@ pub(crate) fn is_last(outcome: &Outcome) -> bool
     }
 }
 
-// Copies lines.
-fn copied(alloc: Global, lines: &[(u64, Record)]) -> Result<Items<(u64, Record)>, NoMemory>
-    ensures { IfOk result (λ copies. copies ≡ lines.now) }
-{
-    let mut copies = Items::new(alloc);
-    for (number, line) in lines {
-        copies.push((*number, line.copy()?))?;
-    }
-    Ok(copies)
-}
-
 impl Lane {
     // Returns a lane of which no line is given.
-    fn new(alloc: Global, label: Option<Name8>, lines: &[(u64, Record)]) -> Result<Lane, NoMemory>
-        ensures { IfOk result (λ lane. lane ≡ fresh_lane label lines.now) }
+    fn new(alloc: Global, label: Option<Name8>, lines: Lines) -> Lane
+        ensures { result ≡ fresh_lane label lines }
     {
-        Ok(Lane {
+        Lane {
             label,
-            lines: copied(alloc, lines)?,
+            lines,
             given: 0,
             told: Items::new(alloc),
             has_ended: false,
             is_in_turn: false,
-        })
+        }
     }
 
     // Returns whether it is the lane of the task of a label.
@@ -78,7 +69,7 @@ impl Lane {
         requires { self.old.given < length self.old.lines }
         ensures { self.new ≡ with_given self.old ends_turn }
     {
-        let _left = self.lines.len();
+        let _left = self.lines.as_slice().len();
         self.given += 1;
         self.is_in_turn = self.label.is_some() && !ends_turn;
     }
@@ -92,16 +83,33 @@ impl Lane {
     }
 }
 
-/// Returns the lanes of a script before the first line.
-pub(crate) fn initial_lanes(alloc: Global, plan: &Plan) -> Result<Vec<Lane>, NoMemory>
-    ensures { IfOk result (λ lanes. lanes.items ≡ initial_lanes plan.now) }
+/// Returns the lanes of tasks and of the clock, of which no line is given.
+pub(crate) fn initial_lanes(
+    alloc: Global,
+    tasks: &[TaskPlan],
+    clock: Lines,
+) -> Result<Vec<Lane>, NoMemory>
+    ensures { IfOk result (λ lanes. lanes.items
+        ≡ map task_lane tasks.now ++ fresh_lane None clock ∷ []) }
 {
     let mut lanes = Vec::new(alloc);
-    for task in plan.tasks.as_slice() {
-        lanes.push(Lane::new(alloc, Some(task.label), task.lines.as_slice())?)?;
+    for task in tasks {
+        let lines = Lines::new(alloc, task.lines.as_slice())?;
+        lanes.push(Lane::new(alloc, Some(task.label), lines))?;
     }
-    lanes.push(Lane::new(alloc, None, plan.clock.as_slice())?)?;
+    lanes.push(Lane::new(alloc, None, clock))?;
     Ok(lanes)
+}
+
+/// Returns lanes of the same lines, of which none is given.
+pub(crate) fn fresh_lanes(alloc: Global, lanes: &[Lane]) -> Result<Vec<Lane>, NoMemory>
+    ensures { IfOk result (λ fresh. fresh.items ≡ map frame lanes.now) }
+{
+    let mut fresh = Vec::new(alloc);
+    for lane in lanes {
+        fresh.push(Lane::new(alloc, lane.label, lane.lines.copy()?))?;
+    }
+    Ok(fresh)
 }
 
 // Returns the index of the lane of a label.

@@ -1,12 +1,10 @@
 //! How many lines of the clock there are up to its last SHUTDOWN.
 
-ghost use Rattle.std.specs.Prelude.{◌≡◌, ◌<◌, ◌+◌, IfOk, if◌then◌else◌};
+ghost use Rattle.std.specs.Prelude.{◌≡◌, ◌<◌, ◌+◌, if◌then◌else◌};
 ghost use Rattle.cics_orders.specs.Turns.{is_shutdown, lines_to_shutdown};
 
-use cics_names::{NoMemory, Record};
-use cics_plans::read;
+use crate::lines::Lines;
 use cics_script::{Line, LineFault};
-use std::alloc::Global;
 
 // Returns whether a line shuts the region down.
 fn is_shutdown(says: &Result<Line, LineFault>) -> bool
@@ -24,13 +22,13 @@ fn counted(count: usize, before: usize, says: &Result<Line, LineFault>) -> usize
 }
 
 /// Returns how many lines there are up to the last one that shuts the region down.
-pub(crate) fn lines_to_shutdown(alloc: Global, lines: &[(u64, Record)]) -> Result<usize, NoMemory>
-    ensures { IfOk result (λ count. count ≡ lines_to_shutdown lines.now) }
+pub(crate) fn lines_to_shutdown(lines: &Lines) -> usize
+    ensures { result ≡ lines_to_shutdown lines.now }
 {
+    let says = lines.says();
     let mut count = 0;
-    for i in 0..lines.len() {
-        let says = read(alloc, lines[i].1.bytes())?;
-        count = counted(count, i, &says);
+    for i in 0..says.len() {
+        count = counted(count, i, &says[i]);
     }
-    Ok(count)
+    count
 }

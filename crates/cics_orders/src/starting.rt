@@ -5,13 +5,12 @@ ghost use Rattle.cics_script.specs.Lines.{line};
 ghost use Rattle.cics_machine.specs.Machine.{beginning_region};
 ghost use Rattle.std.specs.List.{fold};
 ghost use Rattle.cics_plans.specs.Defining.{defined_by};
-ghost use Rattle.cics_orders.specs.Giving.{defined_more, opened};
-ghost use Rattle.cics_orders.specs.Giving.{with_task, initial_machine};
+ghost use Rattle.cics_orders.specs.Giving.{defined_more, opened, with_task};
 
 use crate::events;
 use cics_dispatch::Region;
 use cics_names::{NoMemory, Record};
-use cics_plans::{Plan, TaskPlan, define, read};
+use cics_plans::{TaskPlan, define, read};
 use cics_units::Opening;
 use std::alloc::Global;
 
@@ -40,8 +39,10 @@ fn define_all(alloc: Global, opening: &mut Opening, lines: &[(u64, Record)]) -> 
     Ok(())
 }
 
-// Returns what lines define and load.
-fn opened(alloc: Global, lines: &[(u64, Record)]) -> Result<Opening, NoMemory>
+/// Returns what lines define and load.
+///
+/// Errors: `NoMemory`.
+pub(crate) fn opened(alloc: Global, lines: &[(u64, Record)]) -> Result<Opening, NoMemory>
     ensures { IfOk result (λ opening. opening ≡ opened lines.now) }
 {
     let mut opening = Opening::new(alloc);
@@ -78,14 +79,15 @@ fn attach_all(region: &mut Region, tasks: &[TaskPlan]) -> Result<(), NoMemory>
     Ok(())
 }
 
-/// Returns the region before the first line: what the plan defines and loads is there, and its
-/// tasks are attached.
+/// Returns the region before the first line: what is defined and loaded is there, and the tasks are
+/// attached.
 ///
 /// Errors: `NoMemory`.
-pub(crate) fn initial_region(alloc: Global, plan: &Plan) -> Result<Region, NoMemory>
-    ensures { IfOk result (λ region. region.machine ≡ initial_machine plan.now) }
+pub(crate) fn initial_region(opening: &Opening, tasks: &[TaskPlan]) -> Result<Region, NoMemory>
+    ensures { IfOk result (λ region. region.machine
+        ≡ fold with_task (beginning_region opening.now) tasks.now) }
 {
-    let mut region = region_of(opened(alloc, plan.definitions.as_slice())?)?;
-    attach_all(&mut region, plan.tasks.as_slice())?;
+    let mut region = region_of(opening.copy()?)?;
+    attach_all(&mut region, tasks)?;
     Ok(region)
 }

@@ -8,21 +8,23 @@ ghost use Rattle.cics_lanes.specs.Orders.{IsFirst, numbered_from};
 ghost use Rattle.cics_orders.specs.Giving.{State, initial_state, line_count, is_ready, may_give};
 ghost use Rattle.cics_orders.specs.Giving.{ends_turn, is_end, is_lane, counted, after_line};
 ghost use Rattle.cics_orders.specs.Giving.{drained, drained_once, givers, given};
-ghost use Rattle.cics_orders.specs.Giving.{Takes, IsGivable, next_says};
+ghost use Rattle.cics_orders.specs.Giving.{Takes, IsGivable};
 ghost use Rattle.cics_orders.specs.StampLaws.{start_of};
 ghost use Rattle.cics_orders.specs.Stamps.{state_stamp};
 ghost use Rattle.cics_orders.specs.Turns.{turn_goes_on, breaks};
 ghost use Rattle.cics_plans.specs.Proper.{is_proper};
 
 use crate::events;
-use crate::lanes::{Lane, hear, hear_step, initial_lanes, shut_all};
+use crate::lanes::{Lane, fresh_lanes, hear, hear_step, initial_lanes, shut_all};
+use crate::lines::Lines;
 use crate::shutdowns::lines_to_shutdown;
 use crate::stamping::{stamp_lanes, stamp_last};
-use crate::starting::initial_region;
+use crate::starting::{initial_region, opened};
 use cics_dispatch::Region;
 use cics_names::{Command, Name8, NoMemory, Verb, stamp_flag};
-use cics_plans::{Plan, read};
+use cics_plans::Plan;
 use cics_script::{Line, LineFault};
+use cics_units::Opening;
 use std::alloc::Global;
 use std::marker::Model;
 
@@ -37,6 +39,10 @@ pub struct Walker {
     most: usize,
     // How many lines the clock has up to its last SHUTDOWN.
     to_shutdown: usize,
+    // What the plan defines and loads.
+    opening: Opening,
+    // The lanes of the plan, of which no line is given.
+    fresh: Vec<Lane>,
     region: Region,
     lanes: Vec<Lane>,
     // The task's lane that gave last.
@@ -48,7 +54,7 @@ pub struct Walker {
 impl Model for Walker {
     ghost use Rattle.std.specs.Prelude.{◌≡◌, true};
     ghost use Rattle.cics_plans.specs.Proper.{is_proper};
-    ghost use Rattle.cics_orders.specs.Giving.{State, line_count};
+    ghost use Rattle.cics_orders.specs.Giving.{State, line_count, opened, initial_lanes};
     ghost use Rattle.cics_orders.specs.Turns.{lines_to_shutdown};
 
     ghost Value = { State };
@@ -62,7 +68,9 @@ impl Model for Walker {
     } };
 
     ghost invariant = { λ w. (w.most ≡ line_count w.plan)
-        × (w.to_shutdown ≡ lines_to_shutdown w.plan.clock) × (is_proper w.plan ≡ true) };
+        × (w.to_shutdown ≡ lines_to_shutdown w.plan.clock) × (is_proper w.plan ≡ true)
+        × (w.opening ≡ opened w.plan.definitions)
+        × (w.fresh.items ≡ initial_lanes w.plan) };
 }
 
 // Returns how many lines the lanes of a plan have.
@@ -93,7 +101,7 @@ fn is_ready(region: &Region, lane: &Lane) -> bool
 fn may_give(region: &Region, lane: &Lane) -> bool
     ensures { result ≡ may_give region.now.machine lane.now }
 {
-    lane.given < lane.lines.len() && is_ready(region, lane)
+    lane.given < lane.lines.as_slice().len() && is_ready(region, lane)
 }
 
 // Returns the first lane that may give, from a number on.
@@ -146,56 +154,34 @@ fn goes_on(region: &Region, lane: &Lane, clock: &Lane, lines: usize) -> bool
     lane.is_in_turn && may_give(region, lane) && clock.given >= lines
 }
 
-// Reads the next line of the lane of a number. `None` if it has none left.
-fn read_next(
-    alloc: Global,
-    lanes: &[Lane],
-    number: usize,
-) -> Result<Option<Result<Line, LineFault>>, NoMemory>
-    ensures { IfOk result (λ says. says ≡ next_says lanes.now number) }
-{
-    if number >= lanes.len() {
-        return Ok(None);
-    }
-    let lane = &lanes[number];
-    let lines = lane.lines.as_slice();
-    if lane.given >= lines.len() {
-        return Ok(None);
-    }
-    let says = read(alloc, lines[lane.given].1.bytes())?;
-    Ok(Some(says))
-}
-
 impl Walker {
     /// Returns the walker of a plan in the initial state.
     ///
     /// Errors: `NoMemory`.
-    #[tactic(auto, unfolding(crate::specs::Giving::initial_state))]
+    #[tactic(auto, using(crate::specs::GivenLanes::frames_initial), unfolding(crate::specs::Giving::initial_state))]
     pub fn new(alloc: Global, plan: Plan) -> Result<Walker, NoMemory>
         requires { is_proper plan ≡ true }
         ensures { IfOk result (λ walker. walker ≡ initial_state plan) }
     {
         let most = line_count(&plan)?;
-        let to_shutdown = lines_to_shutdown(alloc, plan.clock.as_slice())?;
-        let lanes = initial_lanes(alloc, &plan)?;
-        let region = initial_region(alloc, &plan)?;
+        let clock = Lines::new(alloc, plan.clock.as_slice())?;
+        let to_shutdown = lines_to_shutdown(&clock);
+        let opening = opened(alloc, plan.definitions.as_slice())?;
+        let fresh = initial_lanes(alloc, plan.tasks.as_slice(), clock)?;
+        let region = initial_region(&opening, plan.tasks.as_slice())?;
+        let lanes = fresh_lanes(alloc, fresh.as_slice())?;
         Ok(Walker {
             alloc,
             plan,
             most,
             to_shutdown,
+            opening,
+            fresh,
             region,
             lanes,
             last: None,
             is_serial: true,
         })
-    }
-
-    /// Returns the plan.
-    pub fn plan(&self) -> &Plan
-        ensures { result.now ≡ self.now.plan }
-    {
-        &self.plan
     }
 
     /// Returns the region.
@@ -215,12 +201,12 @@ impl Walker {
     /// Goes back to the initial state.
     ///
     /// Errors: `NoMemory`.
-    #[tactic(auto, using(crate::specs::StampLaws::proper_stays), unfolding(crate::specs::Giving::initial_state))]
+    #[tactic(auto, using(crate::specs::StampLaws::proper_stays, crate::specs::GivenLanes::frames_initial), unfolding(crate::specs::Giving::initial_state))]
     pub fn restart(&mut self) -> Result<(), NoMemory>
         ensures { OnOk result (self.new ≡ start_of self.old) }
     {
-        self.lanes = initial_lanes(self.alloc, &self.plan)?;
-        self.region = initial_region(self.alloc, &self.plan)?;
+        self.lanes = fresh_lanes(self.alloc, self.fresh.as_slice())?;
+        self.region = initial_region(&self.opening, self.plan.tasks.as_slice())?;
         self.last = None;
         self.is_serial = true;
         Ok(())
@@ -249,14 +235,6 @@ impl Walker {
         } else {
             None
         }
-    }
-
-    /// Returns whether the order so far is serial: no task within a turn gave a line after another
-    /// task's.
-    pub fn is_serial(&self) -> bool
-        ensures { result ≡ self.now.is_serial }
-    {
-        self.is_serial
     }
 
     // Returns whether the task that gave last is within a turn and may go on with it, and no
@@ -338,26 +316,16 @@ impl Walker {
         }
     }
 
-    // Does what a line says: a command, the clock and the shutdown are events, and no other line is
-    // one.
-    fn follow(&mut self, line: Line) -> Result<(), NoMemory>
-        ensures { OnOk result (self.new ≡ after_line self.old (Ok line)) }
-    {
-        match line {
-            Line::Issue(label, command) => self.issue(label, command),
-            Line::Clock(seconds) => self.set_clock(seconds),
-            Line::Shutdown => self.shut_down(),
-            _ => Ok(()),
-        }
-    }
-
-    // Does what a line says. A line that can't be read does nothing.
-    fn follow_read(&mut self, says: Result<Line, LineFault>) -> Result<(), NoMemory>
-        ensures { OnOk result (self.new ≡ after_line self.old says) }
+    // Does what a line says: a command, the clock and the shutdown are events. Another line, or one
+    // that can't be read, does nothing.
+    fn follow(&mut self, says: &Result<Line, LineFault>) -> Result<(), NoMemory>
+        ensures { OnOk result (self.new ≡ after_line self.old says.now) }
     {
         match says {
-            Ok(line) => self.follow(line),
-            Err(_) => Ok(()),
+            Ok(Line::Issue(label, command)) => self.issue(*label, command.copy()?),
+            Ok(Line::Clock(seconds)) => self.set_clock(*seconds),
+            Ok(Line::Shutdown) => self.shut_down(),
+            _ => Ok(()),
         }
     }
 
@@ -389,13 +357,15 @@ impl Walker {
     pub fn give(&mut self, number: usize) -> Result<(), NoMemory>
         ensures { OnOk result (self.new ≡ given self.old number) }
     {
-        let lanes = self.lanes.as_slice();
-        let next = read_next(self.alloc, lanes, number)?;
-        let Some(says) = next else {
+        let Some(lane) = self.lanes.get(number) else {
             return Ok(());
         };
-        self.count(number, ends_turn(&says));
-        self.follow_read(says)?;
+        let lines = lane.lines.copy()?;
+        let Some(says) = lines.says().get(lane.given) else {
+            return Ok(());
+        };
+        self.count(number, ends_turn(says));
+        self.follow(says)?;
         self.drain()?;
         Ok(())
     }

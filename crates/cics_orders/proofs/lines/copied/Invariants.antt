@@ -1,5 +1,5 @@
 use Rattle.std.proofs.Common.{◌≡◌, ◌++◌, drop}
-use Rattle.cics_orders.proofs.lanes.copied.Given as goal
+use Rattle.cics_orders.proofs.lines.copied.Given as goal
 
 -- the copies so far, and the lines that are left, are all
 abbrev pub invariant-loop-number : goal.invariant-loop-number

@@ -1,0 +1,105 @@
+//! The lines of a lane, each with what it says.
+
+ghost use Rattle.std.specs.Prelude.{◌≡◌, IfOk, map};
+ghost use Rattle.cics_script.specs.Lines.{line};
+
+use cics_names::{Items, NoMemory, Record};
+use cics_plans::read;
+use cics_script::{Line, LineFault};
+use std::alloc::Global;
+use std::marker::Model;
+use std::rc::Rc;
+
+// Lines, each with its number, and what each says.
+#[derive(Drop)]
+struct Both {
+    lines: Items<(u64, Record)>,
+    says: Items<Result<Line, LineFault>>,
+}
+
+/// The lines of a task or of the clock. Each was read once, and copies share them.
+///
+/// Contracts see the lines, each with its number.
+#[derive(Drop)]
+pub struct Lines {
+    both: Rc<Both>,
+}
+
+impl Model for Lines {
+    ghost use Rattle.std.specs.Prelude.{◌≡◌, ℕ, List, map};
+    ghost use Rattle.cics_script.specs.Lines.{line};
+
+    ghost Value = { List (ℕ × List ℕ) };
+
+    ghost view = { λ l. l.both.value.lines };
+
+    ghost invariant = { λ l. l.both.value.says
+        ≡ map (λ next. line next.1) l.both.value.lines };
+}
+
+// Copies lines.
+fn copied(alloc: Global, lines: &[(u64, Record)]) -> Result<Items<(u64, Record)>, NoMemory>
+    ensures { IfOk result (λ copies. copies ≡ lines.now) }
+{
+    let mut copies = Items::new(alloc);
+    for (number, line) in lines {
+        copies.push((*number, line.copy()?))?;
+    }
+    Ok(copies)
+}
+
+// Reads what lines say.
+fn read_all(
+    alloc: Global,
+    lines: &[(u64, Record)],
+) -> Result<Items<Result<Line, LineFault>>, NoMemory>
+    ensures { IfOk result (λ says. says ≡ map (λ next. line next.1) lines.now) }
+{
+    let mut says = Items::new(alloc);
+    for (_, line) in lines {
+        says.push(read(alloc, line.bytes())?)?;
+    }
+    Ok(says)
+}
+
+impl Lines {
+    /// Reads lines.
+    ///
+    /// Errors: `NoMemory`.
+    pub(crate) fn new(alloc: Global, lines: &[(u64, Record)]) -> Result<Lines, NoMemory>
+        ensures { IfOk result (λ read. read ≡ lines.now) }
+    {
+        let both = Both {
+            lines: copied(alloc, lines)?,
+            says: read_all(alloc, lines)?,
+        };
+        Ok(Lines {
+            both: Rc::new(alloc, both)?,
+        })
+    }
+
+    /// Returns a copy, which shares the lines.
+    ///
+    /// Errors: `NoMemory`, if there are too many copies.
+    pub(crate) fn copy(&self) -> Result<Lines, NoMemory>
+        ensures { IfOk result (λ copy. copy ≡ self.now) }
+    {
+        Ok(Lines {
+            both: self.both.clone()?,
+        })
+    }
+
+    /// Returns the lines, each with its number.
+    pub fn as_slice(&self) -> &[(u64, Record)]
+        ensures { result.now ≡ self.now }
+    {
+        self.both.as_ref().lines.as_slice()
+    }
+
+    /// Returns what each line says.
+    pub(crate) fn says(&self) -> &[Result<Line, LineFault>]
+        ensures { result.now ≡ map (λ next. line next.1) self.now }
+    {
+        self.both.as_ref().says.as_slice()
+    }
+}
