@@ -139,7 +139,7 @@ right_at [] l x right at = cc
 right_at (y ∷ ys) zero x (first, right) at = let same : y ≡ x = cc in subst HasRight same first
 right_at (y ∷ ys) (suc l) x (first, right) at = right_at ys l x right at
 
-none_at : (xs : List Lane) (l : ℕ) (x : Lane) (label : Bytes) → NoneOf xs label → slice_get xs l ≡ Some x → is_of x label ≡ false
+pub none_at : (xs : List Lane) (l : ℕ) (x : Lane) (label : Bytes) → NoneOf xs label → slice_get xs l ≡ Some x → is_of x label ≡ false
 none_at [] l x label none at = cc
 none_at (y ∷ ys) zero x label (first, none) at = let same : y ≡ x = cc in subst (λ z. is_of z label ≡ false) same first
 none_at (y ∷ ys) (suc l) x label (first, none) at = none_at ys l x label none at

@@ -317,12 +317,12 @@ of_label : (l : Option Bytes) (x : Lane) (label : Bytes) → is_of (record x { l
 of_label None x label own = cc
 of_label (Some k) x label own = ap Some (is_same-eq k label own)
 
-label_of_lane : (l : Option Bytes) (x : Lane) (label : Bytes) → l ≡ Some label → is_of (record x { label = l }) label ≡ true
+pub label_of_lane : (l : Option Bytes) (x : Lane) (label : Bytes) → l ≡ Some label → is_of (record x { label = l }) label ≡ true
 label_of_lane None x label own = cc
 label_of_lane (Some k) x label own = let same : k ≡ label = cc in ap (λ k. is_same k label) same ∙ is_same-self label
 
 -- a right line that is a command is one of its lane's task
-right_command : (l : Option Bytes) (label : Bytes) (c : Command) → IsRight l (Ok (says.Issue label c)) → l ≡ Some label
+pub right_command : (l : Option Bytes) (label : Bytes) (c : Command) → IsRight l (Ok (says.Issue label c)) → l ≡ Some label
 right_command None label c right = cc
 right_command (Some k) label c right = ap Some (sym (is_same-eq label k right))
 
@@ -368,7 +368,7 @@ pub record Holds (p : Plan) (s : State) : Type 0 where
   pub keeps : Keeps s.lanes (opened p.definitions) s.machine
   pub frames : map frame s.lanes ≡ initial_lanes p
 
-one_of : (P : ℕ → Type 0) (ls : List ℕ) (l : ℕ) → Each P ls → IsOneOf l ls → P l
+pub one_of : (P : ℕ → Type 0) (ls : List ℕ) (l : ℕ) → Each P ls → IsOneOf l ls → P l
 one_of P [] l each one = absurd one
 one_of P (k ∷ ks) l (first, each) (inl same) = subst P (sym same) first
 one_of P (k ∷ ks) l (first, each) (inr one) = one_of P ks l each one

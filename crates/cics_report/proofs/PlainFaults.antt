@@ -132,7 +132,7 @@ module _ (n : ℕ) (b : Bytes) (t : Taken) where
 -- ---- Whole scripts
 
 -- no line counts after a fault
-stays : (lines : List Bytes) (p : Played) (f : Fault) → p.fault ≡ Some f → fold next p lines ≡ p
+pub stays : (lines : List Bytes) (p : Played) (f : Fault) → p.fault ≡ Some f → fold next p lines ≡ p
 stays [] p f is = refl
 stays (b ∷ lines) p f is =
     let same : next p b ≡ p = ap (λ g. if is_some g then p else stepped p b (stages.step (p.number + 1) p.stage b)) is in

@@ -10,12 +10,14 @@ use Rattle.cics_plans.specs.declared.plans.TaskPlan.{TaskPlan}
 abbrev pub Along : Type 0
 Along = List ℕ × List NumberedLine
 
+-- the lines of a task, or without one the clock's
+abbrev pub lines_of : List NumberedLine → Option TaskPlan → List NumberedLine
+lines_of clock (Some task) = task.lines
+lines_of clock None = clock
+
 -- the lines of a lane: those of its task, or behind the tasks the clock's
 abbrev pub lane_lines : Plan → ℕ → List NumberedLine
-lane_lines p l = by (slice_get p.tasks l) where
-  by : Option TaskPlan → List NumberedLine
-  by (Some task) = task.lines
-  by None = p.clock
+lane_lines p l = lines_of p.clock (slice_get p.tasks l)
 
 -- the next line of a lane is added, if it has one left
 abbrev pub with_given : Along → ℕ → Option NumberedLine → Along

@@ -1,4 +1,5 @@
 pub mod Along
+pub mod Leads
 pub mod Parts
 pub mod Reporting
 pub mod PlainFaults

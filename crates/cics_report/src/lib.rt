@@ -8,6 +8,6 @@ mod parts;
 mod report;
 mod scripts;
 
-pub use laws::faults_are_those_of_runs;
+pub use laws::{faults_are_those_of_runs, scripts_lead_there};
 pub use report::{push_fault, push_report};
 pub use scripts::push_script;

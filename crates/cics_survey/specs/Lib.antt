@@ -1,2 +1,3 @@
+pub mod Leads
 pub mod Surveys
 pub mod Written

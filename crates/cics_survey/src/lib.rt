@@ -1,9 +1,11 @@
 //! Every order of a script's lines: the script taken apart, and the report on its orders.
 #![tactic(auto)]
 
+mod laws;
 mod running;
 mod surveys;
 mod tellers;
 
+pub use laws::ending_scripts_lead_there;
 pub use running::{Surveyed, run_orders};
 pub use surveys::{Survey, survey_script};
