@@ -5,5 +5,6 @@ mod running;
 mod surveys;
 mod tellers;
 
-pub use running::{Surveyed, run_orders};
+pub use cics_lanes::{Progress, Stand};
+pub use running::{Surveyed, Surveyor};
 pub use surveys::{Survey, survey_script};
