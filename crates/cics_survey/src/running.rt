@@ -7,7 +7,7 @@ ghost use Rattle.cics_whole.specs.Reads.{read_failures, write_failures};
 ghost use Rattle.cics_survey.specs.Written.{ending_of, Writes, IsPrinted, Surveys};
 
 use crate::surveys::{Survey, survey_script};
-use cics_lanes::Silent;
+use cics_lanes::Progress;
 use cics_names::NoMemory;
 use cics_report::{push_fault, push_report, push_script};
 use cics_session::{Orders, RunFault, Sink, Source, write_all};
@@ -49,13 +49,18 @@ fn push_survey(out: &mut Vec<u8>, survey: &Survey, wanted: Orders) -> Result<Sur
 }
 
 // Appends to a text what is wanted of a script's orders.
-fn push_orders(out: &mut Vec<u8>, script: &[u8], wanted: Orders) -> Result<Surveyed, NoMemory>
+fn push_orders<P: Progress>(
+    out: &mut Vec<u8>,
+    script: &[u8],
+    wanted: Orders,
+    progress: &mut P,
+) -> Result<Surveyed, NoMemory>
     requires { out.old.items ≡ [] }
     ensures { IfOk result (IsPrinted script.now wanted out.new.items) }
 {
     let alloc = *out.allocator();
     let lines = lines_of(alloc, script)?;
-    match survey_script(alloc, lines.as_slice(), wanted, &mut Silent)? {
+    match survey_script(alloc, lines.as_slice(), wanted, progress)? {
         Ok(survey) => push_survey(out, &survey, wanted),
         Err((number, fault)) => {
             push_fault(out, number, fault)?;
@@ -64,40 +69,50 @@ fn push_orders(out: &mut Vec<u8>, script: &[u8], wanted: Orders) -> Result<Surve
     }
 }
 
-/// Follows the orders of the script that a source gives. Writes a report on them, or the first
-/// order of an ending as a script.
-///
-/// It reads at most `LIMIT` bytes, and one more to see whether there are more, and writes when all
-/// orders are followed. Of a script with a fault it writes the line that a run writes of it.
-///
-/// Errors: those of `run_over`. It returns a read or a write fault only if that very call failed,
-/// and tries none again. Cost: that of `survey_script`, and O(endings) for each ending.
-pub fn run_orders<S: Source, K: Sink>(
-    alloc: Global,
-    source: &mut S,
-    sink: &mut K,
-    wanted: Orders,
-) -> Result<Surveyed, RunFault>
-    ensures read_faults { Rises (S.failed source.old) (S.failed source.new)
-        (failures read_failures result) }
-    ensures write_faults { Rises (K.failed sink.old) (K.failed sink.new)
-        (failures write_failures result) }
-    ensures asked { RisesAtMost (S.asked source.old) (S.asked source.new) most_reads }
-    ensures whole { Surveys wanted (S.remaining source.old) (S.remaining source.new)
-        (K.contents sink.old) (K.contents sink.new) result }
-{
-    let mut script = Vec::new(alloc);
-    match read_script(source, &mut script) {
-        Ok(()) => {}
-        Err(fault) => return Err(fault),
-    }
-    let mut text = Vec::new(alloc);
-    let status = match push_orders(&mut text, &script, wanted) {
-        Ok(status) => status,
-        Err(_) => return Err(RunFault::NoMemory),
-    };
-    match write_all(sink, &text) {
-        Ok(()) => Ok(status),
-        Err(_) => Err(RunFault::WriteFault),
+/// Follows the orders of scripts, with memory of `alloc`, and tells `progress` how far it is.
+#[derive(Drop)]
+pub struct Surveyor<P> {
+    pub alloc: Global,
+    pub progress: P,
+}
+
+impl<P: Progress> Surveyor<P> {
+    /// Follows the orders of the script that a source gives. Writes a report on them, or the first
+    /// order of an ending as a script.
+    ///
+    /// It reads at most `LIMIT` bytes, and one more to see whether there are more, and writes when
+    /// all orders are followed. Of a script with a fault it writes the line that a run writes of
+    /// it. It tells `progress` how far it is after each state that is followed.
+    ///
+    /// Errors: those of `run_over`. It returns a read or a write fault only if that very call
+    /// failed, and tries none again. Cost: that of `survey_script`, and O(endings) for each ending.
+    pub fn run_orders<S: Source, K: Sink>(
+        &mut self,
+        source: &mut S,
+        sink: &mut K,
+        wanted: Orders,
+    ) -> Result<Surveyed, RunFault>
+        ensures read_faults { Rises (S.failed source.old) (S.failed source.new)
+            (failures read_failures result) }
+        ensures write_faults { Rises (K.failed sink.old) (K.failed sink.new)
+            (failures write_failures result) }
+        ensures asked { RisesAtMost (S.asked source.old) (S.asked source.new) most_reads }
+        ensures whole { Surveys wanted (S.remaining source.old) (S.remaining source.new)
+            (K.contents sink.old) (K.contents sink.new) result }
+    {
+        let mut script = Vec::new(self.alloc);
+        match read_script(source, &mut script) {
+            Ok(()) => {}
+            Err(fault) => return Err(fault),
+        }
+        let mut text = Vec::new(self.alloc);
+        let status = match push_orders(&mut text, &script, wanted, &mut self.progress) {
+            Ok(status) => status,
+            Err(_) => return Err(RunFault::NoMemory),
+        };
+        match write_all(sink, &text) {
+            Ok(()) => Ok(status),
+            Err(_) => Err(RunFault::WriteFault),
+        }
     }
 }

@@ -4,4 +4,5 @@ use Rattle.cics_survey.proofs.surveys.survey_script.Goals as goal
 
 -- a script is taken apart into a proper plan
 pub follow-requires : goal.follow-requires
-follow-requires c = planned_proper c.args.lines.now c.in-Ok-2.own (sym c.in_ok-own.ensures ∙ c.in-Ok-2.is)
+follow-requires g c =
+    planned_proper c.args.lines.now c.in-Ok-2.own (sym c.in_ok-own.ensures ∙ c.in-Ok-2.is)
