@@ -17,7 +17,7 @@ mod stamping;
 mod waking;
 
 ghost use Rattle.std.specs.Prelude.{◌≡◌, ◌<◌, ◌≤◌, true, false, Option, Some, None, length, IfOk};
-ghost use Rattle.std.specs.Prelude.{slice_get, OnOk, OnErr};
+ghost use Rattle.std.specs.Prelude.{slice_get};
 ghost use Rattle.std.specs.Prelude.{IfErr, IfSome, IfNone, Result, Ok, Err};
 ghost use Rattle.std.specs.Option.{option_copied};
 ghost use Rattle.cics_machine.specs.Machine.{units_after, definition_of};
@@ -129,23 +129,6 @@ impl Dispatcher {
             is_down: false,
             alloc,
         })
-    }
-
-    /// Goes back to the region of its opening, as `Region::restart` does.
-    ///
-    /// Errors: `NoMemory`. Unchanged on error.
-    pub(crate) fn restart(&mut self) -> Result<(), NoMemory>
-        ensures machine { OnOk result (self.new.machine
-            ≡ beginning_region self.old.machine.units.opening) }
-        ensures kept { KeepsRegion self.old self.new }
-        ensures err { OnErr result (self.new ≡ self.old) }
-    {
-        self.units.restart()?;
-        self.tasks = Tasks::new(self.alloc);
-        self.waits = Waits::new(self.alloc);
-        self.clock = 0;
-        self.is_down = false;
-        Ok(())
     }
 
     /// Returns whether the region is shut down.

@@ -1,7 +1,7 @@
 //! A region: tasks that share files and queues, their waits, and their units of work.
 
 ghost use Rattle.std.specs.Prelude.{◌≡◌, ◌&&◌, ◌++◌, if◌then◌else◌, None, true, false, ℕ, length};
-ghost use Rattle.std.specs.Prelude.{IfOk, IfErr, IfSome, OnOk, OnErr};
+ghost use Rattle.std.specs.Prelude.{IfOk, IfErr, IfSome, OnOk};
 ghost use Rattle.std.specs.Bool.{OnTrue};
 ghost use Rattle.cics_history.specs.Events.{is_live};
 ghost use Rattle.cics_history.specs.Headline.{HoldsCommitted};
@@ -115,24 +115,6 @@ impl Region {
             is_settled: false,
             is_in_time: false,
         })
-    }
-
-    /// Goes back to the region of its opening, without a task, its clock at 0. It copies the files
-    /// and queues again.
-    ///
-    /// Errors: `NoMemory`. Unchanged on error.
-    pub fn restart(&mut self) -> Result<(), NoMemory>
-        ensures machine { OnOk result (self.new.machine
-            ≡ beginning_region self.old.machine.units.opening) }
-        ensures headline { IsHeadlineRegion self.new }
-        ensures serializable { IsSerializableRegion self.new }
-        ensures err { OnErr result (self.new ≡ self.old) }
-    {
-        self.dispatcher.restart()?;
-        self.notes.clear();
-        self.is_settled = false;
-        self.is_in_time = false;
-        Ok(())
     }
 
     // Returns the error `RegionDown` if the region is shut down.

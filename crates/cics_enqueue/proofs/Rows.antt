@@ -34,8 +34,8 @@ elsewhere = refl
 nested : conflicts (prefix accounts (7 ∷ 8 ∷ [])) (prefix accounts []) ≡ true
 nested = refl
 
--- unit 1 owns the keys 7 9 and 8, unit 2 the key 7 5, unit 3 a key of the other file and the prefix
--- 7 7
+-- unit 1 owns the keys 7 9 and 8, unit 2 the key 7 5. Unit 3 owns a key of the other file, and the
+-- prefix 7 7
 abbrev table : Table
 table =
     taken (taken (taken (taken (taken [] (key accounts (7 ∷ 9 ∷ [])) 1) (key accounts (8 ∷ [])) 1) (key accounts (7 ∷ 5 ∷ [])) 2)

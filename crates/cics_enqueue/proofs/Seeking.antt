@@ -251,20 +251,6 @@ first_cover-none asker es none (x ∷ rest) b = (λ i. first_of (others_unit ask
 pub shorter-none : (f b : Bytes) (asker : Option ℕ) (es : Entries) → AreKeys es → ((b : Bytes) → lookup (finds (0 ∷ b)) es ≡ None) → holder_of_shorter f [] b asker (table_of es) ≡ None
 shorter-none f b asker es sound none = shorter-table_of f asker es sound b [] ∙ first_cover-none asker es none b (length f ∷ (f ++ []))
 
--- then a key conflicts with itself alone
-pub key_alone : (f k key : Bytes) → key ≡ resource_key (FileKey f (bytes_of k)) → (asker : Option ℕ) (es : Entries) → AreKeys es → ((b : Bytes) → lookup (finds (0 ∷ b)) es ≡ None) →
-    others_unit asker (lookup (finds key) es) ≡ holder_over (FileKey f (bytes_of k)) asker (table_of es)
-key_alone f k key is asker es sound none =
-    sym (other_than-table_of (FileKey f (bytes_of k)) key is asker es sound) ∙ alone (other_than asker (holder_of (FileKey f (bytes_of k)) (table_of es)))
-    ∙ sym (λ i. first_of (shorter-none f k asker es sound none i) (first_of (other_than asker (holder_of (FileKey f (bytes_of k)) (table_of es))) (prefix i)))
-  where
-    prefix : other_than asker (holder_of (FilePrefix f (bytes_of k)) (table_of es)) ≡ None
-    prefix = other_than-table_of (FilePrefix f (bytes_of k)) (0 ∷ length f ∷ (f ++ k)) refl asker es sound ∙ ap (others_unit asker) (none (length f ∷ (f ++ k)))
-
-    alone : (o : Option ℕ) → o ≡ first_of None (first_of o None)
-    alone None = refl
-    alone (Some x) = refl
-
 -- one that is there is the first
 pub first_of-some : (o y : Option ℕ) → is_some o ≡ true → first_of o y ≡ o
 first_of-some None y is = cc

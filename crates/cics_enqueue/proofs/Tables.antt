@@ -1,6 +1,6 @@
 -- What the table says of each resource, and what it is after a change.
 use Rattle.std.proofs.Common.{arith, ◌≤◌, ◌≡◌, ◌+◌, ◌-◌, ℕ, ◌&&◌, ◌==◌, not, Bool, true, false, cond, T, Option, Some, None, [], ◌∷◌, nat_eq, refl, sym, ap, subst, ◌∙◌}
-use Rattle.std.specs.Prelude.{IfSome, Result, Ok, Err, OnOk, OnErr, is_err, is_some, option_map, nat_le, nat_lt, if◌then◌else◌}
+use Rattle.std.specs.Prelude.{Result, Ok, Err, OnOk, OnErr, is_err, is_some, option_map, nat_le, nat_lt, if◌then◌else◌}
 use Rattle.std.specs.Map.{lookup, keys_of, set_value, remove_entry}
 use Rattle.std.specs.List.Sorted.{IsStrictlySortedBy}
 use Rattle.std.specs.Cmp.{IsTotalOrder}
@@ -23,7 +23,7 @@ use Rattle.cics_enqueue.specs.declared.enqueues.Holding.{Holding}
 use Rattle.cics_enqueue.specs.Kept.{key_cmp, Entries, Owned, table_of, seen, finds, AreKeys, AreOwned, Adds, Drops, owns, has_in, is_units, is_place, IsKept, without_own, Frees}
 use Rattle.cics_history.specs.Resources.{is_one, is_user, most_count}
 use Rattle.cics_enqueue.specs.Table.{IsFreeFor, Table, Held, held_at, holder_of, count_of, count_in, is_full, raised_count, is_in_order, resource_cmp, resource_key, with_holder, freed, released, taken, given_back, given_back_of}
-use Rattle.cics_history.specs.ResourceLaws.{is_one-eq, conflicts-self}
+use Rattle.cics_history.specs.ResourceLaws.{is_one-eq}
 use Rattle.cics_enqueue.specs.Order.{resource_cmp_total, is_one-cmp, same_resources, resource_of, resource_of-resource_key}
 use Rattle.cics_enqueue.proofs.TableLaws.{taken-held, held_own, given_back-taken, left_of, right_of, not_tied, held_before, held_without, held_at-released, is_in_order-released}
 
@@ -88,14 +88,6 @@ module _ (r : Resource) (key : Bytes) (is : key ≡ resource_key r) where
   pub own_key : resource_key (resource_of key) ≡ key
   own_key = ap resource_key read_back ∙ sym is
 
-  -- if the table has nothing of a resource, its entries have nothing under its bytes
-  pub absent_here : (es : Entries) → AreKeys es → held_at r (table_of es) ≡ None → lookup (finds key) es ≡ None
-  absent_here es sound free = step (lookup (finds key) es) (sym (held_at-table_of es sound) ∙ free)
-    where
-      step : (o : Option Holding) → option_map seen o ≡ None → o ≡ None
-      step None e = refl
-      step (Some h) e = cc
-
   -- the owner of a resource, and how many times it owns it
   pub holder_of-table_of : (es : Entries) (o : Option Holding) → AreKeys es → o ≡ lookup (finds key) es → holder_of r (table_of es) ≡ option_map (λ h. h.unit) o
   holder_of-table_of es o sound found = ap (option_map (λ h. h.unit)) (held_at-table_of es sound ∙ ap (option_map seen) (sym found)) ∙ step o
@@ -110,9 +102,6 @@ module _ (r : Resource) (key : Bytes) (is : key ≡ resource_key r) where
       step : (o : Option Holding) → is_some (option_map (λ h. h.unit) o) ≡ is_some o
       step None = refl
       step (Some h) = refl
-
-  pub count_of-table_of : (es : Entries) (o : Option Holding) → AreKeys es → o ≡ lookup (finds key) es → count_of r (table_of es) ≡ count_in (option_map seen o)
-  count_of-table_of es o sound found = ap count_in (held_at-table_of es sound ∙ ap (option_map seen) (sym found))
 
   -- ---- changes of one entry
   -- an entry is added in order
@@ -222,10 +211,6 @@ module _ (r : Resource) (key : Bytes) (is : key ≡ resource_key r) where
       never : (b : Bool) → (b && false) ≡ false
       never true = refl
       never false = refl
-
-  -- a key that is in the list alone changes nothing
-  pub AreOwned-more : (es : Entries) (own after : Owned) (unit : ℕ) → Adds unit key own after → AreOwned es own → AreOwned es after
-  AreOwned-more es own after unit adds owned u k held = adds u k (elim (is_place unit key u k) as (λ b. (if b then true else owns own u k) ≡ true) [ true ↦ refl | false ↦ owned u k held ])
 
   -- a holding that was removed
   pub AreOwned-removed : (es fs : Entries) (own after : Owned) (unit : ℕ) → ((k : Vec ℕ) → lookup (finds k.items) fs ≡ cond (finds key k) None (lookup (finds k.items) es)) →
@@ -432,14 +417,6 @@ ok_holds (Err x) e p = cc
 pub err_holds : {X E P : Type 0} (r : Result X E) → is_err r ≡ true → OnErr r P → P
 err_holds (Ok x) e p = cc
 err_holds (Err x) e p = p
-
--- a unit that may acquire a resource is its owner, if it has one
-pub holder_own : (t : Table) (r : Resource) (u : ℕ) → IsFreeFor t r u → IfSome (holder_of r t) (λ v. v ≡ u)
-holder_own t r u free = by (holder_of r t) refl
-  where
-    by : (o : Option ℕ) → holder_of r t ≡ o → IfSome o (λ v. v ≡ u)
-    by None at = tt
-    by (Some v) at = free r v (conflicts-self r) at
 
 -- the table after a resource other than a user's value was acquired, if it was free
 pub hold_taken : (t s : Table) (r : Resource) (u : ℕ) (o : Option Holding) → T (is_in_order t) → IsFreeFor t r u → is_user r ≡ false → option_map seen o ≡ held_at r t → s ≡ (if is_some o then t else taken t r u) → s ≡ taken t r u

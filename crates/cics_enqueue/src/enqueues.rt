@@ -13,7 +13,7 @@ ghost use Rattle.std.specs.BTreeMap.{btree_map_len, insert_entry};
 ghost use Rattle.std.specs.Global.{Vec};
 ghost use Rattle.cics_history.specs.Resources.{bytes_of, is_user};
 ghost use Rattle.cics_enqueue.specs.Table.{holder_of, holder_over, held_with_prefix};
-ghost use Rattle.cics_enqueue.specs.Table.{count_of, IsFreeFor, IsFreeBut, HoldsLeast, is_full};
+ghost use Rattle.cics_enqueue.specs.Table.{IsFreeFor, IsFreeBut, HoldsLeast, is_full};
 ghost use Rattle.cics_enqueue.specs.Table.{taken, given_back, released, other_than};
 ghost use Rattle.cics_enqueue.specs.Table.{held_at, is_in_order, resource_key};
 ghost use Rattle.cics_enqueue.specs.Order.{resource_of};
@@ -210,13 +210,6 @@ impl Enqueues {
         }
     }
 
-    /// Returns the owner of a resource, or None if it is free.
-    pub fn holder(&self, resource: &Resource) -> Option<UnitId>
-        ensures { result ≡ holder_of resource.now self.now }
-    {
-        self.holder_of(&ResourceRef::of(resource))
-    }
-
     /// Returns the owner of a resource whose bytes are borrowed, or None if it is free.
     pub fn holder_of(&self, resource: &ResourceRef<'_>) -> Option<UnitId>
         ensures { result ≡ holder_of resource.now self.now }
@@ -228,20 +221,6 @@ impl Enqueues {
         };
         self.bound.set(key);
         unit
-    }
-
-    /// Returns how many times a resource is owned: 0 if it is free, and more than 1 only for a
-    /// user's value.
-    pub fn count(&self, resource: &Resource) -> u16
-        ensures { result ≡ count_of resource.now self.now }
-    {
-        let mut key = self.bound.replace(Key::new(self.alloc));
-        let count = match held(&self.table, &mut key, &ResourceRef::of(resource)) {
-            Some(holding) => holding.count,
-            None => 0,
-        };
-        self.bound.set(key);
-        count
     }
 
     /// Appends the stamp of the values that a unit owns by ENQ, in their order, each with its count.
@@ -351,60 +330,8 @@ impl Enqueues {
         holder
     }
 
-    /// Acquires a resource for a unit. No other unit may own anything that conflicts with it. If
-    /// the unit owns it already, the count of a user's value rises, and that of any other stays 1.
-    ///
-    /// Errors: `Full` if the unit owns the value 65,535 times, and `NoMemory`.
-    pub fn take(&mut self, resource: Resource, unit: UnitId) -> Result<(), TakeFault>
-        requires free { IsFreeFor self.old resource unit }
-        ensures taken { OnOk result (self.new ≡ taken self.old resource unit) }
-        ensures room { OnOk result (is_full resource self.old ≡ false) }
-        ensures full { IfErr result (λ fault. fault ≡ TakeFault.Full
-            ↔ IsTrue (is_full resource self.old)) }
-        ensures err { OnErr result (self.new ≡ self.old) }
-    {
-        let mut key = self.bound.replace(Key::new(self.alloc));
-        if set_resource(&mut key, &ResourceRef::of(&resource)).is_err() {
-            return Err(self.refusal(&resource));
-        }
-        let answer = self.take_key(&key, unit, resource.is_user());
-        self.bound.set(key);
-        answer
-    }
-
-    // Returns why a resource can't be acquired once memory for its key was refused.
-    fn refusal(&self, resource: &Resource) -> TakeFault
-        ensures { (result ≡ TakeFault.Full) ↔ IsTrue (is_full resource.now self.now) }
-    {
-        if resource.is_user() && self.count(resource) == u16::MAX {
-            TakeFault::Full
-        } else {
-            TakeFault::NoMemory
-        }
-    }
-
-    // Acquires the resource of a key as `take` does. `user` says whether it is a user's value.
-    fn take_key(&mut self, key: &Key, unit: UnitId, user: bool) -> Result<(), TakeFault>
-        requires key { resource_key (resource_of key.now.items) ≡ key.now.items }
-        requires user { user ≡ is_user (resource_of key.now.items) }
-        requires free { IsFreeFor self.old (resource_of key.now.items) unit }
-        ensures taken { OnOk result (self.new ≡ taken self.old (resource_of key.now.items) unit) }
-        ensures room { OnOk result (is_full (resource_of key.now.items) self.old ≡ false) }
-        ensures full { IfErr result (λ fault. fault ≡ TakeFault.Full
-            ↔ IsTrue (is_full (resource_of key.now.items) self.old)) }
-        ensures err { OnErr result (self.new ≡ self.old) }
-    {
-        // What the unit owns is acquired once more without memory.
-        if self.table.contains_key(key) {
-            return self.take_again(key, user);
-        }
-        self.take_free(key, unit)?;
-        Ok(())
-    }
-
     /// Acquires a user's value of at most 255 bytes for a unit, or returns its owner if that is
-    /// another unit. It does what `holder_over` and `take` do, in one look-up unless the unit owns
-    /// the value already.
+    /// another unit. If the unit owns it already, its count rises, at the cost of one more look-up.
     ///
     /// Errors: `Full` if the unit owns the value 65,535 times, and `NoMemory`.
     pub fn enq(&mut self, value: &[u8], unit: UnitId) -> Result<Option<UnitId>, TakeFault>
@@ -546,13 +473,6 @@ impl Enqueues {
 
     /// Releases a resource once, if the unit owns it. If its count was 1, the resource is free.
     /// Takes no memory.
-    pub fn give_back(&mut self, resource: &Resource, unit: UnitId)
-        ensures { self.new ≡ given_back self.old resource.now unit }
-    {
-        self.let_go(&ResourceRef::of(resource), unit);
-    }
-
-    /// Releases once a resource whose bytes are borrowed, as `give_back` does. Takes no memory.
     pub fn let_go(&mut self, resource: &ResourceRef<'_>, unit: UnitId)
         ensures { self.new ≡ given_back self.old resource.now unit }
     {

@@ -1,4 +1,4 @@
--- Regions that look alike have the same future: what an open unit did can be done last, so each
+-- Regions that look alike have the same future: what an open unit did can be done last. So each
 -- ending is what stands without open units, and then what those units did that it keeps.
 use Rattle.std.proofs.Common.{◌≡◌, ℕ, zero, suc, Bool, true, false, not, ◌||◌, Option, Some, None, List, [], ◌∷◌, inl, inr, refl, ap, sym, ◌∙◌, arith}
 use Rattle.std.specs.Prelude.{if◌then◌else◌, map, slice_get}

@@ -22,17 +22,19 @@ use Rattle.cics_machine.specs.Steps.{Stepped}
 abbrev pub rows_of : {X : Type 0} → (X → ℕ) → (X → X) → ℕ → List X → List X
 rows_of unit unnumbered u rows = map unnumbered (filter (λ r. unit r == u) rows)
 
--- whose an update read is, and an update read of no unit
+-- whose an update read is
 abbrev pub reader : UpdateRead → ℕ
 reader r = r.unit
 
+-- an update read of no unit
 abbrev pub any_read : UpdateRead → UpdateRead
 any_read r = record { unit = 0; file = r.file; key = r.key }
 
--- whose a count is, and a count of no unit
+-- whose a count is
 abbrev pub counter : EnqCount → ℕ
 counter c = c.unit
 
+-- a count of no unit
 abbrev pub any_count : EnqCount → EnqCount
 any_count c = record { value = c.value; unit = 0; count = c.count }
 

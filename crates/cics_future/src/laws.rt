@@ -2,7 +2,7 @@
 //!
 //! The contract of each function is a law, and its body is empty.
 
-ghost use Rattle.std.specs.Prelude.{◌≡◌, ℕ, map, option_map};
+ghost use Rattle.std.specs.Prelude.{◌≡◌, ℕ, map};
 ghost use Rattle.cics_names.specs.Keyed.{Bytes};
 ghost use Rattle.cics_names.specs.declared.commands.Command.{Command};
 ghost use Rattle.cics_history.specs.State.{OpeningState};

@@ -20,8 +20,7 @@ use Rattle.cics_history.proofs.Replays.{apply-own, apply-other}
 abbrev pub AreApart : Op → Op → Type 0
 AreApart a b = (end : End) → uses b end ≡ true → uses a end ≡ false
 
--- what the first of two commands is answered after the other, what the other is answered after the first, and what the
--- cell holds, are the same in both orders
+-- in both orders two commands are answered the same, and the cell holds the same
 record Commute (a b : Op) (c : Content) : Type 0 where
   answer : (effect a (effect b c).cell).answer ≡ (effect a c).answer
   turned : (effect b (effect a c).cell).answer ≡ (effect b c).answer

@@ -120,8 +120,8 @@ more_behind zero (x ∷ xs) ys some = refl
 more_behind (suc n) [] ys some = absurd (true≢false some)
 more_behind (suc n) (x ∷ xs) ys some = more_behind n xs ys some
 
--- what a task may read of a queue, where no other unit holds the reading end, is what is in place and not marked as read,
--- without what another unit wrote
+-- a queue whose reading end no other unit holds: a task may read what is in place and not marked as
+-- read, without what another unit wrote
 module _ (s : UnitsState) (u : Option ℕ) (p : Marks) (q : Bytes) (i : IsSound s) (h : AreMarksOf s p)
     (l : queue_logical s.opening q ≡ true) where
   abbrev asker : ℕ

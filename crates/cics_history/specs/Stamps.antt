@@ -50,15 +50,15 @@ queue_stamp q = text_stamp q.0 ++ list_stamp text_stamp q.1
 abbrev pub store_stamp : Store → List ℕ
 store_stamp s = list_stamp file_stamp s.files ++ (list_stamp queue_stamp s.ts ++ list_stamp queue_stamp s.td)
 
--- the stamp of a unit is that of what it did to recoverable files and queues, of its update reads, and
--- of the values that it enqueued on
+-- the stamp of a unit: what it did to recoverable files and queues, its update reads, and the values
+-- that it enqueued on
 unfoldable pub unit_stamp : UnitsState → ℕ → List ℕ
 unit_stamp s u =
     list_stamp op_stamp (map (λ e. e.op) (done_by s.opening s.trace u))
     ++ (list_stamp read_stamp (filter (λ r. r.unit == u) s.reads)
     ++ list_stamp count_stamp (filter (λ c. c.unit == u) s.counts))
 
--- the stamp of what units share is that of the store without the open units' changes to recoverable
--- files and queues, and of the NEXT cursors
+-- the stamp of what units share: the store without the open units' changes to recoverable files and
+-- queues, and the NEXT cursors
 unfoldable pub shared_stamp : UnitsState → List ℕ
 shared_stamp s = store_stamp (store_without_others s []) ++ list_stamp place_stamp s.next

@@ -15,7 +15,7 @@
 
 ghost use Rattle.std.specs.Prelude.{◌≡◌, ◌≤◌, ℕ, ◌==◌, Bool, true, false, not, ◌&&◌, length};
 ghost use Rattle.std.specs.Prelude.{slice_get};
-ghost use Rattle.std.specs.Prelude.{if◌then◌else◌, Option, Some, None, is_some, List, []};
+ghost use Rattle.std.specs.Prelude.{if◌then◌else◌, Option, Some, None, is_some, List};
 ghost use Rattle.std.specs.Prelude.{◌++◌, All};
 ghost use Rattle.std.specs.List.{list_any};
 ghost use Rattle.cics_names.specs.Keyed.{Bytes, Map, value_at};

@@ -97,11 +97,4 @@ impl Resource {
     {
         Resource::User(kept(bytes))
     }
-
-    /// Returns whether it is a user's value. Only such a resource can be acquired more than once.
-    pub fn is_user(&self) -> bool
-        ensures { result ≡ is_user self.now }
-    {
-        matches!(self, Resource::User(_))
-    }
 }

@@ -1,5 +1,5 @@
--- Task control: a command of a task leaves the waiting commands of the other tasks as they are, and
--- the open units of the other tasks with what they own.
+-- Task control: a command of a task leaves the other tasks' waiting commands as they are, and their
+-- open units with what they own.
 use Rattle.std.specs.Prelude.{◌≡◌, ◌≢◌, ℕ, Bool, true, false, if◌then◌else◌, ◌&&◌, nat_le, nat_lt, Option, Some, None, [], ◌∷◌, ◌++◌, length, take, refl}
 use Rattle.std.proofs.Common.{◌⊎◌, inl, inr, sym, ap, ◌∙◌, subst}
 use Rattle.cics_names.specs.Keyed.{Bytes, value_at, without}
@@ -40,9 +40,9 @@ use Rattle.cics_machine.proofs.OthersHold.{LeavesHeld, held_all, entered_held, c
 use Rattle.cics_machine.proofs.Starved.{LeavesStarved, starved_all, entered_starved, counted_starved, dequeued_starved, unlocked_starved, item_read_starved, closed_starved}
 use Rattle.cics_machine.proofs.RegionSteps.{acts_in}
 
--- a step of the task of a label, in a unit or without one, leaves the clock, how many tasks there
--- are, the tasks of other labels, and the other open units with their update reads and what they
--- own; if its unit is open, it leaves the queues without a record that had none for a reader
+-- a step of the task of a label, in a unit or without one, leaves the clock and the number of tasks.
+-- It leaves the tasks of other labels, and the other open units with their update reads and what
+-- they own. If its unit is open, it leaves the queues without a record that had none for a reader
 pub record LeavesTasks (label : Bytes) (u : Option ℕ) (m n : Machine) : Type 0 where
   pub clock : n.clock ≡ m.clock
   pub count : length n.tasks ≡ length m.tasks

@@ -1,5 +1,5 @@
 -- The deadlines of waiting commands: the first key below the clock is that of the first task that
--- has waited too long, and what a command that begins to wait or waits no more makes of the keys.
+-- has waited too long. What a command that begins to wait, or waits no more, makes of the keys.
 use Rattle.std.specs.Prelude.{◌≡◌, ◌≢◌, ℕ, ◌+◌, ◌-◌, ◌<◌, ◌≤◌, min, Bool, true, false, not, cond, ◌&&◌, Option, Some, None, is_some, nat_lt, nat_le, List, [], ◌∷◌, ◌++◌, All, length, map, drop, slice_get, slice_set, refl}
 use Rattle.std.proofs.Common.{zero, suc, sym, ap, ◌∙◌, subst, arith}
 use Rattle.std.proofs.lemmas.Bool.{false≢true, true≢false, false_from_ne_true, ltb-true, lt-ltb, le-ltb, leb-true, leb-false}

@@ -1,5 +1,5 @@
--- A command whose checks have passed asks for an updating command that is ready to be executed,
--- with a key of no more bytes than a key may have.
+-- A command whose checks have passed asks for an updating command that is ready to be executed. Its
+-- key is no longer than a key may be.
 use Rattle.std.specs.Prelude.{◌<◌, IfSome, ◌≡◌, ℕ, ◌+◌, ◌≤◌, Bool, true, false, if◌then◌else◌, not, ◌&&◌, ◌||◌, Option, Some, None, is_some, nat_le, option_map, length, [], ◌∷◌, refl}
 use Rattle.std.proofs.Common.{sym, subst, arith}
 use Rattle.std.proofs.lemmas.Bool.{false≢true, leb-true, le-leb, eqb-true}
@@ -219,8 +219,8 @@ of_read make (Some k) c same were_short is =
 no_key : (c o : Op) → o ≡ c → length (key_of o) ≡ 0 → length (key_of c) ≤ 255
 no_key c o same none = subst (λ c. length (key_of c) ≤ 255) same (omega (arith, none))
 
--- its key has no more bytes than a key may have, if the definition of its file is lawful and so is
--- the key that was read
+-- its key is no longer than a key may be, if the definition of its file is lawful and so is the key
+-- that was read
 pub named_key_short : (m : Machine) (t : Task) (verb : Verb) →
     ((f : Bytes) (d : FileDef) → file_named verb ≡ Some f → definition_of m f ≡ Some d → is_key d ≡ true) →
     ((k : Bytes) → key_read m t (file_named verb) ≡ Some k → length k ≤ 255) →

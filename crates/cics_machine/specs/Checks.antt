@@ -24,8 +24,8 @@ defined_fault (Some d) check = check d
 abbrev pub queue_fault : Machine → Bytes → Option Condition
 queue_fault m q = fault_unless (has_key q m.units.opening.queues) Qiderr
 
--- an item or a transient data record is LENGERR if LENGTH isn't from 1 to the length of FROM, or if
--- it has no byte or too many
+-- an item or a transient data record is LENGERR if LENGTH isn't from 1 to that of FROM, or if it has
+-- no byte or too many
 abbrev pub item_fault : Bytes → Option ℕ → Option Condition
 item_fault from n = fault_unless (is_within from n && is_item (used_of from n)) Lengerr
 

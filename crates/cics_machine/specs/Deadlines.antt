@@ -1,6 +1,6 @@
 -- The deadline of a waiting command: the last clock at which its task hasn't waited too long. The
 -- notes have it at the index of the command's note.
-use Rattle.std.specs.Prelude.{◌≡◌, ℕ, ◌+◌, ◌-◌, ◌^◌, min, if◌then◌else◌, nat_lt, Option, Some, None, List, [], ◌∷◌}
+use Rattle.std.specs.Prelude.{◌≡◌, ℕ, ◌+◌, ◌-◌, min, if◌then◌else◌, nat_lt, Option, Some, None, List, [], ◌∷◌}
 use Rattle.cics_waits.specs.declared.notes.Note.{Note}
 use Rattle.cics_machine.specs.Machine.{Task, Suspended, task_at}
 use Rattle.cics_waits.specs.Notes.{never}

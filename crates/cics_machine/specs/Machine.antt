@@ -1,6 +1,6 @@
 -- A region as a machine: its state, its tasks, and the ends of their units of work. docs/RULES.md
 -- has the rules in words, and names the manual: here its chapters on task control and on recovery.
-use Rattle.std.specs.Prelude.{ℕ, ◌==◌, Bool, true, false, not, if◌then◌else◌, Option, Some, None, option_map, unwrap_or, filter, List, [], ◌∷◌}
+use Rattle.std.specs.Prelude.{ℕ, Bool, true, false, not, if◌then◌else◌, Option, Some, None, option_map, unwrap_or, filter, List, [], ◌∷◌}
 use Rattle.cics_names.specs.Keyed.{Bytes, Map, value_at, is_same}
 use Rattle.cics_names.specs.declared.conditions.AbendCode.{AbendCode}
 use Rattle.cics_ksds.specs.declared.definition.FileDef.{FileDef}

@@ -1,5 +1,5 @@
 -- What is known of the waiting commands: the blocker of each, and the deadline of its task.
-use Rattle.std.specs.Prelude.{◌≡◌, ◌<◌, ◌≤◌, ◌⊎◌, ℕ, suc, length, Bool, true, false, if◌then◌else◌, Option, Some, None, is_some, unwrap_or, take, List, [], ◌∷◌, All, slice_get, slice_set}
+use Rattle.std.specs.Prelude.{◌≡◌, ◌⊎◌, ℕ, suc, length, Bool, true, false, Option, Some, None, take, List, [], ◌∷◌, All, slice_get}
 use Rattle.std.specs.List.{list_any}
 use Rattle.cics_names.specs.Keyed.{Bytes}
 use Rattle.cics_names.specs.declared.commands.Verb.{Verb}

@@ -12,8 +12,8 @@ use Rattle.cics_machine.specs.Machine.{Task, Suspended, Machine}
 abbrev pub browse_stamp : Bytes × Position → List ℕ
 browse_stamp b = text_stamp b.0 ++ position_stamp b.1
 
--- the stamp of a task is that of its label, of how long it may wait, of whether it has ended, of its
--- unit, and of its browses
+-- the stamp of a task: its label, how long it may wait, whether it has ended, its unit, and its
+-- browses
 unfoldable pub task_stamp : UnitsState → Task → List ℕ
 task_stamp s t =
     text_stamp t.label
@@ -21,13 +21,13 @@ task_stamp s t =
     ++ (flag_stamp t.has_ended
     ++ (option_stamp (unit_stamp s) t.unit ++ list_stamp browse_stamp t.browses)))
 
--- the stamp of a waiting command is that of its task's label, of the clock when the wait began, and
--- of the updating command that it asks for. The whole command is not in it
+-- the stamp of a waiting command: its task's label, the clock when the wait began, and the updating
+-- command that it asks for. The whole command is not in it
 unfoldable pub wait_stamp : Suspended → List ℕ
 wait_stamp w = text_stamp w.label ++ (number_stamp w.since ++ option_stamp op_stamp w.op)
 
--- the stamp of a region is that of its tasks, of its waiting commands, of its clock, of whether it is
--- shut down, and of what its units share
+-- the stamp of a region: its tasks, its waiting commands, its clock, whether it is shut down, and
+-- what its units share
 unfoldable pub region_stamp : Machine → List ℕ
 region_stamp m =
     list_stamp (task_stamp m.units) m.tasks

@@ -1,6 +1,6 @@
 //! The waiting commands of a region.
 
-ghost use Rattle.std.specs.Prelude.{◌≡◌, ◌↔◌, [], ◌∷◌, ◌++◌, false, length, IsTrue, OnOk, OnErr};
+ghost use Rattle.std.specs.Prelude.{◌≡◌, [], ◌∷◌, ◌++◌, false, length, OnOk, OnErr};
 ghost use Rattle.std.specs.Prelude.{◌-◌, Some, IfSome, IfNone, slice_get};
 ghost use Rattle.std.specs.Option.{option_copied};
 ghost use Rattle.std.specs.Map.Iter.{ShowsInOrder, deref};
@@ -153,13 +153,6 @@ impl Waits {
         ensures once { AreApart self.now }
     {
         self.rows.len()
-    }
-
-    /// Returns whether no command waits.
-    pub fn is_empty(&self) -> bool
-        ensures { IsTrue result ↔ (self.now ≡ []) }
-    {
-        self.rows.len() == 0
     }
 
     /// Returns the wait of a label's task, if a command of it waits.

@@ -31,7 +31,7 @@ abbrev pub are_distinct : List TaskPlan → Bool
 are_distinct [] = true
 are_distinct (task ∷ tasks) = not (has_task tasks task.label) && are_distinct tasks
 
--- The labels of tasks are distinct, the lines of each task are commands of it, and those of the
+-- The labels of tasks are distinct, and the lines of each task are commands of it. Those of the
 -- clock set it or shut the region down. So is each plan of a script (`planned_proper` of
 -- proofs/Proper).
 abbrev pub is_proper : Plan → Bool

@@ -16,8 +16,8 @@ use Rattle.cics_session.specs.declared.running.RunFault.{RunFault}
 use Rattle.cics_session.specs.declared.running.RunFault.TheVariants as faults
 use Rattle.cics_session.specs.declared.running.Options.{Options}
 
--- the state after some lines: the stage, their number and the last of them, the journal, the same
--- with each line in front of its journal lines, and the fault of the last line, if any
+-- the state after some lines: the stage, their number, the last of them, and its fault, if any. The
+-- journal is there twice, once with each line in front of its journal lines
 pub record Played : Type 0 where
   pub stage : Stage
   pub number : ℕ

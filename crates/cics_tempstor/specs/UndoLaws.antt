@@ -75,14 +75,6 @@ has_key-with_value_kept c k r rows has = has_key-with_value c k r rows ∙ ap (�
     or_true true = refl
     or_true false = refl
 
--- a name with a queue has a row
-pub row_of_queue : (q : Bytes) (rows : Map Row) → is_there (queue_at q rows) ≡ true → has_key q rows ≡ true
-row_of_queue q rows there = by (value_at q rows) there
-  where
-    by : (o : Option Row) → is_there (items_in o) ≡ true → is_some o ≡ true
-    by None h = cc
-    by (Some r) h = refl
-
 -- ---- contents
 -- a queue is what its content says
 pub queue_of-content_of : (items : Queue) → queue_of (content_of items) ≡ items
@@ -424,9 +416,3 @@ pub images_stored : (old new : Map Row) (q : Cell) (o : Option TsImage) (image :
 images_stored old new q o image images undoable is ready =
     let this : IsTsImage old new q image = subst (λ (o : Option TsImage). IfSome o (IsTsImage old new q)) is undoable in
     (this.ready, in_turn_kept name_of_image IsReadyImage undone KeepsQueues keeps_ready keeps_undone (λ _. true) old (undone new image) images this.back (all_of images) ready)
-
--- images stay ready in turn if all queues stay, as in a read
-pub images_kept : (old new : Map Row) (images : List TsImage) → KeepsQueues (λ _. true) old new →
-    AreReadyInTurn IsReadyImage undone old images → AreReadyInTurn IsReadyImage undone new images
-images_kept old new images kept ready =
-    in_turn_kept name_of_image IsReadyImage undone KeepsQueues keeps_ready keeps_undone (λ _. true) old new images kept (all_of images) ready

@@ -121,13 +121,4 @@ impl ItemList {
     {
         Ok(Items::from_vec(copied(alloc, &self.items)?))
     }
-
-    /// Returns a copy of the list. The only error is `NoMemory`.
-    pub(crate) fn copy(&self, alloc: Global) -> Result<ItemList, NoMemory>
-        ensures { IfOk result (λ copy. copy ≡ self.now) }
-    {
-        Ok(ItemList {
-            items: copied(alloc, &self.items)?,
-        })
-    }
 }

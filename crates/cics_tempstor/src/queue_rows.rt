@@ -84,16 +84,6 @@ impl Row {
         Ok(Row { items, next: 0 })
     }
 
-    /// Returns a copy of the row. The only error is `NoMemory`.
-    pub(crate) fn copy(&self, alloc: Global) -> Result<Row, NoMemory>
-        ensures { IfOk result (λ copy. copy ≡ self.now) }
-    {
-        Ok(Row {
-            items: self.items.copy(alloc)?,
-            next: self.next,
-        })
-    }
-
     /// Returns the NEXT cursor, which reads as 0 if the queue is absent.
     pub(crate) fn place(&self) -> u16
         ensures { result ≡ place_of self.now }

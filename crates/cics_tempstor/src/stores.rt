@@ -43,15 +43,6 @@ impl Model for TempStore {
     ghost view = { λ s. rows_of s.queues.entries };
 }
 
-/// Puts a row at a name into a table of rows.
-fn put_row(queues: &mut IndexMap<Name8, Row>, name: Name8, row: Row) -> Result<(), NoMemory>
-    ensures { OnOk result (rows_of queues.new.entries
-        ≡ with_value name row (rows_of queues.old.entries)) }
-{
-    queues.insert(name, row)?;
-    Ok(())
-}
-
 /// Puts the items of a name into a map.
 fn put(
     sorted: &mut BTreeMap<Name8, Items<Record>>,
@@ -99,25 +90,6 @@ impl TempStore {
             queues: IndexMap::new(alloc),
             alloc,
         }
-    }
-
-    /// Returns a copy of the store: the same queues, empty rows and NEXT cursors. The only error is
-    /// `NoMemory`.
-    pub fn copy(&self) -> Result<TempStore, NoMemory>
-        ensures { IfOk result (λ copy. copy ≡ self.now) }
-    {
-        let mut queues = IndexMap::new(self.alloc);
-        let mut index = self.queues.len();
-        while index > 0 {
-            index -= 1;
-            if let Some((name, row)) = self.queues.get_index(index) {
-                put_row(&mut queues, *name, row.copy(self.alloc)?)?;
-            }
-        }
-        Ok(TempStore {
-            queues,
-            alloc: self.alloc,
-        })
     }
 
     /// WRITEQ TS: adds an item as the last of a queue, and makes the queue if it is absent, with

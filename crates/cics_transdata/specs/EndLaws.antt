@@ -3,7 +3,7 @@
 use Rattle.std.proofs.Common.{arith, ◌≡◌, ℕ, ◌+◌, ◌-◌, Bool, true, false, List, [], ◌∷◌, length, drop, refl, sym, ◌∙◌, ap, length-drop}
 use Rattle.std.specs.Prelude.{min}
 use Rattle.std.proofs.lemmas.List.{drop-drop}
-use Rattle.cics_images.specs.Cells.{Cell, AreOf, AreReadyInTurn, all_swept, is_other}
+use Rattle.cics_images.specs.Cells.{Cell, AreOf, AreReadyInTurn, is_other}
 use Rattle.cics_images.specs.Turns.{in_turn_kept}
 use Rattle.cics_transdata.specs.declared.images.TdImage.{TdImage}
 use Rattle.cics_transdata.specs.declared.images.TdImage.TheVariants.{Taken, Written}
@@ -129,10 +129,6 @@ either_order s (Taken n ∷ is) writer reading writing =
 either_order s (Written ∷ is) writer reading writing = let wrong : false ≡ true = reading.0 in cc
 
 -- ---- a unit commits
--- dropping images leaves the queue
-pub all_swept_same : (s : TransState) (images : List TdImage) → all_swept (λ t c. t) end_of s images ≡ s
-all_swept_same s [] = refl
-all_swept_same s (i ∷ is) = all_swept_same s is
 
 -- the reading end's commit leaves the writing end, if no record has both marks
 pub reader_committed_keeps : (s : TransState) → IsApart s → KeepsEnds (is_other reading_end) s (reader_committed s)

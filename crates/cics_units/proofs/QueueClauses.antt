@@ -1,5 +1,5 @@
--- What the calls of a transient data queue promise is a change of it as `IsTransChange` says, and
--- what the table of enqueues has tells whether a unit owns the writing end.
+-- What the calls of a transient data queue promise is a change of it as `IsTransChange` says. The
+-- table of enqueues tells whether a unit owns the writing end.
 use Rattle.std.proofs.Common.{◌≡◌, ℕ, Bool, true, false, not, ◌&&◌, Option, refl, ap, sym, ◌∙◌}
 use Rattle.std.specs.Prelude.{IfSome, IfNone}
 use Rattle.std.proofs.lemmas.Bool.{false≢true}

@@ -1,6 +1,6 @@
--- What the end of a unit leaves of files, temporary storage and transient data: for a backout and
--- for a commit the one record of all that it keeps, from what is told of undoing the unit's images,
--- or of giving them up.
+-- What the end of a unit leaves of files, temporary storage and transient data. A backout and a
+-- commit each have one record of all that it keeps. It comes from what is told of undoing the unit's
+-- images, or of giving them up.
 use Rattle.std.proofs.Common.{◌≡◌, ◌≢◌, ℕ, true, List, [], refl, ap, sym, subst, ◌∙◌, T, Some, inl, inr, ◌≤◌, Bool, false, ◌&&◌, Option, None, ◌++◌, length}
 use Rattle.std.specs.Prelude.{fold, filter, option_map, unwrap_or, is_some, slice_set}
 use Rattle.cics_names.specs.Keyed.{value_at, has_key, Bytes, is_rising}

@@ -9,8 +9,8 @@ use Rattle.cics_history.specs.MarkImages.{OfReading, OfWriting}
 use Rattle.cics_opening.specs.StoreMatching.{StoreValue, shown_store, shown_records, bytes_of, bytes_of_end, AnyImage, cell_of_any, any_undone, AreImagesOf}
 use Rattle.cics_units.specs.StoreInPlace.{ends_committed}
 
--- no file, a temporary storage queue with an item and the row of one that is absent, and a
--- transient data queue with three records, the first marked as read and the last as written
+-- no file, a temporary storage queue with an item, and the row of one that is absent. A transient
+-- data queue has three records, the first marked as read and the last as written
 few : StoreValue
 few = record {
   files = [];

@@ -1,5 +1,5 @@
--- Cells of the store are told apart by their bytes, what is shown of a cell tells its content, and
--- the images that are kept lead each cell back as the changes do that they stand for.
+-- Cells of the store are told apart by their bytes, and what is shown of a cell tells its content.
+-- The images that are kept lead each cell back as the changes do that they stand for.
 use Rattle.std.specs.Prelude.{◌≡◌, ℕ, Bool, true, false, not, Option, Some, None, List, [], ◌∷◌, is_some, refl}
 use Rattle.std.proofs.Common.{sym, ap, ◌∙◌, subst, inl, inr}
 use Rattle.std.specs.List.{list_any}

@@ -239,30 +239,6 @@ impl Units {
         })
     }
 
-    /// Goes back to the start: no command is executed, and no unit has begun. It copies the
-    /// opening's files and queues again. Its lists keep their room.
-    ///
-    /// Errors: `NoMemory`. Unchanged on error.
-    pub fn restart(&mut self) -> Result<(), NoMemory>
-        ensures state { OnOk result (self.new.state ≡ beginning self.old.state.opening) }
-        ensures headline { IsHeadline self.new }
-        ensures serializable { IsSerializable self.new }
-        ensures err { OnErr result (self.new ≡ self.old) }
-    {
-        let files = self.opening.files().copy()?;
-        let trans_data = self.opening.queues().copy()?;
-        let store = Stores {
-            files,
-            temp_storage: TempStore::new(self.alloc),
-            trans_data,
-        };
-        self.core = UnitsCore::new(self.alloc, store);
-        self.trace.clear();
-        self.outcomes.clear();
-        self.commits.clear();
-        Ok(())
-    }
-
     /// Returns the blocker of a command, if any: another unit that owns something that conflicts
     /// with what it uses. If none does, the writer of its queue blocks READQ TD, if there is no
     /// record that the task may read. Takes no memory.
