@@ -59,6 +59,7 @@ Each option, from the root of the repository:
   bin/cicsrun --orders --limit 5 < examples/race.cics
   bin/cicsrun --orders --told < examples/race.cics
   bin/cicsrun --orders --told --ending 2 < examples/race.cics
+  bin/cicsrun --orders --progress < examples/race.cics
 The language of a script: docs/LANGUAGE.md.
 
 Example, from the root of the repository. T2 waits for the record until T1's
@@ -85,7 +86,8 @@ const LIMIT: &str = "Follow about N states (50000)";
 /// - `Run`: a run of a script.
 /// - `Strict`: a run that ends with a status of its own if something is amiss (`strict_status`).
 /// - `Picture`: the picture of a run.
-/// - `Orders`: a report on the orders of a script's lines, or one of them as a script.
+/// - `Orders`: a report on the orders of a script's lines, or one of them as a script. `progress`
+///   asks for lines on standard error that say how far the search is.
 /// - `Help`: the help or the version, which is to go to standard output.
 /// - `Bad`: nothing that the program knows. The text says what is wrong, and is to go to standard
 ///   error.
@@ -94,7 +96,7 @@ pub enum Asked {
     Run(Wanted),
     Strict(Wanted),
     Picture,
-    Orders(Orders),
+    Orders { wanted: Orders, progress: bool },
     Help(String),
     Bad(String),
 }
@@ -105,8 +107,8 @@ pub enum Asked {
 ///
 /// - an option that is given twice;
 /// - `--serial` beside `--with-script`, and any option beside `--picture`;
-/// - `--told`, `--limit` and `--ending` without `--orders`, any other option beside it, and a
-///   number that isn't from 1 on;
+/// - `--told`, `--limit`, `--ending` and `--progress` without `--orders`, any other option beside
+///   it, and a number that isn't from 1 on;
 /// - each other word but a `--`, after which no option may stand.
 ///
 /// The only error is `NoMemory`.
@@ -190,14 +192,16 @@ fn with_orders<'a>(
     let orders = "Print a report on every order of the tasks' lines instead";
     let told = "Tell endings apart by what tasks are answered too";
     let ending = "Print the first order of ending N as a script";
+    let progress = "Print on standard error how far the search is";
     let command = with(runs, apart_from_runs(flag(alloc, "orders", orders)));
-    let command = with(command, told_flag(flag(alloc, "told", told)));
+    let command = with(command, orders_flag(flag(alloc, "told", told)));
     let command = with(command, number(alloc, "limit", LIMIT));
-    with(command, number(alloc, "ending", ending))
+    let command = with(command, number(alloc, "ending", ending));
+    with(command, orders_flag(flag(alloc, "progress", progress)))
 }
 
 // Returns a flag that belongs to the orders.
-fn told_flag<'a>(flag: Arg<'a>) -> Result<Arg<'a>, AllocError> {
+fn orders_flag<'a>(flag: Arg<'a>) -> Result<Arg<'a>, AllocError> {
     apart_from_runs(flag.requires_arg("orders")?)
 }
 
@@ -238,11 +242,13 @@ fn chosen(matches: &ArgMatches) -> Asked {
         return Asked::Picture;
     }
     if matches.get_flag("orders") {
-        return Asked::Orders(Orders {
+        let wanted = Orders {
             told: matches.get_flag("told"),
             limit: matches.get_one("limit").unwrap_or(STATES),
             ending: matches.get_one("ending"),
-        });
+        };
+        let progress = matches.get_flag("progress");
+        return Asked::Orders { wanted, progress };
     }
     let options = Options {
         replay: matches.get_flag("replay"),

@@ -2,12 +2,15 @@
 //! picture of it, or what the orders of its lines lead to.
 #![tactic(auto)]
 
+mod progress;
+
+use crate::progress::Lines;
 use cics_draw::{NoPicture, run_picture};
 use cics_run::{
     Asked, Options, Orders, RunFault, Session, Status, Wanted, arguments, exit_status, run_over,
     strict_status,
 };
-use cics_survey::{Surveyed, run_orders};
+use cics_survey::{Surveyed, Surveyor};
 use cics_told::{Watched, is_left_waiting, told_at_end, told_of};
 use cics_whole::read_script;
 use std::io::ErrorKind;
@@ -40,7 +43,7 @@ fn main(rt: HostRuntime) -> ExitCode {
             Err(NoPicture::Stopped(fault)) => stopped(rt, fault),
             Ok(status) => ExitCode::from(exit_status(&Ok(status))),
         },
-        Ok(Asked::Orders(wanted)) => follow_orders(rt, wanted),
+        Ok(Asked::Orders { wanted, progress }) => follow_orders(rt, wanted, progress),
         Ok(Asked::Help(text)) => match print!(rt; "{text}") {
             Ok(()) => ExitCode::SUCCESS,
             Err(_) => stopped(rt, RunFault::WriteFault),
@@ -78,13 +81,18 @@ fn draw_to_the_end(rt: HostRuntime) -> Result<Status, NoPicture> {
     answer
 }
 
-// Follows the orders of the script on standard input.
-fn follow_orders(rt: HostRuntime, wanted: Orders) -> ExitCode {
+// Follows the orders of the script on standard input. Prints how far the search is, if that is
+// wanted.
+fn follow_orders(rt: HostRuntime, wanted: Orders, has_progress: bool) -> ExitCode {
     let mut script = Vec::new(rt.alloc());
     if let Err(fault) = read_script(&mut rt.stdin(), &mut script) {
         return stopped(rt, fault);
     }
-    match run_orders(rt.alloc(), &mut script.as_slice(), &mut rt.stdout(), wanted) {
+    let mut surveyor = Surveyor {
+        alloc: rt.alloc(),
+        progress: Lines::new(rt, has_progress),
+    };
+    match surveyor.run_orders(&mut script.as_slice(), &mut rt.stdout(), wanted) {
         Ok(Surveyed::Done) => ended(rt, Ok(exit_status(&Ok(Status::Done)))),
         Ok(Surveyed::LineFault) => {
             tell_fault(rt, &script);
