@@ -27,14 +27,14 @@ front_more f ls xs short are =
 module _ {S : Type 0} (lanes : Lanes S) (breaks : S → ℕ → Bool) (stamp : Bool → S → Bytes) (ending : S → Parts) (b : Bool) (s : S)
     (tell : (o p : Order) → IsWay lanes s o → IsWay lanes s p → stamp b (after lanes s o) ≡ stamp b (after lanes s p) →
     AreStampedAlike lanes ending breaks (stamp b) b (after lanes s o) (after lanes s p)) where
-  -- states of one stamp are kept alike
+  -- the same is noted of states of one stamp
   same_reached : (o p : Order) → IsWay lanes s o → IsWay lanes s p → stamp b (after lanes s o) ≡ stamp b (after lanes s p) →
       reached lanes breaks stamp b (after lanes s o) ≡ reached lanes breaks stamp b (after lanes s p)
   same_reached o p first second one =
       let alike = tell o p first second one in
       λ i. record { stamp = one i; lanes = same_lanes lanes breaks stamp ending b s tell (after lanes s o) (after lanes s p) alike i; has_ended = is_none_left (alike.givers i) }
 
-  -- and their lanes lead to such states
+  -- and of those that their lanes lead to
   same_all : (o p : Order) → IsWay lanes s o → IsWay lanes s p → stamp b (after lanes s o) ≡ stamp b (after lanes s p) →
       all_reached lanes breaks stamp b (after lanes s o) ≡ all_reached lanes breaks stamp b (after lanes s p)
   same_all o p first second one =

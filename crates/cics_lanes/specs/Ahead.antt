@@ -7,11 +7,11 @@ use Rattle.cics_lanes.specs.Orders.{Order, Lanes, IsWay, after}
 use Rattle.cics_lanes.specs.Levels.{lanes_of, is_none_left}
 use Rattle.cics_lanes.specs.declared.levels.Reached.{Reached}
 
--- a state as it is kept
+-- what is noted of a state
 abbrev pub reached : {S : Type 0} → Lanes S → (S → ℕ → Bool) → (Bool → S → Bytes) → Bool → S → Reached
 reached lanes breaks stamp b x = record { stamp = stamp b x; lanes = lanes_of lanes breaks b x; has_ended = is_none_left (lanes.givers x 0) }
 
--- the states that the lanes of a state lead to
+-- what is noted of the states that the lanes of a state lead to
 abbrev pub all_reached : {S : Type 0} → Lanes S → (S → ℕ → Bool) → (Bool → S → Bytes) → Bool → S → List Reached
 all_reached lanes breaks stamp b x = map (λ l. reached lanes breaks stamp b (lanes.given x l)) (lanes_of lanes breaks b x)
 

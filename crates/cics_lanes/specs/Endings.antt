@@ -54,8 +54,8 @@ report rs = map (reported rs) (firsts rs)
 abbrev pub run_to : {S : Type 0} → (S → Parts) → (S → Bool) → Order → S → Run
 run_to ending serial o s = record { order = o; ending = ending s; is_serial = serial s }
 
--- the ending of a run as it is reported, if serial runs are counted by themselves: each of them is
--- one more that leads there, unless the others count more
+-- The ending of a run as it is reported, if serial runs are counted by themselves. Each of them is
+-- one more that leads there, unless the others count more.
 abbrev pub reported_of_both : List Run → List Run → Run → Reported
 reported_of_both rs ss r = record {
   order = r.order;
@@ -64,7 +64,7 @@ reported_of_both rs ss r = record {
   serial = kept_number (count_by (λ s. are_same s.ending r.ending) ss);
 }
 
--- the endings of runs and of serial runs: each once, in the order of the first runs that lead to
--- them, of which the serial ones come last
+-- The endings of runs and of serial runs, each once. They stand in the order of the first runs that
+-- lead to them, of which the serial ones come last.
 abbrev pub report_of_both : List Run → List Run → List Reported
 report_of_both rs ss = map (reported_of_both rs ss) (firsts (rs ++ ss))

@@ -1,7 +1,7 @@
 //! Where the lanes of states lead, as far as that is known before they are followed.
 //!
 //! To go to a state takes each line of its first order. So a walk that is at a state goes on from
-//! there along lanes that were not tried yet, and what it comes to is kept for later levels.
+//! there along lanes that were not tried yet. What it comes to is noted for later levels.
 
 ghost use Rattle.std.specs.Prelude.{◌≡◌, [], None, IfOk, OnOk, IfSome};
 ghost use Rattle.std.specs.Option.{unwrap_or};

@@ -79,7 +79,7 @@ impl Stamp {
     }
 }
 
-/// A state that orders lead to.
+/// What is noted of a state that orders lead to.
 #[derive(Drop)]
 pub(crate) struct Reached {
     pub(crate) stamp: Stamp,
@@ -196,7 +196,7 @@ fn lanes_of<W: Walk>(alloc: Global, walk: &W, is_serial: bool) -> Result<Items<u
     Ok(lanes)
 }
 
-/// Returns the state of a walk.
+/// Returns what is noted of the state of a walk. Errors: `NoMemory`.
 pub(crate) fn look<W: Walk>(alloc: Global, walk: &W, is_serial: bool) -> Result<Reached, NoMemory>
     ensures { IfOk result (λ state.
         state ≡ reached W.lanes W.breaks W.stamp is_serial walk.now) }

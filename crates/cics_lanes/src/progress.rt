@@ -9,7 +9,7 @@ pub struct Stand {
     pub level: usize,
     /// The most lines of an order.
     pub levels: usize,
-    /// How many states it has followed.
+    /// How many states it has followed in which a lane may give.
     pub states: u64,
 }
 
