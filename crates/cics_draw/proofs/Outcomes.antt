@@ -6,7 +6,6 @@ use Rattle.cics_history.specs.Headline.{outcome_of}
 use Rattle.cics_history.specs.declared.ops.UnitState.{UnitState}
 use Rattle.cics_history.specs.declared.ops.UnitState.TheVariants.{Open, Committed, BackedOut}
 use Rattle.cics_picture.specs.declared.bars.Bar.{Bar}
-use Rattle.cics_picture.specs.declared.bars.Look.{Look}
 use Rattle.cics_picture.specs.declared.bars.Look.TheVariants.{Open as LooksOpen}
 use Rattle.cics_picture.specs.Elements.{field}
 use Rattle.cics_picture.specs.Bars.{look_of as look_among, look_class, bar_of, bar_text, filled, hollow}

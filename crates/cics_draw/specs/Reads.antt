@@ -1,5 +1,5 @@
 -- Reads that show what isn't committed: the number of the reader's task, and the unit that wrote.
-use Rattle.std.specs.Prelude.{ℕ, ◌-◌, ◌==◌, Bool, true, false, not, ◌&&◌, ◌||◌, if◌then◌else◌, Option, Some, None, option_map, unwrap_or, slice_get, slice_set, List, [], ◌++◌, length, take, Result, Ok}
+use Rattle.std.specs.Prelude.{ℕ, ◌-◌, ◌==◌, Bool, false, not, ◌&&◌, ◌||◌, if◌then◌else◌, Option, Some, None, option_map, unwrap_or, slice_get, slice_set, List, [], ◌++◌, length, take, Result, Ok}
 use Rattle.std.specs.List.{list_any, prefix_len}
 use Rattle.std.specs.Str.{bytes_eq}
 use Rattle.cics_names.specs.Keyed.{Bytes, is_same, value_at}
@@ -14,7 +14,7 @@ use Rattle.cics_history.specs.declared.ops.Op.{Op}
 use Rattle.cics_history.specs.declared.ops.Op.TheVariants.{Delete, TsWrite, TsRewrite, TsDelete}
 use Rattle.cics_history.specs.Records.{is_file_op, file_of, key_of}
 use Rattle.cics_history.specs.declared.ops.Entry.{Entry}
-use Rattle.cics_machine.specs.Machine.{Machine, RegionValue}
+use Rattle.cics_machine.specs.Machine.{RegionValue}
 use Rattle.cics_waits.specs.Notes.{is_unit}
 use Rattle.cics_machine.specs.Blockers.{unit_of, number_of}
 use Rattle.cics_script.specs.Tokens.{token_at}

@@ -1,15 +1,14 @@
 -- States that are the same have the same ending.
-use Rattle.std.proofs.Common.{◌≡◌, ℕ, zero, suc, ◌-◌, Bool, true, false, ◌&&◌, List, [], ◌∷◌, ◌++◌, map, length, Option, None, Some, option_map, refl, ap, sym, ◌∙◌}
+use Rattle.std.proofs.Common.{◌≡◌, ℕ, zero, suc, ◌-◌, Bool, true, false, List, [], ◌∷◌, ◌++◌, map, length, Option, None, Some, option_map, refl, ap, sym, ◌∙◌}
 use Rattle.std.proofs.lemmas.List.{length-map}
 use Rattle.std.specs.Prelude.{if◌then◌else◌, nat_lt, is_some, slice_get, option_and_then, codes}
 use Rattle.std.specs.List.{flat_map, filter_map}
 use Rattle.cics_names.specs.Keyed.{Bytes, is_same}
 use Rattle.cics_names.specs.declared.commands.Command.{Command}
-use Rattle.cics_history.specs.Holding.{store_of}
 use Rattle.cics_replay.specs.Listings.{listing_of}
 use Rattle.cics_machine.specs.Machine.{Machine, Task, task_at}
 use Rattle.cics_machine.specs.Tasks.{had_by, own_unit}
-use Rattle.cics_machine.specs.Blockers.{waiting_command, blocker_of, unit_of, label_at, number_of}
+use Rattle.cics_machine.specs.Blockers.{waiting_command, unit_of, label_at, number_of}
 use Rattle.cics_machine.specs.declared.outcomes.Outcome.{Outcome}
 use Rattle.cics_machine.specs.declared.outcomes.Outcome.TheVariants.{Replied, Waiting, Abended, Ended}
 use Rattle.cics_future.specs.Futures.{HaveSameFuture, unnumbered}
@@ -22,10 +21,10 @@ use Rattle.cics_listing.specs.Listings.{file_text, storage_text, transient_text}
 use Rattle.cics_plans.specs.Taking.{NumberedLine}
 use Rattle.cics_report.specs.Parts.{mark}
 use Rattle.cics_orders.specs.Giving.{State}
-use Rattle.cics_orders.specs.Stamps.{end_told, told_of, seen}
+use Rattle.cics_orders.specs.Stamps.{end_told, seen}
 use Rattle.cics_orders.specs.Same.{SameState}
 use Rattle.cics_orders.specs.declared.lanes.Lane.{Lane}
-use Rattle.cics_endings.specs.Telling.{blocks, end_text, blocker_text, number_text, stand_text, state_text, task_text, told_parts, lane_parts, is_deadlocked, parts_of}
+use Rattle.cics_endings.specs.Telling.{blocks, end_text, blocker_text, number_text, stand_text, state_text, told_parts, lane_parts, parts_of}
 
 -- ---- Tasks, by their labels
 

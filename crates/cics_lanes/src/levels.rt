@@ -4,9 +4,7 @@
 //! state is kept: it is made again by its first order from the start.
 
 ghost use Rattle.std.specs.Prelude.{◌≡◌, [], ◌∷◌, ◌++◌, List, IfOk, OnOk};
-ghost use Rattle.std.specs.List.{flat_map};
 ghost use Rattle.cics_lanes.specs.Orders.{after};
-ghost use Rattle.cics_lanes.specs.Groups.{added_all};
 ghost use Rattle.cics_lanes.specs.Levels.{led_joined, lanes_of};
 ghost use Rattle.cics_lanes.specs.Ahead.{reached};
 

@@ -1,5 +1,5 @@
 -- Lanes keep their labels and lines, and tell which command each gave last.
-use Rattle.std.proofs.Common.{◌≡◌, ℕ, zero, suc, ◌+◌, ◌-◌, Bool, true, false, not, ◌&&◌, List, [], ◌∷◌, ◌++◌, map, Option, None, Some, Result, Ok, refl, ap, sym, ◌∙◌, subst, arith}
+use Rattle.std.proofs.Common.{◌≡◌, ℕ, zero, suc, ◌+◌, ◌-◌, Bool, true, false, not, ◌&&◌, List, [], ◌∷◌, ◌++◌, map, Option, None, Some, Result, refl, ap, sym, ◌∙◌, subst, arith}
 use Rattle.std.specs.Prelude.{if◌then◌else◌, slice_get, slice_set, option_and_then}
 use Rattle.std.specs.List.{list_all}
 use Rattle.cics_names.specs.Keyed.{Bytes, is_same}
@@ -18,7 +18,7 @@ use Rattle.cics_plans.specs.declared.plans.TaskPlan.{TaskPlan}
 use Rattle.cics_orders.specs.Giving.{is_of, told_more, with_told, hearing, shut, with_given, fresh_lane, task_lane, initial_lanes}
 use Rattle.cics_orders.specs.declared.lanes.Lane.{Lane}
 use Rattle.cics_orders.specs.Stamps.{seen}
-use Rattle.cics_orders.specs.GivenWaits.{said, last_command, command_of, IsGiven, AreGiven}
+use Rattle.cics_orders.specs.GivenWaits.{said, last_command, command_of, AreGiven}
 use Rattle.cics_orders.specs.Seen.{of_seen}
 
 -- a lane before its first line

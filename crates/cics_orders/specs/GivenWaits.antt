@@ -1,8 +1,7 @@
 -- A waiting command is the one that the lane of its task gave last.
-use Rattle.std.proofs.Common.{◌≡◌, ℕ, zero, suc, ◌+◌, ◌-◌, Bool, true, false, not, ◌&&◌, cond, List, [], ◌∷◌, ◌++◌, map, take, Option, None, Some, option_map, refl, ap, sym, ◌∙◌, subst, arith}
-use Rattle.std.specs.Prelude.{if◌then◌else◌, slice_get, slice_set, option_and_then, Result, Ok}
+use Rattle.std.proofs.Common.{◌≡◌, ℕ, ◌+◌, ◌-◌, Bool, true, false, not, cond, List, [], ◌∷◌, ◌++◌, map, take, Option, None, Some, refl, ap, sym, ◌∙◌, subst}
+use Rattle.std.specs.Prelude.{if◌then◌else◌, slice_get, option_and_then, Result, Ok}
 use Rattle.cics_names.specs.Keyed.{Bytes, is_same, value_at, without}
-use Rattle.cics_names.specs.KeyedLaws.{is_same-self, is_same-eq}
 use Rattle.cics_names.specs.Conditions.{default_abend_of}
 use Rattle.cics_names.specs.declared.conditions.AbendCode.{AbendCode}
 use Rattle.cics_names.specs.declared.conditions.Condition.{Condition}
@@ -22,7 +21,7 @@ use Rattle.cics_history.specs.declared.ops.Done.{Done}
 use Rattle.cics_history.specs.declared.ops.Done.TheVariants.{Answered, MustWait}
 use Rattle.cics_history.specs.declared.ops.Enqueued.{Enqueued}
 use Rattle.cics_history.specs.declared.ops.Enqueued.TheVariants.{Taken, MustWait as EnqMustWait, CountFull}
-use Rattle.cics_machine.specs.Machine.{Machine, Task, Suspended, task_at, is_waiting, not_waiting, with_units, with_task, with_waiting, with_unit, with_browses, units_after, unit_closed, abended, records_in}
+use Rattle.cics_machine.specs.Machine.{Machine, Task, Suspended, task_at, not_waiting, with_units, with_task, with_waiting, with_unit, with_browses, units_after, unit_closed, abended, records_in}
 use Rattle.cics_machine.specs.Replies.{plain, cut, read_reply}
 use Rattle.cics_machine.specs.Steps.{unhandled, answered, reply_of, busy_of, made_to_wait, executed, enqueued, unlocked, units_dequeued, dequeued, browse_reply, with_browse, started, reset, browsed, other_command, by_op, op_of, checked}
 use Rattle.cics_machine.specs.Waking.{may_go_on, first_free, went_on, woken_first, woken, first_late, expired_task, expired}
@@ -33,8 +32,7 @@ use Rattle.cics_script.specs.Lines.{line}
 use Rattle.cics_script.specs.declared.lines.Line.{Line}
 use Rattle.cics_script.specs.declared.lines.Line.TheVariants.{Issue}
 use Rattle.cics_script.specs.declared.faults.LineFault.{LineFault}
-use Rattle.cics_plans.specs.Taking.{NumberedLine}
-use Rattle.cics_orders.specs.Giving.{is_of, with_given}
+use Rattle.cics_orders.specs.Giving.{is_of}
 use Rattle.cics_orders.specs.declared.lanes.Lane.{Lane}
 
 -- the command that a line says

@@ -238,12 +238,3 @@ most_ends s =
 -- the lanes that may give stand in their order
 pub lanes_ordered : IsOrdered lanes
 lanes_ordered s from l ls is = givers_ordered (may_give s.machine) s.lanes from l ls is
-
--- the start of a script is that of each state of it
-pub start_stays : (s : State) (l : ℕ) → initial_state (given s l).plan ≡ initial_state s.plan
-start_stays s l = ap initial_state (plan_stays s l)
-
--- the start of the plan that a start has is the same start
-pub start_again : (p : Plan) → initial_state (initial_state p).plan ≡ initial_state p
-unfolding initial_state
-start_again p = refl

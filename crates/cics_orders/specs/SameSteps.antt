@@ -1,5 +1,5 @@
 -- States that are the same go on alike: each line leads to states that are the same again.
-use Rattle.std.proofs.Common.{◌≡◌, ℕ, zero, suc, ◌+◌, Bool, true, false, not, ◌&&◌, ◌||◌, List, [], ◌∷◌, ◌++◌, map, length, Option, None, Some, option_map, Result, Ok, Err, refl, ap, sym, ◌∙◌, subst}
+use Rattle.std.proofs.Common.{◌≡◌, ℕ, zero, suc, ◌+◌, Bool, true, false, not, ◌&&◌, ◌||◌, List, ◌++◌, map, length, Option, None, Some, option_map, Result, Ok, Err, refl, ap, sym, ◌∙◌, subst}
 use Rattle.std.specs.Prelude.{if◌then◌else◌, is_some, slice_get}
 use Rattle.cics_names.specs.Keyed.{Bytes}
 use Rattle.cics_machine.specs.Machine.{Machine}
@@ -8,7 +8,6 @@ use Rattle.cics_machine.specs.Steps.{Stepped, issued}
 use Rattle.cics_machine.specs.Waking.{woken, expired, clock_set}
 use Rattle.cics_machine.specs.Shutdown.{shut_down}
 use Rattle.cics_machine.specs.declared.outcomes.Outcome.{Outcome}
-use Rattle.cics_machine.specs.declared.outcomes.Outcome.TheVariants.{Abended}
 use Rattle.cics_machine.specs.declared.outcomes.Woken.{Woken}
 use Rattle.cics_machine.specs.declared.outcomes.Expired.{Expired}
 use Rattle.cics_machine.specs.declared.outcomes.Refused.{Refused}
@@ -18,9 +17,8 @@ use Rattle.cics_script.specs.Lines.{line}
 use Rattle.cics_script.specs.declared.lines.Line.{Line}
 use Rattle.cics_script.specs.declared.lines.Line.TheVariants as says
 use Rattle.cics_script.specs.declared.faults.LineFault.{LineFault}
-use Rattle.cics_lanes.specs.Orders.{Order, after}
 use Rattle.cics_plans.specs.Taking.{NumberedLine}
-use Rattle.cics_orders.specs.Giving.{State, hearing, shut, issuing, timing, shutting, left_by, after_line, late, resumed, drain_step, told_by, drained_once, after_step, drained_within, drained, givers, ends_turn, is_lane, with_given, counted, given_line, given_by, given, lanes}
+use Rattle.cics_orders.specs.Giving.{State, hearing, shut, issuing, timing, shutting, left_by, after_line, late, resumed, drain_step, told_by, drained_once, after_step, drained_within, drained, givers, ends_turn, is_lane, counted, given_line, given_by, given, lanes}
 use Rattle.cics_orders.specs.declared.lanes.Lane.{Lane}
 use Rattle.cics_names.specs.Stamps.{number_stamp, flag_stamp, option_stamp, list_stamp}
 use Rattle.cics_orders.specs.Stamps.{seen, last_seen, lane_stamp, state_stamp}

@@ -1,5 +1,5 @@
 -- What is seen of lanes after a step, by what was seen of them before it.
-use Rattle.std.proofs.Common.{◌≡◌, ◌<◌, ◌≤◌, ℕ, zero, suc, ◌+◌, ◌-◌, Bool, true, false, not, ◌&&◌, List, [], ◌∷◌, ◌++◌, map, length, drop, Option, None, Some, option_map, refl, ap, sym, ◌∙◌, arith, length-append}
+use Rattle.std.proofs.Common.{◌≡◌, ℕ, zero, suc, ◌+◌, ◌-◌, Bool, true, false, not, ◌&&◌, List, [], ◌∷◌, ◌++◌, map, length, drop, Option, None, Some, option_map, refl, ap, sym, ◌∙◌, arith, length-append}
 use Rattle.std.proofs.lemmas.List.{drop-map}
 use Rattle.std.specs.Prelude.{if◌then◌else◌, is_none, is_some, slice_get, slice_set}
 use Rattle.cics_names.specs.Keyed.{Bytes}
@@ -10,7 +10,7 @@ use Rattle.cics_machine.specs.declared.outcomes.Outcome.TheVariants.{Replied, Wa
 use Rattle.cics_lanes.specs.Orders.{numbered, numbered_from}
 use Rattle.cics_plans.specs.Firsts.{with_first}
 use Rattle.cics_orders.specs.Giving.{is_of, is_last, told_more, with_told, hearing, shut, is_ready, may_give, with_given}
-use Rattle.cics_orders.specs.Stamps.{end_told, told_of, seen}
+use Rattle.cics_orders.specs.Stamps.{end_told, seen}
 use Rattle.cics_orders.specs.declared.lanes.Lane.{Lane}
 
 -- ---- Lists

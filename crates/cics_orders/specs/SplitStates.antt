@@ -1,11 +1,10 @@
 -- What the stamp of a state tells: after two ways from one start, states of one stamp are the same.
-use Rattle.std.proofs.Common.{◌≡◌, ℕ, zero, suc, ◌==◌, Bool, true, false, ◌&&◌, List, [], ◌∷◌, ◌++◌, map, Option, None, Some, refl, ap, sym, ◌∙◌}
+use Rattle.std.proofs.Common.{◌≡◌, ℕ, ◌==◌, Bool, true, ◌&&◌, List, [], ◌∷◌, ◌++◌, map, Option, None, Some, refl, ap, sym, ◌∙◌}
 use Rattle.std.proofs.lemmas.List.Folds.{flat_map-map}
 use Rattle.std.specs.Prelude.{if◌then◌else◌}
 use Rattle.cics_names.specs.Keyed.{Bytes}
 use Rattle.cics_names.specs.Conditions.{number_of}
 use Rattle.cics_names.specs.Stamps.{Splits, number_stamp, flag_stamp, text_stamp, option_stamp, item_stamp, list_stamp}
-use Rattle.cics_names.specs.declared.conditions.AbendCode.{AbendCode}
 use Rattle.cics_names.specs.declared.conditions.Condition.{Condition}
 use Rattle.cics_names.specs.declared.conditions.Condition.TheVariants.{Normal, Dsiderr, Notfnd, Duprec, Invreq, Endfile, Lengerr, Qzero, Qbusy, Itemerr, Qiderr, Enqbusy}
 use Rattle.cics_names.proofs.Stamps.{splits_number, splits_flag, splits_text, splits_option, splits_list, splits_both}

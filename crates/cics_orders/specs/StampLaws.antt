@@ -1,15 +1,15 @@
 -- States of one stamp go on alike: the same lanes may give, their lines lead to states of one stamp
 -- again, and the endings are told the same.
-use Rattle.std.proofs.Common.{◌≡◌, ℕ, ◌-◌, Bool, true, false, not, ◌&&◌, ◌||◌, List, [], ◌∷◌, map, length, drop, Option, None, Some, option_map, refl, ap, sym, ◌∙◌, subst}
+use Rattle.std.proofs.Common.{◌≡◌, ℕ, ◌-◌, Bool, true, false, not, ◌&&◌, ◌||◌, List, [], map, length, drop, Option, None, Some, option_map, refl, ap, sym, ◌∙◌}
 use Rattle.std.proofs.lemmas.List.{length-map}
 use Rattle.std.specs.Prelude.{All, if◌then◌else◌, is_some, slice_get, option_and_then}
 use Rattle.cics_future.proofs.Stamped.{alike_stamps}
-use Rattle.cics_lanes.specs.Orders.{Order, after, orders, IsOneOf, IsWay, AreStampedAlike}
+use Rattle.cics_lanes.specs.Orders.{Order, after, orders, IsWay, AreStampedAlike}
 use Rattle.cics_lanes.specs.Endings.{Parts}
 use Rattle.cics_plans.specs.Proper.{is_proper}
 use Rattle.cics_plans.specs.declared.plans.Plan.{Plan}
-use Rattle.cics_orders.specs.Giving.{State, may_give, is_lane, givers, given, lanes, initial_state, line_count}
-use Rattle.cics_orders.specs.OrderLaws.{most_ends, plan_stays, start_again}
+use Rattle.cics_orders.specs.Giving.{State, is_lane, givers, given, lanes, initial_state, line_count}
+use Rattle.cics_orders.specs.OrderLaws.{most_ends, plan_stays}
 use Rattle.cics_orders.specs.Same.{SameState}
 use Rattle.cics_orders.specs.SameSteps.{given_alike, givers_alike, stamps_alike}
 use Rattle.cics_orders.specs.Seen.{get_mapped, may_same}

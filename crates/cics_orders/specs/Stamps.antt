@@ -1,6 +1,6 @@
 -- The stamp of a state: bytes that tell how it goes on, and what its ending tells. It has neither
 -- the history of the region, nor the numbers of units, nor what the plan alone tells.
-use Rattle.std.specs.Prelude.{ℕ, ◌-◌, Bool, true, false, ◌&&◌, if◌then◌else◌, List, [], ◌∷◌, ◌++◌, map, length, Option, Some, None, slice_get}
+use Rattle.std.specs.Prelude.{ℕ, ◌-◌, Bool, ◌&&◌, if◌then◌else◌, List, [], ◌∷◌, ◌++◌, map, length, Option, Some, None, slice_get}
 use Rattle.cics_names.specs.Keyed.{Bytes}
 use Rattle.cics_names.specs.Conditions.{number_of}
 use Rattle.cics_names.specs.Stamps.{number_stamp, flag_stamp, text_stamp, option_stamp, list_stamp}

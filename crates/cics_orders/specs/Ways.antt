@@ -1,15 +1,14 @@
 -- Along each way a region is steady, lanes keep their labels and lines, and each waiting command is
 -- the one that the lane of its task gave last.
-use Rattle.std.proofs.Common.{◌≡◌, ℕ, zero, suc, ◌+◌, Bool, true, false, not, ◌&&◌, List, [], ◌∷◌, ◌++◌, map, length, drop, Option, None, Some, option_map, Result, Ok, Err, refl, ap, sym, ◌∙◌, subst, ◌⊎◌, inl, inr}
-use Rattle.std.specs.Prelude.{if◌then◌else◌, is_none, is_some, slice_get, slice_set}
+use Rattle.std.proofs.Common.{◌≡◌, ℕ, zero, suc, ◌+◌, Bool, true, false, not, ◌&&◌, List, [], ◌∷◌, ◌++◌, map, length, Option, None, Some, option_map, Result, Ok, Err, refl, ap, sym, ◌∙◌, subst, inl, inr}
+use Rattle.std.specs.Prelude.{if◌then◌else◌, is_none, is_some, slice_get}
 use Rattle.std.specs.List.{fold}
 use Rattle.cics_names.specs.Keyed.{Bytes, Map, is_same, value_at, with_value, is_rising}
 use Rattle.cics_names.specs.KeyedLaws.{is_same-self, is_same-eq, value_at-with_value}
 use Rattle.cics_names.specs.declared.commands.Command.{Command}
-use Rattle.cics_ksds.specs.declared.definition.FileDef.{FileDef}
 use Rattle.cics_ksds.specs.Files.{key_of}
 use Rattle.cics_history.specs.State.{OpeningState, FileOpening, QueueOpening}
-use Rattle.cics_history.specs.Openings.{nothing_defined, with_file, with_record, with_queue, with_td_record, loaded_file, is_in_order, IsOpeningInOrder}
+use Rattle.cics_history.specs.Openings.{nothing_defined, loaded_file, is_in_order, IsOpeningInOrder}
 use Rattle.cics_history.specs.declared.ops.UnitState.TheVariants.{BackedOut}
 use Rattle.cics_history.proofs.Maps.{rising-with_value}
 use Rattle.cics_machine.specs.Machine.{Machine, Task, Suspended, task_at, is_waiting, with_waiting, unit_closed, beginning_region}
@@ -31,7 +30,7 @@ use Rattle.cics_script.specs.Lines.{line}
 use Rattle.cics_script.specs.declared.lines.Line.{Line}
 use Rattle.cics_script.specs.declared.lines.Line.TheVariants as says
 use Rattle.cics_script.specs.declared.faults.LineFault.{LineFault}
-use Rattle.cics_lanes.specs.Orders.{Order, after, numbered, IsOneOf, IsWay}
+use Rattle.cics_lanes.specs.Orders.{Order, after, IsOneOf, IsWay}
 use Rattle.cics_plans.specs.Defining.{defined_by}
 use Rattle.cics_plans.specs.Proper.{is_proper}
 use Rattle.cics_plans.specs.Taking.{NumberedLine}
@@ -41,7 +40,7 @@ use Rattle.cics_orders.specs.Giving.{State, is_of, hearing, shut, issuing, timin
 use Rattle.cics_orders.specs.OrderLaws.{Each, May, numbers_may, plan_stays}
 use Rattle.cics_orders.specs.declared.lanes.Lane.{Lane}
 use Rattle.cics_orders.specs.Same.{SameState}
-use Rattle.cics_orders.specs.GivenLanes.{frame, core, core_hearing, core_shut, core_gave, core_frames, IsRight, HasRight, AreApart, AreRight, apart_frames, right_frames, right_at, frames_given, command_given, waits_given, apart_initial, right_initial, frames_initial}
+use Rattle.cics_orders.specs.GivenLanes.{frame, core, core_hearing, core_shut, core_gave, core_frames, IsRight, AreApart, AreRight, apart_frames, right_frames, right_at, frames_given, command_given, waits_given, apart_initial, right_initial, frames_initial}
 use Rattle.cics_orders.specs.GivenWaits.{said, command_of, given_as, AreGiven, Keeps, closes, checked_waits, woken_waits, expired_waits}
 use Rattle.cics_orders.specs.SameSteps.{given_alike}
 

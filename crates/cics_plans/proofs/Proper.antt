@@ -1,6 +1,6 @@
 -- A script is taken apart into a proper plan: no two tasks have the same label, and each lane has
 -- lines of its own.
-use Rattle.std.proofs.Common.{◌≡◌, ℕ, zero, suc, ◌+◌, Bool, true, false, not, ◌&&◌, List, [], ◌∷◌, ◌++◌, Option, None, Some, option_map, is_some, Result, Ok, Err, refl, ap, sym, ◌∙◌, subst}
+use Rattle.std.proofs.Common.{◌≡◌, ℕ, suc, ◌+◌, Bool, true, false, not, ◌&&◌, List, [], ◌∷◌, ◌++◌, Option, None, Some, option_map, is_some, Result, Ok, Err, refl, ap, sym, ◌∙◌, subst}
 use Rattle.std.specs.Prelude.{if◌then◌else◌}
 use Rattle.std.specs.List.{list_all}
 use Rattle.cics_names.specs.Keyed.{Bytes, is_same}
@@ -14,7 +14,7 @@ use Rattle.cics_script.specs.declared.faults.LineFault.{LineFault}
 use Rattle.cics_script.specs.declared.faults.LineFault.TheVariants.{DefineTooLate}
 use Rattle.cics_plans.specs.Firsts.{first_place}
 use Rattle.cics_plans.specs.Defining.{define_fault, defined_by}
-use Rattle.cics_plans.specs.Taking.{NumberedLine, Taken, Step, nothing_taken, accepted, defined, good, faulty, is_task, has_task, with_line, line_added, with_refused, attached, issued, timed, followed, taken_more, behind, taken_apart, planned}
+use Rattle.cics_plans.specs.Taking.{NumberedLine, Taken, nothing_taken, accepted, defined, faulty, is_task, has_task, with_line, line_added, with_refused, attached, issued, timed, taken_more, behind, taken_apart, planned}
 use Rattle.cics_plans.specs.Proper.{is_command_of, is_timing, has_own_lines, are_distinct, is_proper}
 use Rattle.cics_plans.specs.declared.plans.TaskPlan.{TaskPlan}
 use Rattle.cics_plans.specs.declared.plans.Plan.{Plan}
