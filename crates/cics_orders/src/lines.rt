@@ -12,7 +12,7 @@ use std::rc::Rc;
 
 // Lines, each with its number, and what each says.
 #[derive(Drop)]
-struct Both {
+struct ReadLines {
     lines: Items<(u64, Record)>,
     says: Items<Result<Line, LineFault>>,
 }
@@ -22,7 +22,7 @@ struct Both {
 /// Contracts see the lines, each with its number.
 #[derive(Drop)]
 pub struct Lines {
-    both: Rc<Both>,
+    shared: Rc<ReadLines>,
 }
 
 impl Model for Lines {
@@ -31,10 +31,10 @@ impl Model for Lines {
 
     ghost Value = { List (ℕ × List ℕ) };
 
-    ghost view = { λ l. l.both.value.lines };
+    ghost view = { λ l. l.shared.value.lines };
 
-    ghost invariant = { λ l. l.both.value.says
-        ≡ map (λ next. line next.1) l.both.value.lines };
+    ghost invariant = { λ l. l.shared.value.says
+        ≡ map (λ next. line next.1) l.shared.value.lines };
 }
 
 // Copies lines.
@@ -67,14 +67,14 @@ impl Lines {
     ///
     /// Errors: `NoMemory`.
     pub(crate) fn new(alloc: Global, lines: &[(u64, Record)]) -> Result<Lines, NoMemory>
-        ensures { IfOk result (λ read. read ≡ lines.now) }
+        ensures { IfOk result (λ own. own ≡ lines.now) }
     {
-        let both = Both {
+        let read = ReadLines {
             lines: copied(alloc, lines)?,
             says: read_all(alloc, lines)?,
         };
         Ok(Lines {
-            both: Rc::new(alloc, both)?,
+            shared: Rc::new(alloc, read)?,
         })
     }
 
@@ -85,7 +85,7 @@ impl Lines {
         ensures { IfOk result (λ copy. copy ≡ self.now) }
     {
         Ok(Lines {
-            both: self.both.clone()?,
+            shared: self.shared.clone()?,
         })
     }
 
@@ -93,13 +93,13 @@ impl Lines {
     pub fn as_slice(&self) -> &[(u64, Record)]
         ensures { result.now ≡ self.now }
     {
-        self.both.as_ref().lines.as_slice()
+        self.shared.as_ref().lines.as_slice()
     }
 
     /// Returns what each line says.
     pub(crate) fn says(&self) -> &[Result<Line, LineFault>]
         ensures { result.now ≡ map (λ next. line next.1) self.now }
     {
-        self.both.as_ref().says.as_slice()
+        self.shared.as_ref().says.as_slice()
     }
 }
