@@ -22,7 +22,7 @@ use std::alloc::Global;
 pub(crate) type Known = IndexMap<Stamp, Items<Reached>>;
 
 // The most lines that a walk goes on.
-const MOST_AHEAD: usize = 10;
+const MOST_AHEAD: usize = 6;
 
 // Takes what is known of the states of a stamp.
 fn take(alloc: Global, known: &mut Known, stamp: &Stamp) -> Items<Reached>
