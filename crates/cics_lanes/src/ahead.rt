@@ -24,6 +24,10 @@ pub(crate) type Known = IndexMap<Stamp, Items<Reached>>;
 // The most lines that a walk goes on.
 const MOST_AHEAD: usize = 6;
 
+// How many states may be noted: where there are as many, walks don't go on. Those that a limit
+// leaves out stay noted, so this bounds the memory.
+const MOST_NOTED: usize = 20_000;
+
 // Takes what is known of the states of a stamp.
 fn take(alloc: Global, known: &mut Known, stamp: &Stamp) -> Items<Reached>
     ensures found { result ≡ unwrap_or (get bytes_eq known.old stamp.now) [] }
@@ -53,6 +57,9 @@ fn go_on<W: Walk>(
     let alloc = *known.allocator();
     let mut here = from.copy(alloc)?;
     for _ in 0..MOST_AHEAD {
+        if known.len() >= MOST_NOTED {
+            return Ok(());
+        }
         let mut states = take(alloc, known, &here.stamp);
         if states.len() >= here.lanes.len() {
             known.insert(here.stamp, states)?;
