@@ -1,11 +1,14 @@
 //! Every order of a plan.
 
-ghost use Rattle.std.specs.Prelude.{◌≡◌, Bool, true, IfOk};
+ghost use Rattle.std.specs.Prelude.{◌≡◌, ◌≤◌, Bool, true, false, IfOk};
 ghost use Rattle.cics_lanes.specs.Endings.{Parts};
+ghost use Rattle.cics_lanes.specs.Levels.{state_count};
 ghost use Rattle.cics_lanes.specs.Reports.{IsReport};
 ghost use Rattle.cics_plans.specs.Proper.{is_proper};
 ghost use Rattle.cics_orders.specs.Giving.{State, lanes, initial_state, line_count};
 ghost use Rattle.cics_orders.specs.Same.{SameState};
+ghost use Rattle.cics_orders.specs.Stamps.{state_stamp};
+ghost use Rattle.cics_orders.specs.Turns.{breaks};
 
 use crate::walks::Walker;
 use cics_lanes::{Progress, Report, Walk, explore};
@@ -135,12 +138,11 @@ impl<T: Tells> Walk for Following<T> {
 ///
 /// If the report is whole, the endings are those of all orders. Each stands once, with the first
 /// order that leads to it, and how many orders and serial orders do. They stand in the order of
-/// their first orders.
+/// their first orders. `limit` and `progress` are those of `explore`.
 ///
 /// Errors: `NoMemory`.
 ///
-/// Cost: the first order that leads to each state is run from the start, once for each lane that
-/// may give then.
+/// Cost: that of `explore`.
 pub fn explore_script<T: Tells + Drop, P: Progress>(
     alloc: Global,
     told: ToldPlan<T>,
@@ -148,8 +150,13 @@ pub fn explore_script<T: Tells + Drop, P: Progress>(
     progress: &mut P,
 ) -> Result<Report, NoMemory>
     requires { is_proper told.plan ≡ true }
-    ensures { IfOk result (λ report. IsReport lanes T.told (λ s. s.is_serial)
+    ensures report { IfOk result (λ report. IsReport lanes T.told (λ s. s.is_serial)
         (line_count told.plan) (initial_state told.plan) report) }
+    ensures within { IfOk result (λ report. state_count lanes breaks (state_stamp T.all) false
+        (initial_state told.plan) (line_count told.plan) ≤ limit → report.is_whole ≡ true) }
+    ensures serial_within { IfOk result (λ report. state_count lanes breaks (state_stamp T.all)
+        true (initial_state told.plan) (line_count told.plan) ≤ limit →
+        report.has_all_serial ≡ true) }
 {
     let mut walk = Following {
         walker: Walker::new(alloc, told.plan)?,

@@ -1,13 +1,34 @@
-use Rattle.std.proofs.Common.{◌≡◌, ap, ◌∙◌, subst}
+use Rattle.std.proofs.Common.{◌≡◌, ◌≤◌, ap, ◌∙◌, subst, true, false}
 use Rattle.std.specs.Prelude.{IfOk}
+use Rattle.cics_lanes.specs.Levels.{state_count}
 use Rattle.cics_lanes.specs.Reports.{IsReport}
+use Rattle.cics_plans.specs.declared.plans.Plan.{Plan}
+use Rattle.cics_plans.specs.Proper.{is_proper}
 use Rattle.cics_orders.specs.Giving.{State, lanes, initial_state, line_count}
 use Rattle.cics_orders.specs.StampLaws.{start_of, proper_stays}
+use Rattle.cics_orders.specs.Stamps.{state_stamp}
+use Rattle.cics_orders.specs.Turns.{breaks}
 use Rattle.cics_orders.proofs.following.explore_script.Goals as goal
 
--- the walk starts in the initial state of the plan
-pub returns : goal.returns
+-- a walk starts in the initial state of its plan
+begins : (p : Plan) (s : State) → is_proper p ≡ true → s ≡ initial_state p → start_of s ≡ initial_state p
 unfolding initial_state
-returns g c =
-    let start : start_of (initial_state c.args.plan) ≡ initial_state c.args.plan = ap initial_state (proper_stays c.args.plan c.requires) in
-    subst (λ (s : State). IfOk c.explore.result (λ report. IsReport lanes g.T.Tells.told (λ s. s.is_serial) (line_count s.plan) s report)) (ap start_of c.in_ok-new.ensures ∙ start) c.explore.ensures.report
+begins p s proper is = ap start_of is ∙ ap initial_state (proper_stays p proper)
+
+pub returns-clause-report : goal.returns-clause-report
+unfolding initial_state
+returns-clause-report g c =
+    subst (λ (s : State). IfOk c.explore.result (λ report. IsReport lanes g.T.Tells.told (λ s. s.is_serial) (line_count s.plan) s report))
+    (begins c.args.told.plan _ c.requires c.in_ok-new.ensures) c.explore.ensures.report
+
+pub returns-clause-within : goal.returns-clause-within
+unfolding initial_state
+returns-clause-within g c =
+    subst (λ (s : State). IfOk c.explore.result (λ report. state_count lanes breaks (state_stamp g.T.Tells.all) false s (line_count s.plan) ≤ c.args.limit → report.is_whole ≡ true))
+    (begins c.args.told.plan _ c.requires c.in_ok-new.ensures) c.explore.ensures.within
+
+pub returns-clause-serial_within : goal.returns-clause-serial_within
+unfolding initial_state
+returns-clause-serial_within g c =
+    subst (λ (s : State). IfOk c.explore.result (λ report. state_count lanes breaks (state_stamp g.T.Tells.all) true s (line_count s.plan) ≤ c.args.limit → report.has_all_serial ≡ true))
+    (begins c.args.told.plan _ c.requires c.in_ok-new.ensures) c.explore.ensures.serial_within
