@@ -19,5 +19,5 @@ mod walks;
 
 pub use endings::Ending;
 pub use exploring::{Report, explore};
-pub use progress::{Progress, Silent, Stand};
+pub use progress::{Progress, Stand};
 pub use walks::Walk;

@@ -18,11 +18,3 @@ pub trait Progress {
     /// Takes where a search stands. It is called after each state that is followed.
     fn tell(&mut self, stand: Stand);
 }
-
-/// Doesn't tell how far a search is.
-#[derive(Drop)]
-pub struct Silent;
-
-impl Progress for Silent {
-    fn tell(&mut self, _stand: Stand) {}
-}

@@ -17,7 +17,7 @@ loop-preserved g c =
     let rs = c.take-states.result in
     let short : length rs < length here.lanes = omega arith in
     let lane = get_or here.lanes (length rs) 0 in
-    let given : c.give.new.self ≡ w.lanes.given c.loop.walk lane = c.in_ok-give.ensures ∙ ap (λ n. w.lanes.given c.loop.walk n) (λ i. get_or (c.as_slice.ensures i) (c.len-in-loop-2.ensures i) 0) in
+    let given : c.give.new.self ≡ w.lanes.given c.loop.walk lane = c.in_ok-give.ensures ∙ ap (λ n. w.lanes.given c.loop.walk n) (λ i. get_or (c.as_slice.ensures i) (c.len-in-loop-3.ensures i) 0) in
     record {
       start = ap w.start given ∙ w.start_stays c.loop.walk lane ∙ inv.start;
       met = met_more w.lanes w.breaks w.stamp w.ending b s (w.stamps_tell b t) c.loop.walk c.give.new.self (length rs) here.lanes inv.met (ap (λ r. r.lanes) inv.here) short given;
