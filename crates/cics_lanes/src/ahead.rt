@@ -3,9 +3,8 @@
 //! To go to a state takes each line of its first order. So a walk that is at a state goes on from
 //! there along lanes that were not tried yet. What it comes to is noted for later levels.
 
-ghost use Rattle.std.specs.Prelude.{◌≡◌, [], None, IfOk, OnOk, IfSome};
+ghost use Rattle.std.specs.Prelude.{◌≡◌, [], None, IfOk, OnOk};
 ghost use Rattle.std.specs.Option.{unwrap_or};
-ghost use Rattle.std.specs.Map.{lookup};
 ghost use Rattle.std.specs.Str.{bytes_eq};
 ghost use Rattle.indexmap.specs.IndexMap.{get, UpdatesBy};
 ghost use Rattle.cics_lanes.specs.Orders.{after};
@@ -18,17 +17,17 @@ use cics_names::{Items, NoMemory};
 use indexmap::IndexMap;
 use std::alloc::Global;
 
-/// The states that the first lanes of states lead to, by the stamps of these.
+/// By the stamp of a state: what its first lanes lead to, in their order.
 pub(crate) type Known = IndexMap<Stamp, Items<Reached>>;
 
 // The most lines that a walk goes on.
 const MOST_AHEAD: usize = 6;
 
-// How many states may be noted: where there are as many, walks don't go on. Those that a limit
-// leaves out stay noted, so this bounds the memory.
+// How many states may have a note. If so many have one, walks don't go on. Notes of states that a
+// limit leaves out are never taken away, so this bounds the memory.
 const MOST_NOTED: usize = 20_000;
 
-// Takes what is known of the states of a stamp.
+// Removes and returns what is known of the states of a stamp.
 fn take(alloc: Global, known: &mut Known, stamp: &Stamp) -> Items<Reached>
     ensures found { result ≡ unwrap_or (get bytes_eq known.old stamp.now) [] }
     ensures taken { UpdatesBy bytes_eq (bytes_eq stamp.now) known.old known.new None }
@@ -39,7 +38,8 @@ fn take(alloc: Global, known: &mut Known, stamp: &Stamp) -> Items<Reached>
     }
 }
 
-// Goes on from the state of a walk along lanes that aren't known yet.
+// Goes on from the state of a walk, at each state along its first lane that isn't known yet. Notes
+// what it comes to.
 fn go_on<W: Walk>(
     walk: &mut W,
     known: &mut Known,
@@ -57,6 +57,9 @@ fn go_on<W: Walk>(
     let alloc = *known.allocator();
     let mut here = from.copy(alloc)?;
     for _ in 0..MOST_AHEAD {
+        if here.has_ended {
+            return Ok(());
+        }
         if known.len() >= MOST_NOTED {
             return Ok(());
         }
@@ -75,7 +78,10 @@ fn go_on<W: Walk>(
 }
 
 impl Led {
-    /// Returns the states that its lanes lead to. `stamp` is that of its state. Errors: `NoMemory`.
+    /// Returns the states that its lanes lead to. `stamp` is that of its state. Removes what is
+    /// known of it, and notes what the walk comes to behind these states.
+    ///
+    /// Errors: `NoMemory`.
     pub(crate) fn lead_on<W: Walk>(
         &self,
         walk: &mut W,

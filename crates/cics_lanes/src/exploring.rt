@@ -1,6 +1,6 @@
 //! Follows orders level by level, and counts those that lead to each ending.
 
-ghost use Rattle.std.specs.Prelude.{◌≡◌, ◌≤◌, ◌<◌, ◌+◌, [], ◌∷◌, ◌++◌, map, ℕ};
+ghost use Rattle.std.specs.Prelude.{◌≡◌, ◌≤◌, ◌<◌, ◌+◌, map, ℕ};
 ghost use Rattle.std.specs.Prelude.{true, false, IfOk, OnOk};
 ghost use Rattle.std.specs.Str.{bytes_eq};
 ghost use Rattle.cics_lanes.specs.Endings.{are_same};
@@ -39,7 +39,8 @@ struct Search {
     alloc: Global,
     // Whether it follows serial orders alone.
     is_serial: bool,
-    // How many states its levels may have, before it follows only some of each.
+    // How many states in which a lane may give its levels may have, before it follows only some of
+    // each.
     limit: u64,
     // How many of each level it follows then.
     share: u64,
@@ -116,7 +117,7 @@ impl Search {
         }
     }
 
-    // Counts so many states of a level. Returns which of them are followed.
+    // Counts so many states in which a lane may give. Returns which of them are followed.
     fn thin(&mut self, count: usize) -> Thinning
         ensures over { result.is_over ≡ true → self.old.limit < self.old.met + count }
         ensures met { self.new.met ≤ self.old.met + count }
@@ -158,8 +159,8 @@ impl Search {
         for reached in states.into_vec() {
             let first = with_lane(self.alloc, led.first.as_slice(), lanes[at])?;
             at += 1;
-            let (stamp, led) = reached.led_by(first, led.count);
-            add(next, stamp, led)?;
+            let (key, further) = reached.led_by(first, led.count);
+            add(next, key, further)?;
         }
         Ok(())
     }
@@ -282,14 +283,16 @@ impl Search {
 /// orders is kept. Each ending stands once, with the first order that leads to it, and how many
 /// orders and serial orders do. Serial orders are followed by themselves.
 ///
-/// If the levels have more than `limit` states, only some of each level are followed from there on.
-/// Then the report isn't whole: its endings are those of some orders, and numbers are lower bounds.
+/// If more than `limit` states have a lane that may give, only some of each level are followed from
+/// there on. Then the report isn't whole: its endings are those of some orders, and numbers are
+/// lower bounds.
 ///
-/// `progress` is told after each state that is followed how far the search is.
+/// Tells `progress` how far the search is, after each state that is followed.
 ///
 /// Errors: `NoMemory`.
 ///
-/// Cost: O(states * lanes * lines) lines that are given, and O(states * lanes) stamps.
+/// Cost: at most O(states * lanes * lines) lines that are given, O(states * lanes) restarts, and as
+/// many stamps. A state that a walk reached ahead takes no restart.
 pub fn explore<W: Walk, P: Progress>(
     alloc: Global,
     walk: &mut W,

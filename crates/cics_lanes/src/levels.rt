@@ -1,7 +1,8 @@
 //! The states that orders lead to, level by level, states of one stamp once.
 //!
 //! A *level* has the states after orders of so many lines, in the order of their first orders. No
-//! state is kept: it is made again by its first order from the start.
+//! state is kept. It is made again by its first order from the start, unless it is known where each
+//! of its lanes leads (`ahead`).
 
 ghost use Rattle.std.specs.Prelude.{◌≡◌, [], ◌∷◌, ◌++◌, List, IfOk, OnOk};
 ghost use Rattle.cics_lanes.specs.Orders.{after};

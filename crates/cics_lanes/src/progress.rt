@@ -5,7 +5,7 @@
 pub struct Stand {
     /// Whether it follows serial orders alone.
     pub is_serial: bool,
-    /// The number of lines after which its states are.
+    /// How many lines led to the states that it follows now.
     pub level: usize,
     /// The most lines of an order.
     pub levels: usize,
@@ -13,8 +13,9 @@ pub struct Stand {
     pub states: u64,
 }
 
-/// Is told how far a search is.
+/// Takes reports on how far a search is.
 pub trait Progress {
-    /// Takes where a search stands. It is called after each state that is followed.
+    /// Takes where a search stands. It is called after each state that is followed, or taken over
+    /// into the next level because no lane may give there.
     fn tell(&mut self, stand: Stand);
 }

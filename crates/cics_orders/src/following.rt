@@ -42,7 +42,9 @@ pub trait Tells {
 /// A plan, and what tells its endings.
 #[derive(Drop)]
 pub struct ToldPlan<T> {
+    /// The plan whose orders are followed.
     pub plan: Plan,
+    /// What tells an ending.
     pub teller: T,
 }
 

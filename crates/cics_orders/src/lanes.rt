@@ -69,6 +69,7 @@ impl Lane {
         requires { self.old.given < length self.old.lines }
         ensures { self.new ≡ with_given self.old ends_turn }
     {
+        // By this the prover sees that the count can't overflow.
         let _left = self.lines.as_slice().len();
         self.given += 1;
         self.is_in_turn = self.label.is_some() && !ends_turn;

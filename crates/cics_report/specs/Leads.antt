@@ -51,7 +51,7 @@ pub record LeadsTo (p : Played) (m : Machine) (lines : List Bytes) : Type 0 wher
   pub accepts : AcceptsLines p lines
   pub region : region_of (fold next p lines).stage ≡ region_at m
 
--- what a title tells is of a report: its numbers are below 2^128, and its mark is one of endings
+-- the numbers of a title are below 2^128, and its mark is one that endings have
 pub record IsTitled (r : Report) (k : ℕ) (e : Reported) : Type 0 where
   pub number : k < 2 ^ 128
   pub endings : length r.endings < 2 ^ 128
@@ -59,8 +59,9 @@ pub record IsTitled (r : Report) (k : ℕ) (e : Reported) : Type 0 where
   pub serial : e.serial < 2 ^ 128
   pub mark : (b : Bool) × (mark_in e.ending ≡ mark b)
 
--- If a script is taken apart without a fault, and each lane of an order may give in its turn, the
--- plain run of the order's script leads where the order does.
+-- A script is taken apart without a fault, each lane of an order may give when its line comes, and
+-- the title's numbers are below 2^128. Then the plain run of the order's script leads where the
+-- order does.
 abbrev pub ScriptsLeadThere : Type 0
 ScriptsLeadThere =
     (script : List Bytes) (p : Planned) (r : Report) (k : ℕ) (e : Reported) → planned (taken_apart nothing_taken 1 script) ≡ Ok p →

@@ -3,7 +3,7 @@ use Rattle.std.proofs.Common.{◌≡◌, ◌<◌, ◌≤◌, ℕ, zero, suc, ◌
 use Rattle.std.proofs.lemmas.Option.{slice_get_within}
 use Rattle.std.specs.Prelude.{if◌then◌else◌, slice_get}
 use Rattle.cics_lanes.specs.Orders.{Order, after, IsWay, orders}
-use Rattle.cics_lanes.specs.Endings.{Run, Reported, are_same, firsts, run_to, joined_of}
+use Rattle.cics_lanes.specs.Endings.{Run, Reported, are_same, firsts, run_to, reported_of_both}
 use Rattle.cics_lanes.specs.Reports.{runs}
 use Rattle.cics_lanes.specs.declared.exploring.Report.{Report}
 use Rattle.cics_lanes.proofs.Regrouping.{Each}
@@ -64,10 +64,10 @@ module _ (p : Plan) (with_told : Bool) where
       (are_runs is.followed (each_among (IsWay lanes (initial_state p)) is.followed all is.among all_ways))
       (are_runs is.serially (each_among (IsWay lanes (initial_state p)) is.serially (filter (λ o. (comes_to o).is_serial) all) is.serially_among serial_ways)) in
       subst (Each IsEnding) (sym is.endings)
-      (each_mapped IsEnding (joined_of rs ss) (firsts (rs ++ ss))
-      (each_on IsRun (λ x. IsEnding (joined_of rs ss x)) (firsts (rs ++ ss)) (joins rs ss) (are_firsts (rs ++ ss) found)))
+      (each_mapped IsEnding (reported_of_both rs ss) (firsts (rs ++ ss))
+      (each_on IsRun (λ x. IsEnding (reported_of_both rs ss x)) (firsts (rs ++ ss)) (joins rs ss) (are_firsts (rs ++ ss) found)))
     where
-      joins : (rs ss : List Run) (x : Run) → IsRun x → IsEnding (joined_of rs ss x)
+      joins : (rs ss : List Run) (x : Run) → IsRun x → IsEnding (reported_of_both rs ss x)
       joins rs ss x is = record { way = is.0; told = is.1; orders = omega arith; serial = omega arith }
 
   -- the ending of a number

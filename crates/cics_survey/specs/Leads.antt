@@ -14,8 +14,8 @@ use Rattle.cics_report.specs.Reporting.{ending_at, script_at}
 use Rattle.cics_report.specs.Leads.{LeadsTo}
 use Rattle.cics_survey.specs.Surveys.{told_of, IsReportOf}
 
--- A text is a script of an ending: the ending tells the state after its order, and the plain run of
--- the script has no fault, refuses no line of a task, and comes to the region of that state.
+-- A text is a script of an ending. The ending tells the state after its order. The plain run has no
+-- fault, refuses no line of a task, and comes to the region of that state.
 pub record LeadsToEnding (p : Plan) (with_told : Bool) (e : Reported) (text : List ℕ) : Type 0 where
   pub told : e.ending ≡ told_of with_told (after lanes (initial_state p) e.order)
   pub leads : LeadsTo start (after lanes (initial_state p) e.order).machine (all_lines text)

@@ -2,8 +2,9 @@
 
 ghost use Rattle.cics_survey.specs.Leads.{EndingScriptsLeadThere};
 
-/// The script of an ending, as `run_orders` writes it, leads to this ending. Its plain run has no
-/// fault, refuses no line of a task, and comes to the region that the ending tells.
+/// The script of an ending, as `Surveyor::run_orders` writes it, leads to the state that the ending
+/// tells. Its plain run has no fault, refuses no line of a task, and comes to the region of that
+/// state.
 pub fn ending_scripts_lead_there()
     ensures { EndingScriptsLeadThere }
 {}

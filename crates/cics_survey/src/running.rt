@@ -82,7 +82,7 @@ impl<P: Progress> Surveyor<P> {
     ///
     /// It reads at most `LIMIT` bytes, and one more to see whether there are more, and writes when
     /// all orders are followed. Of a script with a fault it writes the line that a run writes of
-    /// it. It tells `progress` how far it is after each state that is followed.
+    /// it. Tells `progress` how far it is, after each state that is followed.
     ///
     /// Errors: those of `run_over`. It returns a read or a write fault only if that very call
     /// failed, and tries none again. Cost: that of `survey_script`, and O(endings) for each ending.

@@ -4,7 +4,7 @@
 
 mod progress;
 
-use crate::progress::Lines;
+use crate::progress::ProgressLines;
 use cics_draw::{NoPicture, run_picture};
 use cics_run::{
     Asked, Options, Orders, RunFault, Session, Status, Wanted, arguments, exit_status, run_over,
@@ -90,7 +90,7 @@ fn follow_orders(rt: HostRuntime, wanted: Orders, has_progress: bool) -> ExitCod
     }
     let mut surveyor = Surveyor {
         alloc: rt.alloc(),
-        progress: Lines::new(rt, has_progress),
+        progress: ProgressLines::new(rt, has_progress),
     };
     match surveyor.run_orders(&mut script.as_slice(), &mut rt.stdout(), wanted) {
         Ok(Surveyed::Done) => ended(rt, Ok(exit_status(&Ok(Status::Done)))),

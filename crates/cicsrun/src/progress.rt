@@ -6,27 +6,27 @@ use std::time::Instant;
 // How many seconds pass at least between two lines.
 const PAUSE: u64 = 1;
 
-/// Prints how far a search is, if that is wanted and the clock can be read.
+/// Prints lines that say how far a search is, if that is wanted and the clock can be read.
 #[derive(Drop)]
-pub(crate) struct Lines {
+pub(crate) struct ProgressLines {
     rt: HostRuntime,
     // When the search began, or the last line was printed.
     last: Option<Instant>,
 }
 
-impl Lines {
+impl ProgressLines {
     /// Returns the lines of a search that begins now.
-    pub(crate) fn new(rt: HostRuntime, are_wanted: bool) -> Lines {
+    pub(crate) fn new(rt: HostRuntime, are_wanted: bool) -> ProgressLines {
         let last = if are_wanted {
             Instant::now(&rt).ok()
         } else {
             None
         };
-        Lines { rt, last }
+        ProgressLines { rt, last }
     }
 }
 
-impl Progress for Lines {
+impl Progress for ProgressLines {
     // A line that can't be printed is left out.
     fn tell(&mut self, stand: Stand) {
         let Some(last) = self.last else {
