@@ -159,8 +159,8 @@ impl Search {
         for reached in states.into_vec() {
             let first = with_lane(self.alloc, led.first.as_slice(), lanes[at])?;
             at += 1;
-            let (key, further) = reached.led_by(first, led.count);
-            add(next, key, further)?;
+            let (stamp, led) = reached.led_by(first, led.count);
+            add(next, stamp, led)?;
         }
         Ok(())
     }
