@@ -15,23 +15,24 @@ use std::collections::BTreeMap;
 use std::collections::btree_map::Values;
 use std::marker::Model;
 
-/// A waiting command.
-pub struct Suspended {
+// The parts of a waiting command.
+#[derive(Drop)]
+struct Wait {
     label: Name8,
     command: Command,
     op: Option<Op>,
     since: u64,
 }
 
+/// A waiting command. It is boxed: to add and to remove waits moves many of them.
+pub struct Suspended {
+    wait: Box<Wait>,
+}
+
 // By hand: so each place that drops a wait is one call, not a drop of each field.
 impl Drop for Suspended {
     fn drop(self) {
-        let Suspended {
-            label: _label,
-            command: _command,
-            op: _op,
-            since: _since,
-        } = self;
+        let Suspended { wait: _wait } = self;
     }
 }
 
@@ -41,10 +42,10 @@ impl Model for Suspended {
     ghost Value = { SuspendedValue };
 
     ghost view = { λ w. record {
-      label = w.label;
-      command = w.command;
-      op = w.op;
-      since = w.since;
+      label = w.wait.value.label;
+      command = w.wait.value.command;
+      op = w.wait.value.op;
+      since = w.wait.value.since;
     } };
 }
 
@@ -53,28 +54,28 @@ impl Suspended {
     pub fn label(&self) -> Name8
         ensures { result ≡ self.now.label }
     {
-        self.label
+        self.wait.label
     }
 
     /// Returns the whole command.
     pub fn command(&self) -> &Command
         ensures { result.now ≡ self.now.command }
     {
-        &self.command
+        &self.wait.command
     }
 
     /// Returns the updating command that it asks for. `None` for an ENQ, which asks for none.
     pub fn op(&self) -> Option<&Op>
         ensures { option_copied result ≡ self.now.op }
     {
-        self.op.as_ref()
+        self.wait.op.as_ref()
     }
 
     /// Returns the clock when the wait began, in seconds.
     pub fn since(&self) -> u64
         ensures { result ≡ self.now.since }
     {
-        self.since
+        self.wait.since
     }
 }
 
@@ -219,13 +220,14 @@ impl Waits {
         if self.numbers.reserve(1).is_err() {
             return Err(NoMemory);
         }
-        let suspended = Suspended {
+        let wait = Wait {
             label,
             command,
             op,
             since,
         };
-        add(&mut self.rows, number, suspended)?;
+        let wait = Box::new(*self.numbers.allocator(), wait)?;
+        add(&mut self.rows, number, Suspended { wait })?;
         let _ = self.numbers.insert(label, number);
         Ok(())
     }
