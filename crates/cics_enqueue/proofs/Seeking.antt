@@ -2,7 +2,6 @@
 use Rattle.std.proofs.Common.{Bor, ◌≡◌, ℕ, ◌&&◌, ◌==◌, Bool, true, false, cond, Option, Some, None, [], ◌∷◌, ◌++◌, length, suc, All, arith, refl, sym, ap, subst, ◌∙◌, inl, inr, append_assoc, ◌<◌, zero}
 use Rattle.std.specs.Bool.{OnFalse}
 use Rattle.std.specs.Prelude.{slice_get, is_some, option_map, drop, filter, if◌then◌else◌}
-use Rattle.std.specs.Global.{Vec}
 use Rattle.std.specs.Map.{keys_of, lookup}
 use Rattle.std.specs.List.{AllByRecursion}
 use Rattle.std.specs.List.Sorted.{IsStrictlySortedBy}
@@ -25,7 +24,7 @@ use Rattle.cics_history.specs.Holding.{is_other}
 use Rattle.cics_ksds.specs.Prefixes.{has_prefix}
 use Rattle.cics_enqueue.specs.Table.{Table, Held, holder_over, resource_key, is_under, first_that, first_of, lesser, least_under, other_than, holder_of, holder_of_shorter}
 use Rattle.cics_enqueue.specs.Order.{resource_of}
-use Rattle.cics_enqueue.proofs.Tables.{key_found, holder_of-table_of, unheld}
+use Rattle.cics_enqueue.proofs.Tables.{holder_of-table_of, unheld}
 
 -- ---- bytes that begin with others
 pub has_prefix-trans : (a b c : Bytes) → has_prefix a b ≡ true → has_prefix b c ≡ true → has_prefix a c ≡ true
@@ -82,32 +81,32 @@ passed (x ∷ s) (y ∷ k) (z ∷ b) above other below = elim (cases_Bool (x == 
 -- ---- entries that rise
 abbrev pub Above : Bytes → Entries → Type 0
 Above k [] = Unit {0}
-Above k (e ∷ es) = (bytes_cmp k e.0.items ≡ Less) × Above k es
+Above k (e ∷ es) = (bytes_cmp k e.0 ≡ Less) × Above k es
 
 abbrev pub Rises : Entries → Type 0
 Rises [] = Unit {0}
-Rises (e ∷ es) = Above e.0.items es × Rises es
+Rises (e ∷ es) = Above e.0 es × Rises es
 
 pub rises_sorted : (es : Entries) → IsStrictlySortedBy key_cmp (keys_of es) → Rises es
 unfolding IsStrictlySortedBy
 rises_sorted [] h = tt
 rises_sorted (e ∷ es) h = (above es h.0, rises_sorted es h.1)
   where
-    above : (fs : Entries) → AllByRecursion (λ y. key_cmp e.0 y ≡ Less) (keys_of fs) → Above e.0.items fs
+    above : (fs : Entries) → AllByRecursion (λ y. key_cmp e.0 y ≡ Less) (keys_of fs) → Above e.0 fs
     above [] g = tt
     above (f ∷ fs) g = (g.0, above fs g.1)
 
-module _ (p : Vec ℕ × Holding → Bool) where
+module _ (p : Bytes × Holding → Bool) where
   Above-filter : (k : Bytes) (es : Entries) → Above k es → Above k (filter p es)
   Above-filter k [] h = tt
   Above-filter k (e ∷ es) h = elim (p e) as (λ b. Above k (cond b (e ∷ filter p es) (filter p es))) [ true ↦ (h.0, Above-filter k es h.1) | false ↦ Above-filter k es h.1 ]
 
   pub Rises-filter : (es : Entries) → Rises es → Rises (filter p es)
   Rises-filter [] h = tt
-  Rises-filter (e ∷ es) h = elim (p e) as (λ b. Rises (cond b (e ∷ filter p es) (filter p es))) [ true ↦ (Above-filter e.0.items es h.0, Rises-filter es h.1) | false ↦ Rises-filter es h.1 ]
+  Rises-filter (e ∷ es) h = elim (p e) as (λ b. Rises (cond b (e ∷ filter p es) (filter p es))) [ true ↦ (Above-filter e.0 es h.0, Rises-filter es h.1) | false ↦ Rises-filter es h.1 ]
 
   -- what is left out would not pass
-  pub first_entry-filter : (test : Vec ℕ × Holding → Bool) → ((e : Vec ℕ × Holding) → p e ≡ false → test e ≡ false) → (es : Entries) → first_entry test (filter p es) ≡ first_entry test es
+  pub first_entry-filter : (test : Bytes × Holding → Bool) → ((e : Bytes × Holding) → p e ≡ false → test e ≡ false) → (es : Entries) → first_entry test (filter p es) ≡ first_entry test es
   first_entry-filter test out [] = refl
   first_entry-filter test out (e ∷ es) = elim (p e) as (λ b. p e ≡ b → first_entry test (cond b (e ∷ filter p es) (filter p es)) ≡ first_entry test (e ∷ es)) [
     | true ↦ λ t. ap (λ o. if test e then Some e else o) (first_entry-filter test out es)
@@ -118,21 +117,21 @@ module _ (p : Vec ℕ × Holding → Bool) where
 pub first_entry-passed : (start k : Bytes) (asker : Option ℕ) (es : Entries) → is_lt (bytes_cmp start k) ≡ true → has_prefix start k ≡ false → Above k es → first_entry (is_others_under start asker) es ≡ None
 first_entry-passed start k asker [] above other h = refl
 first_entry-passed start k asker (e ∷ es) above other h =
-    ap (λ b. if b && is_other asker e.1.unit then Some e else first_entry (is_others_under start asker) es) (passed start k e.0.items above other h.0)
+    ap (λ b. if b && is_other asker e.1.unit then Some e else first_entry (is_others_under start asker) es) (passed start k e.0 above other h.0)
     ∙ first_entry-passed start k asker es above other h.1
 
 -- the first entry passes, or it doesn't
-pub first_entry-here : (test : Vec ℕ × Holding → Bool) (e : Vec ℕ × Holding) (es : Entries) → test e ≡ true → first_entry test (e ∷ es) ≡ Some e
+pub first_entry-here : (test : Bytes × Holding → Bool) (e : Bytes × Holding) (es : Entries) → test e ≡ true → first_entry test (e ∷ es) ≡ Some e
 first_entry-here test e es y = ap (λ b. if b then Some e else first_entry test es) y
 
-pub first_entry-past : (test : Vec ℕ × Holding → Bool) (e : Vec ℕ × Holding) (es : Entries) → test e ≡ false → first_entry test (e ∷ es) ≡ first_entry test es
+pub first_entry-past : (test : Bytes × Holding → Bool) (e : Bytes × Holding) (es : Entries) → test e ≡ false → first_entry test (e ∷ es) ≡ first_entry test es
 first_entry-past test e es n = ap (λ b. if b then Some e else first_entry test es) n
 
 -- what a look-up leaves out before its bound doesn't begin with what is asked for
-pub before_bound : (from start : Bytes) (asker : Option ℕ) → has_prefix from start ≡ true → (e : Vec ℕ × Holding) → (is_le (bytes_cmp from e.0.items) && true) ≡ false → is_others_under start asker e ≡ false
-before_bound from start asker bound e out = elim (cases_Bool (has_prefix start e.0.items)) [
+pub before_bound : (from start : Bytes) (asker : Option ℕ) → has_prefix from start ≡ true → (e : Bytes × Holding) → (is_le (bytes_cmp from e.0) && true) ≡ false → is_others_under start asker e ≡ false
+before_bound from start asker bound e out = elim (cases_Bool (has_prefix start e.0)) [
   | inl y ↦
-      let inside : is_le (bytes_cmp from e.0.items) ≡ true = has_prefix-le from e.0.items (has_prefix-trans from start e.0.items bound y) in
+      let inside : is_le (bytes_cmp from e.0) ≡ true = has_prefix-le from e.0 (has_prefix-trans from start e.0 bound y) in
       let wrong : true ≡ false = sym (ap (λ b. b && true) inside) ∙ out in cc
   | inr n ↦ ap (λ b. b && is_other asker e.1.unit) n
 ]
@@ -146,15 +145,15 @@ module _ (b first rest : Bytes) (kind : ℕ) (is : first ≡ kind ∷ rest) (oth
   above_zero : nat_cmp kind 0 ≡ Greater
   above_zero = ap (λ t. cond t Less (cond (kind == 0) Equal Greater)) (le-ltb kind 0 (omega arith)) ∙ ap (λ t. cond t Equal Greater) other
 
-  apart : (k : Vec ℕ) → is_gt (bytes_cmp first k.items) ≡ false → finds (0 ∷ b) k ≡ false
+  apart : (k : Bytes) → is_gt (bytes_cmp first k) ≡ false → finds (0 ∷ b) k ≡ false
   apart k below = elim (cases_Bool (finds (0 ∷ b) k)) [
     | inl y ↦
-        let greater : is_gt (bytes_cmp first k.items) ≡ true = (λ i. is_gt (bytes_cmp (is i) (sym (is_same-eq (0 ∷ b) k.items y) i))) ∙ ap (λ o. is_gt (ordering_then o (bytes_cmp rest b))) above_zero in
+        let greater : is_gt (bytes_cmp first k) ≡ true = (λ i. is_gt (bytes_cmp (is i) (sym (is_same-eq (0 ∷ b) k y) i))) ∙ ap (λ o. is_gt (ordering_then o (bytes_cmp rest b))) above_zero in
         let wrong : true ≡ false = sym greater ∙ below in cc
     | inr n ↦ n
   ]
 
-  pub none_of_kind : (es : Entries) → All (λ k. is_gt (bytes_cmp first k.items) ≡ false) (keys_of es) → lookup (finds (0 ∷ b)) es ≡ None
+  pub none_of_kind : (es : Entries) → All (λ k. is_gt (bytes_cmp first k) ≡ false) (keys_of es) → lookup (finds (0 ∷ b)) es ≡ None
   none_of_kind [] least = refl
   none_of_kind (e ∷ es) least = ap (λ t. cond t (Some e.1) (lookup (finds (0 ∷ b)) es)) (apart e.0 (least 0 e.0 (omega arith))) ∙ none_of_kind es (λ k d lt. least (suc k) d (omega (arith, lt)))
 
@@ -169,8 +168,8 @@ on_false_by false h = h refl
 
 -- ---- what the table says of a look-up
 -- an entry as the table has it
-abbrev pub entry_of : Vec ℕ × Holding → Resource × Held
-entry_of e = (resource_of e.0.items, seen e.1)
+abbrev pub entry_of : Bytes × Holding → Resource × Held
+entry_of e = (resource_of e.0, seen e.1)
 
 pub first_that-table_of : (start : Resource) (key : Bytes) → key ≡ resource_key start → (asker : Option ℕ) (es : Entries) → AreKeys es →
     first_that (λ e. is_under start e.0 && is_other asker e.1.unit) (table_of es) ≡ option_map entry_of (first_entry (is_others_under key asker) es)
@@ -182,11 +181,11 @@ first_that-table_of start key is asker (e ∷ es) sound =
       | false ↦ first_that-table_of start key is asker es sound.1
     ]
 
-IsSoundEntry : Option (Vec ℕ × Holding) → Type 0
+IsSoundEntry : Option (Bytes × Holding) → Type 0
 IsSoundEntry None = Unit {0}
-IsSoundEntry (Some e) = resource_key (resource_of e.0.items) ≡ e.0.items
+IsSoundEntry (Some e) = resource_key (resource_of e.0) ≡ e.0
 
-first_entry-sound : (test : Vec ℕ × Holding → Bool) (es : Entries) → AreKeys es → IsSoundEntry (first_entry test es)
+first_entry-sound : (test : Bytes × Holding → Bool) (es : Entries) → AreKeys es → IsSoundEntry (first_entry test es)
 unfolding IsSoundEntry
 first_entry-sound test [] sound = tt
 first_entry-sound test (e ∷ es) sound = elim (test e) as (λ b. IsSoundEntry (if b then Some e else first_entry test es)) [ true ↦ sound.0 | false ↦ first_entry-sound test es sound.1 ]
@@ -197,14 +196,14 @@ unit_of e = e.1.unit
 abbrev second_of : Bytes × ℕ → ℕ
 second_of p = p.1
 
-lesser-shown : (a b : Option (Vec ℕ × Holding)) → IsSoundEntry a → IsSoundEntry b → option_map unit_of (lesser (option_map entry_of a) (option_map entry_of b)) ≡ option_map second_of (lesser_shown (option_map bytes_and_unit a) (option_map bytes_and_unit b))
+lesser-shown : (a b : Option (Bytes × Holding)) → IsSoundEntry a → IsSoundEntry b → option_map unit_of (lesser (option_map entry_of a) (option_map entry_of b)) ≡ option_map second_of (lesser_shown (option_map bytes_and_unit a) (option_map bytes_and_unit b))
 unfolding IsSoundEntry
 lesser-shown None None x y = refl
 lesser-shown None (Some e) x y = refl
 lesser-shown (Some d) None x y = refl
 lesser-shown (Some d) (Some e) x y =
     ap (λ b. option_map unit_of (if b then Some (entry_of e) else Some (entry_of d))) (λ i. is_below (drop 1 (y i)) (drop 1 (x i)))
-    ∙ elim (is_below (drop 1 e.0.items) (drop 1 d.0.items)) as (λ b. option_map unit_of (if b then Some (entry_of e) else Some (entry_of d)) ≡ option_map second_of (if b then Some (bytes_and_unit e) else Some (bytes_and_unit d))) [ true ↦ refl | false ↦ refl ]
+    ∙ elim (is_below (drop 1 e.0) (drop 1 d.0)) as (λ b. option_map unit_of (if b then Some (entry_of e) else Some (entry_of d)) ≡ option_map second_of (if b then Some (bytes_and_unit e) else Some (bytes_and_unit d))) [ true ↦ refl | false ↦ refl ]
 
 -- the least key or prefix that begins with a prefix
 pub least_under-shown : (f p : Bytes) (asker : Option ℕ) (es : Entries) → AreKeys es → (key prefix : Bytes) → key ≡ resource_key (FileKey f (bytes_of p)) → prefix ≡ resource_key (FilePrefix f (bytes_of p)) →
@@ -222,15 +221,14 @@ other_than-table_of r key is asker es sound = ap (other_than asker) (holder_of-t
     step (Some h) = refl
 
 -- if no other unit owns a key, none owns a resource
-pub alone-table_of : (es : Entries) (own : Owned) (asker : Option ℕ) → IsKept es own → ((u : ℕ) (k : Vec ℕ) → is_other asker u ≡ true → owns own u k ≡ false) → (s : Resource) → other_than asker (holder_of s (table_of es)) ≡ None
+pub alone-table_of : (es : Entries) (own : Owned) (asker : Option ℕ) → IsKept es own → ((u : ℕ) (k : Bytes) → is_other asker u ≡ true → owns own u k ≡ false) → (s : Resource) → other_than asker (holder_of s (table_of es)) ≡ None
 alone-table_of es own asker kept alone s = other_than-table_of s (resource_key s) refl asker es kept.keys ∙ step (lookup (finds (resource_key s)) es) refl
   where
     step : (o : Option Holding) → lookup (finds (resource_key s)) es ≡ o → others_unit asker o ≡ None
     step None at = refl
     step (Some h) at = elim (is_other asker h.unit) as (λ b. is_other asker h.unit ≡ b → (if b then Some h.unit else None) ≡ None) [
       | true ↦ λ other.
-          let k = key_found (resource_key s) h es at in
-          let own_key : is_units h.unit (Some h) ≡ false = sym (ap (is_units h.unit) (ap (λ b. lookup (finds b) es) k.1 ∙ at)) ∙ unheld es own h.unit k.0 kept.owned (alone h.unit k.0 other) in
+          let own_key : is_units h.unit (Some h) ≡ false = sym (ap (is_units h.unit) at) ∙ unheld es own h.unit (resource_key s) kept.owned (alone h.unit (resource_key s) other) in
           let wrong : true ≡ false = sym (eq-eqb h.unit h.unit refl) ∙ own_key in cc
       | false ↦ λ same. refl
     ] refl

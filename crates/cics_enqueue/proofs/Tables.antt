@@ -8,7 +8,6 @@ use Rattle.std.specs.Cmp.Lexicographic.{nat_list_cmp_total}
 use Rattle.std.proofs.lemmas.Map.{lookup-none}
 use Rattle.std.proofs.lemmas.Map.Keys.{sorted_tail}
 use Rattle.std.proofs.lemmas.Map.Entries.{none_below_head}
-use Rattle.std.specs.Global.{Vec}
 use Rattle.std.specs.BTreeMap.{insert_entry}
 use Rattle.std.specs.Option.{unwrap_or}
 use Rattle.std.specs.declared.cmp.Ordering.TheVariants.{Less, Equal, Greater}
@@ -30,39 +29,39 @@ use Rattle.cics_enqueue.proofs.TableLaws.{taken-held, held_own, given_back-taken
 -- keys are ordered totally
 key_cmp_total : IsTotalOrder key_cmp
 key_cmp_total = record {
-  antisymm = λ x y. nat_list_cmp_total.antisymm x.items y.items;
-  trans = λ x y z. nat_list_cmp_total.trans x.items y.items z.items;
-  congr = λ x y z. nat_list_cmp_total.congr x.items y.items z.items;
+  antisymm = λ x y. nat_list_cmp_total.antisymm x y;
+  trans = λ x y z. nat_list_cmp_total.trans x y z;
+  congr = λ x y z. nat_list_cmp_total.congr x y z;
 }
 
 -- what is kept, put under its key once more, changes nothing
-pub insert_same : (es : Entries) (k : Vec ℕ) (v : Holding) → IsStrictlySortedBy key_cmp (keys_of es) → lookup (finds k.items) es ≡ Some v → insert_entry key_cmp es k v ≡ es
+pub insert_same : (es : Entries) (k : Bytes) (v : Holding) → IsStrictlySortedBy key_cmp (keys_of es) → lookup (finds k) es ≡ Some v → insert_entry key_cmp es k v ≡ es
 insert_same [] k v rises at = cc
 insert_same (e ∷ es) k v rises at =
-    let rest : lookup (finds k.items) es ≡ Some v → insert_entry key_cmp es k v ≡ es = insert_same es k v (sorted_tail key_cmp e.0 (keys_of es) rises) in
-    elim (key_cmp k e.0) as (λ c. key_cmp k e.0 ≡ c → cond (is_eq c) (Some e.1) (lookup (finds k.items) es) ≡ Some v → match_ordering c ((k, v) ∷ e ∷ es) ((e.0, v) ∷ es) (e ∷ insert_entry key_cmp es k v) ≡ e ∷ es) [
+    let rest : lookup (finds k) es ≡ Some v → insert_entry key_cmp es k v ≡ es = insert_same es k v (sorted_tail key_cmp e.0 (keys_of es) rises) in
+    elim (key_cmp k e.0) as (λ c. key_cmp k e.0 ≡ c → cond (is_eq c) (Some e.1) (lookup (finds k) es) ≡ Some v → match_ordering c ((k, v) ∷ e ∷ es) ((e.0, v) ∷ es) (e ∷ insert_entry key_cmp es k v) ≡ e ∷ es) [
       | Less ↦ λ less at.
-          let wrong : None ≡ Some v = sym (lookup-none (finds k.items) es (none_below_head key_cmp_total k e es rises less).1) ∙ at in cc
+          let wrong : None ≡ Some v = sym (lookup-none (finds k) es (none_below_head key_cmp_total k e es rises less).1) ∙ at in cc
       | Equal ↦ λ same at. let one : e.1 ≡ v = cc in ap (λ x. (e.0, x) ∷ es) (sym one)
       | Greater ↦ λ more at. ap (λ t. e ∷ t) (rest at)
     ] refl at
 
 -- if there are as many entries as before, the key had an entry
-pub insert_kept : (es : Entries) (k : Vec ℕ) (v w : Holding) → IsStrictlySortedBy key_cmp (keys_of es) → v ≡ unwrap_or (lookup (finds k.items) es) w → (if is_some (lookup (finds k.items) es) then 0 else 1) ≤ 0 → insert_entry key_cmp es k v ≡ es
-insert_kept es k v w rises is more = by (lookup (finds k.items) es) refl is more
+pub insert_kept : (es : Entries) (k : Bytes) (v w : Holding) → IsStrictlySortedBy key_cmp (keys_of es) → v ≡ unwrap_or (lookup (finds k) es) w → (if is_some (lookup (finds k) es) then 0 else 1) ≤ 0 → insert_entry key_cmp es k v ≡ es
+insert_kept es k v w rises is more = by (lookup (finds k) es) refl is more
   where
-    by : (o : Option Holding) → lookup (finds k.items) es ≡ o → v ≡ unwrap_or o w → (if is_some o then 0 else 1) ≤ 0 → insert_entry key_cmp es k v ≡ es
+    by : (o : Option Holding) → lookup (finds k) es ≡ o → v ≡ unwrap_or o w → (if is_some o then 0 else 1) ≤ 0 → insert_entry key_cmp es k v ≡ es
     by None at is more = absurd (omega arith)
     by (Some h) at is more = insert_same es k v rises (at ∙ ap Some (sym is))
 
 -- what was added under a key is removed again
-pub insert_undone : (es : Entries) (k : Vec ℕ) (v : Holding) → lookup (finds k.items) es ≡ None → remove_entry (finds k.items) (insert_entry key_cmp es k v) ≡ es
-insert_undone [] k v absent = ap (λ b. cond b [] ((k, v) ∷ [])) (is_same-self k.items)
+pub insert_undone : (es : Entries) (k : Bytes) (v : Holding) → lookup (finds k) es ≡ None → remove_entry (finds k) (insert_entry key_cmp es k v) ≡ es
+insert_undone [] k v absent = ap (λ b. cond b [] ((k, v) ∷ [])) (is_same-self k)
 insert_undone (e ∷ es) k v absent =
-    elim (key_cmp k e.0) as (λ c. key_cmp k e.0 ≡ c → cond (is_eq c) (Some e.1) (lookup (finds k.items) es) ≡ None → remove_entry (finds k.items) (match_ordering c ((k, v) ∷ e ∷ es) ((e.0, v) ∷ es) (e ∷ insert_entry key_cmp es k v)) ≡ e ∷ es) [
-      | Less ↦ λ less at. ap (λ b. cond b (e ∷ es) ((k, v) ∷ remove_entry (finds k.items) (e ∷ es))) (is_same-self k.items)
+    elim (key_cmp k e.0) as (λ c. key_cmp k e.0 ≡ c → cond (is_eq c) (Some e.1) (lookup (finds k) es) ≡ None → remove_entry (finds k) (match_ordering c ((k, v) ∷ e ∷ es) ((e.0, v) ∷ es) (e ∷ insert_entry key_cmp es k v)) ≡ e ∷ es) [
+      | Less ↦ λ less at. ap (λ b. cond b (e ∷ es) ((k, v) ∷ remove_entry (finds k) (e ∷ es))) (is_same-self k)
       | Equal ↦ λ same at. cc
-      | Greater ↦ λ more at. ap (λ c. cond (is_eq c) (insert_entry key_cmp es k v) (e ∷ remove_entry (finds k.items) (insert_entry key_cmp es k v))) more ∙ ap (λ t. e ∷ t) (insert_undone es k v at)
+      | Greater ↦ λ more at. ap (λ c. cond (is_eq c) (insert_entry key_cmp es k v) (e ∷ remove_entry (finds k) (insert_entry key_cmp es k v))) more ∙ ap (λ t. e ∷ t) (insert_undone es k v at)
     ] refl absent
 
 module _ (r : Resource) (key : Bytes) (is : key ≡ resource_key r) where
@@ -74,7 +73,7 @@ module _ (r : Resource) (key : Bytes) (is : key ≡ resource_key r) where
   pub held_at-table_of : (es : Entries) → AreKeys es → held_at r (table_of es) ≡ option_map seen (lookup (finds key) es)
   held_at-table_of [] sound = refl
   held_at-table_of (e ∷ es) sound =
-      ap (λ o. cond (is_eq o) (Some (seen e.1)) (held_at r (table_of es))) (sym (compares e.0.items sound.0))
+      ap (λ o. cond (is_eq o) (Some (seen e.1)) (held_at r (table_of es))) (sym (compares e.0 sound.0))
       ∙ step (finds key e.0) (held_at-table_of es sound.1)
     where
       step : (b : Bool) → held_at r (table_of es) ≡ option_map seen (lookup (finds key) es) → cond b (Some (seen e.1)) (held_at r (table_of es)) ≡ option_map seen (cond b (Some e.1) (lookup (finds key) es))
@@ -105,31 +104,31 @@ module _ (r : Resource) (key : Bytes) (is : key ≡ resource_key r) where
 
   -- ---- changes of one entry
   -- an entry is added in order
-  pub table_of-inserted : (k : Vec ℕ) (h : Holding) (es : Entries) → k.items ≡ key → AreKeys es → table_of (insert_entry key_cmp es k h) ≡ map_by.put resource_cmp r (seen h) (table_of es)
+  pub table_of-inserted : (k : Bytes) (h : Holding) (es : Entries) → k ≡ key → AreKeys es → table_of (insert_entry key_cmp es k h) ≡ map_by.put resource_cmp r (seen h) (table_of es)
   table_of-inserted k h [] same sound = ap (λ s. (s, seen h) ∷ []) (here k same)
     where
-      here : (k : Vec ℕ) → k.items ≡ key → resource_of k.items ≡ r
+      here : (k : Bytes) → k ≡ key → resource_of k ≡ r
       here k same = ap resource_of (same ∙ is) ∙ resource_of-resource_key r
   table_of-inserted k h (e ∷ es) same sound =
-      let o : bytes_cmp k.items e.0.items ≡ resource_cmp r (resource_of e.0.items) = ap (λ b. bytes_cmp b e.0.items) same ∙ compares e.0.items sound.0 in
-      let here : resource_of k.items ≡ r = ap resource_of (same ∙ is) ∙ resource_of-resource_key r in
+      let o : bytes_cmp k e.0 ≡ resource_cmp r (resource_of e.0) = ap (λ b. bytes_cmp b e.0) same ∙ compares e.0 sound.0 in
+      let here : resource_of k ≡ r = ap resource_of (same ∙ is) ∙ resource_of-resource_key r in
       let rest = table_of-inserted k h es same sound.1 in
-      elim (bytes_cmp k.items e.0.items) as (λ c. table_of (match_ordering c ((k, h) ∷ e ∷ es) ((e.0, h) ∷ es) (e ∷ insert_entry key_cmp es k h))
-      ≡ by_order c ((r, seen h) ∷ table_of (e ∷ es)) ((resource_of e.0.items, seen h) ∷ table_of es) ((resource_of e.0.items, seen e.1) ∷ map_by.put resource_cmp r (seen h) (table_of es))) [
+      elim (bytes_cmp k e.0) as (λ c. table_of (match_ordering c ((k, h) ∷ e ∷ es) ((e.0, h) ∷ es) (e ∷ insert_entry key_cmp es k h))
+      ≡ by_order c ((r, seen h) ∷ table_of (e ∷ es)) ((resource_of e.0, seen h) ∷ table_of es) ((resource_of e.0, seen e.1) ∷ map_by.put resource_cmp r (seen h) (table_of es))) [
         | Less ↦ ap (λ s. (s, seen h) ∷ table_of (e ∷ es)) here
         | Equal ↦ refl
-        | Greater ↦ ap (λ t. (resource_of e.0.items, seen e.1) ∷ t) rest
-      ] ∙ ap (λ c. by_order c ((r, seen h) ∷ table_of (e ∷ es)) ((resource_of e.0.items, seen h) ∷ table_of es) ((resource_of e.0.items, seen e.1) ∷ map_by.put resource_cmp r (seen h) (table_of es))) o
+        | Greater ↦ ap (λ t. (resource_of e.0, seen e.1) ∷ t) rest
+      ] ∙ ap (λ c. by_order c ((r, seen h) ∷ table_of (e ∷ es)) ((resource_of e.0, seen h) ∷ table_of es) ((resource_of e.0, seen e.1) ∷ map_by.put resource_cmp r (seen h) (table_of es))) o
 
-  pub AreKeys-inserted : (k : Vec ℕ) (h : Holding) (es : Entries) → k.items ≡ key → AreKeys es → AreKeys (insert_entry key_cmp es k h)
+  pub AreKeys-inserted : (k : Bytes) (h : Holding) (es : Entries) → k ≡ key → AreKeys es → AreKeys (insert_entry key_cmp es k h)
   AreKeys-inserted k h [] same sound = (own_key k same, tt)
     where
-      own_key : (k : Vec ℕ) → k.items ≡ key → resource_key (resource_of k.items) ≡ k.items
+      own_key : (k : Bytes) → k ≡ key → resource_key (resource_of k) ≡ k
       own_key k same = ap resource_key (ap resource_of (same ∙ is) ∙ resource_of-resource_key r) ∙ sym (same ∙ is)
   AreKeys-inserted k h (e ∷ es) same sound =
-      let mine : resource_key (resource_of k.items) ≡ k.items = ap resource_key (ap resource_of (same ∙ is) ∙ resource_of-resource_key r) ∙ sym (same ∙ is) in
+      let mine : resource_key (resource_of k) ≡ k = ap resource_key (ap resource_of (same ∙ is) ∙ resource_of-resource_key r) ∙ sym (same ∙ is) in
       let rest = AreKeys-inserted k h es same sound.1 in
-      elim (bytes_cmp k.items e.0.items) as (λ c. AreKeys (match_ordering c ((k, h) ∷ e ∷ es) ((e.0, h) ∷ es) (e ∷ insert_entry key_cmp es k h))) [
+      elim (bytes_cmp k e.0) as (λ c. AreKeys (match_ordering c ((k, h) ∷ e ∷ es) ((e.0, h) ∷ es) (e ∷ insert_entry key_cmp es k h))) [
         | Less ↦ (mine, sound)
         | Equal ↦ sound
         | Greater ↦ (sound.0, rest)
@@ -146,8 +145,8 @@ module _ (r : Resource) (key : Bytes) (is : key ≡ resource_key r) where
   pub table_of-removed : (es : Entries) → AreKeys es → T (is_in_order (table_of es)) → table_of (remove_entry (finds key) es) ≡ freed (table_of es) r
   table_of-removed [] sound rises = refl
   table_of-removed (e ∷ es) sound rises =
-      let s : Resource = resource_of e.0.items in
-      let o : bytes_cmp key e.0.items ≡ resource_cmp r s = compares e.0.items sound.0 in
+      let s : Resource = resource_of e.0 in
+      let o : bytes_cmp key e.0 ≡ resource_cmp r s = compares e.0 sound.0 in
       let rest = table_of-removed es sound.1 (right_of _ _ rises) in
       elim (is_one r s) as (λ b. is_one r s ≡ b → table_of (cond (finds key e.0) es (e ∷ remove_entry (finds key) es)) ≡ cond (not b) ((s, seen e.1) ∷ freed (table_of es) r) (freed (table_of es) r)) [
         | true ↦ λ one. ap (λ b. table_of (cond b es (e ∷ remove_entry (finds key) es))) (ap is_eq o ∙ sym (is_one-cmp r s) ∙ one)
@@ -165,8 +164,8 @@ module _ (r : Resource) (key : Bytes) (is : key ≡ resource_key r) where
     pub table_of-written : (es : Entries) → AreKeys es → T (is_in_order (table_of es)) → lookup (finds key) es ≡ Some v → table_of (set_value (finds key) es w) ≡ with_holder (table_of es) r w.unit w.count
     table_of-written [] sound rises found = cc
     table_of-written (e ∷ es) sound rises found =
-        let s : Resource = resource_of e.0.items in
-        let o : bytes_cmp key e.0.items ≡ resource_cmp r s = compares e.0.items sound.0 in
+        let s : Resource = resource_of e.0 in
+        let o : bytes_cmp key e.0 ≡ resource_cmp r s = compares e.0 sound.0 in
         ap (λ c. table_of (cond (is_eq c) ((e.0, w) ∷ es) (e ∷ set_value (finds key) es w))) o ∙ elim (resource_cmp r s) as (λ c. resource_cmp r s ≡ c → cond (is_eq c) (Some e.1) (lookup (finds key) es) ≡ Some v →
         table_of (cond (is_eq c) ((e.0, w) ∷ es) (e ∷ set_value (finds key) es w)) ≡ by_order c ((r, seen w) ∷ table_of (e ∷ es)) ((s, seen w) ∷ table_of es) ((s, seen e.1) ∷ with_holder (table_of es) r w.unit w.count)) [
           | Less ↦ λ less at.
@@ -192,18 +191,18 @@ module _ (r : Resource) (key : Bytes) (is : key ≡ resource_key r) where
         ]
 
     -- the holding of each key
-    module _ (es fs : Entries) (own : Owned) (found : lookup (finds key) es ≡ Some v) (updated : (k : Vec ℕ) → lookup (finds k.items) fs ≡ cond (finds key k) (Some w) (lookup (finds k.items) es)) where
+    module _ (es fs : Entries) (own : Owned) (found : lookup (finds key) es ≡ Some v) (updated : (k : Bytes) → lookup (finds k) fs ≡ cond (finds key k) (Some w) (lookup (finds k) es)) where
       -- the keys that a unit owns stay in its list, if a holding keeps its unit
       pub AreOwned-written : w.unit ≡ v.unit → AreOwned es own → AreOwned fs own
-      AreOwned-written unit owned u k = subst (λ b. b ≡ true → owns own u k ≡ true) (sym (ap (is_units u) (updated k) ∙ elim (finds key k) as (λ b. finds key k ≡ b → is_units u (cond b (Some w) (lookup (finds k.items) es)) ≡ is_units u (lookup (finds k.items) es)) [
-        | true ↦ λ t. ap (λ n. n == u) unit ∙ sym (ap (is_units u) (ap (λ b. lookup (finds b) es) (sym (is_same-eq key k.items t)) ∙ found))
+      AreOwned-written unit owned u k = subst (λ b. b ≡ true → owns own u k ≡ true) (sym (ap (is_units u) (updated k) ∙ elim (finds key k) as (λ b. finds key k ≡ b → is_units u (cond b (Some w) (lookup (finds k) es)) ≡ is_units u (lookup (finds k) es)) [
+        | true ↦ λ t. ap (λ n. n == u) unit ∙ sym (ap (is_units u) (ap (λ b. lookup (finds b) es) (sym (is_same-eq key k t)) ∙ found))
         | false ↦ λ t. refl
       ] refl)) (owned u k)
 
   -- a new holding
-  pub AreOwned-added : (es fs : Entries) (own after : Owned) (h : Holding) → ((k : Vec ℕ) → lookup (finds k.items) fs ≡ cond (finds key k) (Some h) (lookup (finds k.items) es)) →
+  pub AreOwned-added : (es fs : Entries) (own after : Owned) (h : Holding) → ((k : Bytes) → lookup (finds k) fs ≡ cond (finds key k) (Some h) (lookup (finds k) es)) →
       Adds h.unit key own after → AreOwned es own → AreOwned fs after
-  AreOwned-added es fs own after h updated adds owned u k held = adds u k (elim (finds key k) as (λ b. is_units u (cond b (Some h) (lookup (finds k.items) es)) ≡ true → (if nat_eq h.unit u && b then true else owns own u k) ≡ true) [
+  AreOwned-added es fs own after h updated adds owned u k held = adds u k (elim (finds key k) as (λ b. is_units u (cond b (Some h) (lookup (finds k) es)) ≡ true → (if nat_eq h.unit u && b then true else owns own u k) ≡ true) [
     | true ↦ elim (nat_eq h.unit u) as (λ b. b ≡ true → (if b && true then true else owns own u k) ≡ true) [ true ↦ λ mine. refl | false ↦ λ mine. cc ]
     | false ↦ λ mine. ap (λ b. if b then true else owns own u k) (never (nat_eq h.unit u)) ∙ owned u k mine
   ] (sym (ap (is_units u) (updated k)) ∙ held))
@@ -213,9 +212,9 @@ module _ (r : Resource) (key : Bytes) (is : key ≡ resource_key r) where
       never false = refl
 
   -- a holding that was removed
-  pub AreOwned-removed : (es fs : Entries) (own after : Owned) (unit : ℕ) → ((k : Vec ℕ) → lookup (finds k.items) fs ≡ cond (finds key k) None (lookup (finds k.items) es)) →
+  pub AreOwned-removed : (es fs : Entries) (own after : Owned) (unit : ℕ) → ((k : Bytes) → lookup (finds k) fs ≡ cond (finds key k) None (lookup (finds k) es)) →
       Drops unit key own after → AreOwned es own → AreOwned fs after
-  AreOwned-removed es fs own after unit updated drops owned u k held = elim (finds key k) as (λ b. finds key k ≡ b → is_units u (cond b None (lookup (finds k.items) es)) ≡ true → owns after u k ≡ true) [
+  AreOwned-removed es fs own after unit updated drops owned u k held = elim (finds key k) as (λ b. finds key k ≡ b → is_units u (cond b None (lookup (finds k) es)) ≡ true → owns after u k ≡ true) [
     | true ↦ λ t mine. cc
     | false ↦ λ t mine. drops u k (ap (λ b. nat_eq unit u && b) t ∙ never (nat_eq unit u)) (owned u k mine)
   ] refl (sym (ap (is_units u) (updated k)) ∙ held)
@@ -261,7 +260,7 @@ module _ (r : Resource) (key : Bytes) (is : key ≡ resource_key r) where
       free_here = held_at-table_of es sound ∙ ap (option_map seen) absent
 
       -- a unit acquires what nobody owns
-      pub taken-new : (k : Vec ℕ) (h : Holding) → k.items ≡ key → h.count ≡ 1 → table_of (insert_entry key_cmp es k h) ≡ taken (table_of es) r h.unit
+      pub taken-new : (k : Bytes) (h : Holding) → k ≡ key → h.count ≡ 1 → table_of (insert_entry key_cmp es k h) ≡ taken (table_of es) r h.unit
       taken-new k h same one = table_of-inserted k h es same sound ∙ ap (with_holder (table_of es) r h.unit) (one ∙ ap (raised_count r) (sym free_here))
 
       -- it isn't full
@@ -278,15 +277,15 @@ module _ (r : Resource) (key : Bytes) (is : key ≡ resource_key r) where
     -- ---- what is kept after a change
     module _ (own : Owned) (kept : IsKept es own) where
       pub IsKept-written : (v w : Holding) (fs : Entries) → fs ≡ set_value (finds key) es w → lookup (finds key) es ≡ Some v → w.unit ≡ v.unit →
-          ((k : Vec ℕ) → lookup (finds k.items) fs ≡ cond (finds key k) (Some w) (lookup (finds k.items) es)) → IsKept fs own
+          ((k : Bytes) → lookup (finds k) fs ≡ cond (finds key k) (Some w) (lookup (finds k) es)) → IsKept fs own
       IsKept-written v w fs written found unit updated = record {
         keys = subst AreKeys (sym written) (AreKeys-written v w es sound);
         in_order = subst (λ t. T (is_in_order t)) (sym (ap table_of written ∙ table_of-written v w es sound kept.in_order found)) (is_sorted-put resource_cmp resource_cmp_total r (seen w) (table_of es) kept.in_order);
         owned = AreOwned-written v w es fs own found updated unit kept.owned;
       }
 
-      pub IsKept-added : (k : Vec ℕ) (h : Holding) (fs : Entries) (after : Owned) → k.items ≡ key → fs ≡ insert_entry key_cmp es k h →
-          ((k : Vec ℕ) → lookup (finds k.items) fs ≡ cond (finds key k) (Some h) (lookup (finds k.items) es)) → Adds h.unit key own after → IsKept fs after
+      pub IsKept-added : (k : Bytes) (h : Holding) (fs : Entries) (after : Owned) → k ≡ key → fs ≡ insert_entry key_cmp es k h →
+          ((k : Bytes) → lookup (finds k) fs ≡ cond (finds key k) (Some h) (lookup (finds k) es)) → Adds h.unit key own after → IsKept fs after
       IsKept-added k h fs after same inserted updated adds = record {
         keys = subst AreKeys (sym inserted) (AreKeys-inserted k h es same sound);
         in_order = subst (λ t. T (is_in_order t)) (sym (ap table_of inserted ∙ table_of-inserted k h es same sound)) (is_sorted-put resource_cmp resource_cmp_total r (seen h) (table_of es) kept.in_order);
@@ -294,7 +293,7 @@ module _ (r : Resource) (key : Bytes) (is : key ≡ resource_key r) where
       }
 
       pub IsKept-removed : (unit : ℕ) (fs : Entries) (after : Owned) → fs ≡ remove_entry (finds key) es →
-          ((k : Vec ℕ) → lookup (finds k.items) fs ≡ cond (finds key k) None (lookup (finds k.items) es)) → Drops unit key own after → IsKept fs after
+          ((k : Bytes) → lookup (finds k) fs ≡ cond (finds key k) None (lookup (finds k) es)) → Drops unit key own after → IsKept fs after
       IsKept-removed unit fs after removed updated drops = record {
         keys = subst AreKeys (sym removed) (AreKeys-removed es sound);
         in_order = subst (λ t. T (is_in_order t)) (sym (ap table_of removed ∙ table_of-removed es sound kept.in_order)) (is_sorted-where_key resource_cmp (λ s. not (is_one r s)) (table_of es) kept.in_order);
@@ -316,25 +315,17 @@ released-freed (e ∷ es) r u rises own_held =
           (released-freed es r u (right_of _ _ rises) (λ h at. own_held h (ap (λ b. cond b (Some e.1) (held_at r es)) (sym (is_one-cmp r e.0) ∙ other) ∙ at)))
     ] refl
 
--- an entry that is found has the bytes that ask for it
-pub key_found : (b : Bytes) (h : Holding) (es : Entries) → lookup (finds b) es ≡ Some h → (k : Vec ℕ) × (k.items ≡ b)
-key_found b h [] = λ at. cc
-key_found b h (e ∷ es) = elim (finds b e.0) as (λ t. finds b e.0 ≡ t → cond t (Some e.1) (lookup (finds b) es) ≡ Some h → (k : Vec ℕ) × (k.items ≡ b)) [
-  | true ↦ λ t at. (e.0, sym (is_same-eq b e.0.items t))
-  | false ↦ λ t at. key_found b h es at
-] refl
-
 -- the bytes of an entry are its resource's
 pub key_sound : (es : Entries) (b : Bytes) (h : Holding) → AreKeys es → lookup (finds b) es ≡ Some h → b ≡ resource_key (resource_of b)
 key_sound [] b h sound at = cc
 key_sound (e ∷ es) b h sound at = elim (finds b e.0) as (λ t. finds b e.0 ≡ t → cond t (Some e.1) (lookup (finds b) es) ≡ Some h → b ≡ resource_key (resource_of b)) [
-  | true ↦ λ t f. subst (λ x. x ≡ resource_key (resource_of x)) (sym (is_same-eq b e.0.items t)) (sym sound.0)
+  | true ↦ λ t f. subst (λ x. x ≡ resource_key (resource_of x)) (sym (is_same-eq b e.0 t)) (sym sound.0)
   | false ↦ λ t f. key_sound es b h sound.1 f
 ] refl at
 
 -- a unit doesn't own what isn't in its list
-pub unheld : (es : Entries) (own : Owned) (u : ℕ) (k : Vec ℕ) → AreOwned es own → owns own u k ≡ false → is_units u (lookup (finds k.items) es) ≡ false
-unheld es own u k owned none = elim (is_units u (lookup (finds k.items) es)) as (λ b. is_units u (lookup (finds k.items) es) ≡ b → b ≡ false) [
+pub unheld : (es : Entries) (own : Owned) (u : ℕ) (k : Bytes) → AreOwned es own → owns own u k ≡ false → is_units u (lookup (finds k) es) ≡ false
+unheld es own u k owned none = elim (is_units u (lookup (finds k) es)) as (λ b. is_units u (lookup (finds k) es) ≡ b → b ≡ false) [
   | true ↦ λ t. let wrong : false ≡ true = sym none ∙ owned u k t in cc
   | false ↦ λ f. refl
 ] refl
@@ -360,8 +351,8 @@ AreOwned-passed key es own after unit other drops owned u k held = drops u k (no
   where
     not_place : (b : Bool) → is_place unit key u k ≡ b → is_place unit key u k ≡ false
     not_place true t =
-        let p = and_parts (nat_eq unit u) (is_same key k.items) t in
-        let wrong : false ≡ true = sym other ∙ ap (λ x. is_units x (lookup (finds key) es)) (eqb-true unit u p.0) ∙ ap (λ b. is_units u (lookup (finds b) es)) (is_same-eq key k.items p.1) ∙ held in cc
+        let p = and_parts (nat_eq unit u) (is_same key k) t in
+        let wrong : false ≡ true = sym other ∙ ap (λ x. is_units x (lookup (finds key) es)) (eqb-true unit u p.0) ∙ ap (λ b. is_units u (lookup (finds b) es)) (is_same-eq key k p.1) ∙ held in cc
     not_place false f = f
 
 -- a key removed from a unit's list is removed from the entries if it was the unit's
@@ -372,14 +363,14 @@ IsKept-let_go key es own unit fs after went each drops kept = by (is_units unit 
     found_own None t = cc
     found_own (Some h) t = (h, refl)
 
-    by : (b : Bool) → is_units unit (lookup (finds key) es) ≡ b → fs ≡ (if b then remove_entry (finds key) es else es) → ((k : Vec ℕ) → lookup (finds k.items) fs ≡ (if b && finds key k then None else lookup (finds k.items) es)) → IsKept fs after
+    by : (b : Bool) → is_units unit (lookup (finds key) es) ≡ b → fs ≡ (if b then remove_entry (finds key) es else es) → ((k : Bytes) → lookup (finds k) fs ≡ (if b && finds key k then None else lookup (finds k) es)) → IsKept fs after
     by true t went each =
         let held = found_own (lookup (finds key) es) t in
         IsKept-removed (resource_of key) key (key_sound es key held.0 kept.keys held.1) es kept.keys own kept unit fs after went each drops
     by false f went each = subst (λ fs. IsKept fs after) (sym went) (record { keys = kept.keys; in_order = kept.in_order; owned = AreOwned-passed key es own after unit f drops kept.owned })
 
 -- a unit that owns nothing releases nothing
-pub released-nothing : (es : Entries) (own : Owned) (u : ℕ) → IsKept es own → ((k : Vec ℕ) → owns own u k ≡ false) → released (table_of es) u ≡ table_of es
+pub released-nothing : (es : Entries) (own : Owned) (u : ℕ) → IsKept es own → ((k : Bytes) → owns own u k ≡ false) → released (table_of es) u ≡ table_of es
 released-nothing es own u kept none = same_entries resource_cmp resource_cmp_total same_resources (released (table_of es) u) (table_of es) (is_in_order-released (table_of es) u kept.in_order) kept.in_order
     (λ q. held_at-released (table_of es) u q kept.in_order ∙ ap (held_without u) (is q) ∙ others q (lookup (finds (resource_key q)) es) refl ∙ sym (is q))
   where
@@ -389,12 +380,11 @@ released-nothing es own u kept none = same_entries resource_cmp resource_cmp_tot
     others : (q : Resource) (o : Option Holding) → lookup (finds (resource_key q)) es ≡ o → held_without u (option_map seen o) ≡ option_map seen o
     others q None at = refl
     others q (Some h) at =
-        let k = key_found (resource_key q) h es at in
-        let other : (h.unit == u) ≡ false = ap (is_units u) (sym at) ∙ ap (λ b. is_units u (lookup (finds b) es)) (sym k.1) ∙ unheld es own u k.0 kept.owned (none k.0) in
+        let other : (h.unit == u) ≡ false = ap (is_units u) (sym at) ∙ unheld es own u (resource_key q) kept.owned (none (resource_key q)) in
         ap (λ b. if b then None else Some (seen h)) other
 
 -- the keys of a unit that owns none can go
-pub IsKept-ended : (es : Entries) (own between after : Owned) (unit : ℕ) → ((k : Vec ℕ) → owns own unit k ≡ false) → ((u : ℕ) (k : Vec ℕ) → owns between u k ≡ owns own u k) →
+pub IsKept-ended : (es : Entries) (own between after : Owned) (unit : ℕ) → ((k : Bytes) → owns own unit k ≡ false) → ((u : ℕ) (k : Bytes) → owns between u k ≡ owns own u k) →
     ((q : ℕ) → lookup (nat_eq q) after ≡ cond (nat_eq unit q) None (lookup (nat_eq q) between)) → IsKept es own → IsKept es after
 IsKept-ended es own between after unit none stays ended kept = record {
   keys = kept.keys;

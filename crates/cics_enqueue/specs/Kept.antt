@@ -16,11 +16,11 @@ use Rattle.cics_enqueue.specs.Order.{resource_of}
 
 -- the entries of the table: a table key, which is a resource as bytes, and its holding
 abbrev pub Entries : Type 0
-Entries = List (Vec ℕ × Holding)
+Entries = List (Bytes × Holding)
 
 -- for each unit the keys that it acquired, in this order; some of them it may have released since
 abbrev pub Owned : Type 0
-Owned = List (ℕ × Vec (Vec ℕ))
+Owned = List (ℕ × Vec Bytes)
 
 -- a holding as callers see it
 abbrev pub seen : Holding → Held
@@ -29,28 +29,28 @@ seen h = record { unit = h.unit; count = h.count }
 -- the entries with their resources read back from their bytes
 abbrev pub table_of : Entries → Table
 table_of [] = []
-table_of (e ∷ es) = (resource_of e.0.items, seen e.1) ∷ table_of es
+table_of (e ∷ es) = (resource_of e.0, seen e.1) ∷ table_of es
 
 -- each entry's bytes are those of a resource
 abbrev pub AreKeys : Entries → Type 0
 AreKeys [] = Unit {0}
-AreKeys (e ∷ es) = (resource_key (resource_of e.0.items) ≡ e.0.items) × AreKeys es
+AreKeys (e ∷ es) = (resource_key (resource_of e.0) ≡ e.0) × AreKeys es
 
 -- whether a key has these bytes
-abbrev pub finds : Bytes → Vec ℕ → Bool
-finds key k = is_same key k.items
+abbrev pub finds : Bytes → Bytes → Bool
+finds key k = is_same key k
 
 -- whether a list has a key
-abbrev pub has_in : Option (Vec (Vec ℕ)) → Vec ℕ → Bool
+abbrev pub has_in : Option (Vec Bytes) → Bytes → Bool
 has_in None k = false
-has_in (Some keys) k = list_any (finds k.items) keys.items
+has_in (Some keys) k = list_any (finds k) keys.items
 
 -- whether a key is among those that a unit acquired
-abbrev pub owns : Owned → ℕ → Vec ℕ → Bool
+abbrev pub owns : Owned → ℕ → Bytes → Bool
 owns owned u k = has_in (lookup (nat_eq u) owned) k
 
 -- how many keys a list has
-abbrev pub size_in : Option (Vec (Vec ℕ)) → ℕ
+abbrev pub size_in : Option (Vec Bytes) → ℕ
 size_in None = 0
 size_in (Some keys) = length keys.items
 
@@ -59,20 +59,20 @@ abbrev pub own_count : Owned → ℕ → ℕ
 own_count owned u = size_in (lookup (nat_eq u) owned)
 
 -- whether it is this unit and this key
-abbrev pub is_place : ℕ → Bytes → ℕ → Vec ℕ → Bool
-is_place unit key u k = nat_eq unit u && is_same key k.items
+abbrev pub is_place : ℕ → Bytes → ℕ → Bytes → Bool
+is_place unit key u k = nat_eq unit u && is_same key k
 
 -- each unit has in its list what it had
 abbrev pub OwnsSame : Owned → Owned → Type 0
-OwnsSame old new = (u : ℕ) (k : Vec ℕ) → owns new u k ≡ owns old u k
+OwnsSame old new = (u : ℕ) (k : Bytes) → owns new u k ≡ owns old u k
 
 -- this unit has this key, and each unit has all that it had
 abbrev pub Adds : ℕ → Bytes → Owned → Owned → Type 0
-Adds unit key old new = (u : ℕ) (k : Vec ℕ) → (if is_place unit key u k then true else owns old u k) ≡ true → owns new u k ≡ true
+Adds unit key old new = (u : ℕ) (k : Bytes) → (if is_place unit key u k then true else owns old u k) ≡ true → owns new u k ≡ true
 
 -- each unit has all that it had, but this unit may have lost this key
 abbrev pub Drops : ℕ → Bytes → Owned → Owned → Type 0
-Drops unit key old new = (u : ℕ) (k : Vec ℕ) → is_place unit key u k ≡ false → owns old u k ≡ true → owns new u k ≡ true
+Drops unit key old new = (u : ℕ) (k : Bytes) → is_place unit key u k ≡ false → owns old u k ≡ true → owns new u k ≡ true
 
 -- the count of a holding after it is acquired once more
 abbrev pub count_after : Bool → Holding → ℕ
@@ -88,16 +88,16 @@ is_units u None = false
 is_units u (Some h) = h.unit == u
 
 -- how keys are ordered
-abbrev pub key_cmp : Vec ℕ → Vec ℕ → Ordering
-key_cmp k l = bytes_cmp k.items l.items
+abbrev pub key_cmp : Bytes → Bytes → Ordering
+key_cmp k l = bytes_cmp k l
 
 -- the entries with a new one in order, and what they say of each key then
-abbrev pub PutsNew : Vec ℕ → Holding → Entries → Entries → Type 0
-PutsNew key h es fs = (fs ≡ insert_entry key_cmp es key h) × ((k : Vec ℕ) → lookup (finds k.items) fs ≡ (if finds key.items k then Some h else lookup (finds k.items) es))
+abbrev pub PutsNew : Bytes → Holding → Entries → Entries → Type 0
+PutsNew key h es fs = (fs ≡ insert_entry key_cmp es key h) × ((k : Bytes) → lookup (finds k) fs ≡ (if finds key k then Some h else lookup (finds k) es))
 
 -- the keys that a unit owns are in its list
 abbrev pub AreOwned : Entries → Owned → Type 0
-AreOwned es owned = (u : ℕ) (k : Vec ℕ) → is_units u (lookup (finds k.items) es) ≡ true → owns owned u k ≡ true
+AreOwned es owned = (u : ℕ) (k : Bytes) → is_units u (lookup (finds k) es) ≡ true → owns owned u k ≡ true
 
 -- the entries without a key, if it is this unit's
 abbrev pub without_own : ℕ → Bytes → Entries → Entries
@@ -105,7 +105,7 @@ without_own u key es = if is_units u (lookup (finds key) es) then remove_entry (
 
 -- what the entries say of each key after that
 abbrev pub Frees : ℕ → Bytes → Entries → Entries → Type 0
-Frees u key es fs = (k : Vec ℕ) → lookup (finds k.items) fs ≡ (if is_units u (lookup (finds key) es) && finds key k then None else lookup (finds k.items) es)
+Frees u key es fs = (k : Bytes) → lookup (finds k) fs ≡ (if is_units u (lookup (finds key) es) && finds key k then None else lookup (finds k) es)
 
 -- the entries and the keys of the units are one table
 pub record IsKept (es : Entries) (own : Owned) : Type 0 where
@@ -116,17 +116,17 @@ pub record IsKept (es : Entries) (own : Owned) : Type 0 where
 -- ---- Look-ups of what conflicts
 
 -- the first entry that passes a test
-abbrev pub first_entry : (Vec ℕ × Holding → Bool) → Entries → Option (Vec ℕ × Holding)
+abbrev pub first_entry : (Bytes × Holding → Bool) → Entries → Option (Bytes × Holding)
 first_entry test [] = None
 first_entry test (e ∷ es) = if test e then Some e else first_entry test es
 
 -- whether an entry begins with some bytes and is another unit's than the asker's
-abbrev pub is_others_under : Bytes → Option ℕ → Vec ℕ × Holding → Bool
-is_others_under start asker e = has_prefix start e.0.items && is_other asker e.1.unit
+abbrev pub is_others_under : Bytes → Option ℕ → Bytes × Holding → Bool
+is_others_under start asker e = has_prefix start e.0 && is_other asker e.1.unit
 
 -- the bytes and the unit of an entry
-abbrev pub bytes_and_unit : Vec ℕ × Holding → Bytes × ℕ
-bytes_and_unit e = (e.0.items, e.1.unit)
+abbrev pub bytes_and_unit : Bytes × Holding → Bytes × ℕ
+bytes_and_unit e = (e.0, e.1.unit)
 
 -- the bytes and the unit of the first entry that begins with some bytes and is another unit's than
 -- the asker's

@@ -137,8 +137,7 @@ fn file_front(kind: u8, file: &Name8) -> [u8; 10]
 // Makes a `Key` that of a record of a file or a prefix of keys, by the kind.
 pub(crate) fn set_file(key: &mut Key, kind: u8, file: &Name8, bytes: &[u8]) -> Result<(), NoMemory>
     requires most { length bytes.now ≤ 255 }
-    ensures set { OnOk result (key.new.items
-        ≡ kind ∷ length file.now ∷ (file.now ++ bytes.now)) }
+    ensures set { OnOk result (key.new ≡ kind ∷ length file.now ∷ (file.now ++ bytes.now)) }
 {
     key.set(&file_front(kind, file), bytes)
 }
@@ -146,14 +145,14 @@ pub(crate) fn set_file(key: &mut Key, kind: u8, file: &Name8, bytes: &[u8]) -> R
 // Makes a `Key` that of a user's value.
 pub(crate) fn set_value(key: &mut Key, value: &[u8]) -> Result<(), NoMemory>
     requires most { length value.now ≤ 255 }
-    ensures set { OnOk result (key.new.items ≡ 5 ∷ value.now) }
+    ensures set { OnOk result (key.new ≡ 5 ∷ value.now) }
 {
     key.set(&[VALUE], value)
 }
 
 // Makes a `Key` that of a resource.
 pub(crate) fn set_resource(key: &mut Key, resource: &ResourceRef<'_>) -> Result<(), NoMemory>
-    ensures set { OnOk result (key.new.items ≡ resource_key resource.now) }
+    ensures set { OnOk result (key.new ≡ resource_key resource.now) }
 {
     match &resource.kind {
         Kind::FileKey(file, bytes) => set_file(key, KEY, file, bytes),

@@ -52,7 +52,7 @@ pub(crate) fn other_unit(held: Option<&Holding>, asker: &Option<UnitId>) -> Opti
 // is refused. Then the look-up goes through the whole table.
 fn set_bound(bound: &mut Key, start: &[u8])
     requires most { length start.now ≤ 265 }
-    ensures { has_prefix bound.new.items start.now ≡ true }
+    ensures { has_prefix bound.new start.now ≡ true }
 {
     let _ = bound.set(&[], start);
 }

@@ -11,6 +11,7 @@ ghost use Rattle.std.specs.Map.{lookup};
 ghost use Rattle.std.specs.Option.{unwrap_or};
 ghost use Rattle.std.specs.BTreeMap.{btree_map_len, insert_entry};
 ghost use Rattle.std.specs.Global.{Vec};
+ghost use Rattle.cics_names.specs.Keyed.{Bytes};
 ghost use Rattle.cics_history.specs.Resources.{bytes_of, is_user};
 ghost use Rattle.cics_enqueue.specs.Table.{holder_of, holder_over, held_with_prefix};
 ghost use Rattle.cics_enqueue.specs.Table.{IsFreeFor, IsFreeBut, HoldsLeast, is_full};
@@ -122,13 +123,13 @@ fn or_put(
     holding: Holding,
 ) -> Result<Holding, NoMemory>
     ensures value { IfOk result (λ h. h
-        ≡ unwrap_or (lookup (finds key.items) table.old.entries) holding) }
+        ≡ unwrap_or (lookup (finds key) table.old.entries) holding) }
     ensures entries { IfOk result (λ h. table.new.entries
         ≡ insert_entry key_cmp table.old.entries key h) }
-    ensures each { IfOk result (λ h. (k : Vec ℕ) → lookup (finds k.items) table.new.entries
-        ≡ (if finds key.items k then Some h else lookup (finds k.items) table.old.entries)) }
+    ensures each { IfOk result (λ h. (k : Bytes) → lookup (finds k) table.new.entries
+        ≡ (if finds key k then Some h else lookup (finds k) table.old.entries)) }
     ensures len { OnOk result (btree_map_len table.new ≡ btree_map_len table.old
-        + (if is_some (lookup (finds key.items) table.old.entries) then 0 else 1)) }
+        + (if is_some (lookup (finds key) table.old.entries) then 0 else 1)) }
     ensures err { OnErr result (table.new.entries ≡ table.old.entries) }
 {
     Ok(*table.entry(key)?.or_insert(holding))
@@ -140,7 +141,7 @@ fn put_first(
     key: Key,
     holding: Holding,
 ) -> Result<Option<Holding>, NoMemory>
-    ensures held { IfOk result (λ held. held ≡ lookup (finds key.items) table.old.entries) }
+    ensures held { IfOk result (λ held. held ≡ lookup (finds key) table.old.entries) }
     ensures kept { IfOk result (λ held. IfSome held (λ _. table.new.entries ≡ table.old.entries)) }
     ensures put { IfOk result (λ held. IfNone held
         (PutsNew key holding table.old.entries table.new.entries)) }
@@ -158,8 +159,8 @@ fn put_first(
 // Removes a key, whatever its count, if it is this unit's. A key in the unit's list may be free or
 // another's by now.
 fn free_key(table: &mut BTreeMap<Key, Holding>, key: &Key, unit: UnitId)
-    ensures entries { table.new.entries ≡ without_own unit key.now.items table.old.entries }
-    ensures each { Frees unit key.now.items table.old.entries table.new.entries }
+    ensures entries { table.new.entries ≡ without_own unit key.now table.old.entries }
+    ensures each { Frees unit key.now table.old.entries table.new.entries }
 {
     let is_own = match table.get(key) {
         Some(holding) => holding.unit == unit,
@@ -172,13 +173,13 @@ fn free_key(table: &mut BTreeMap<Key, Holding>, key: &Key, unit: UnitId)
 
 // Releases a key once, if it is this unit's. Returns whether that freed it.
 fn lessen(table: &mut BTreeMap<Key, Holding>, key: &Key, unit: UnitId) -> bool
-    requires key { resource_key (resource_of key.now.items) ≡ key.now.items }
-    ensures kept { (own : List (ℕ × Vec (Vec ℕ))) →
+    requires key { resource_key (resource_of key.now) ≡ key.now }
+    ensures kept { (own : List (ℕ × Vec Bytes)) →
         IsKept table.old.entries own → IsKept table.new.entries own }
-    ensures given { (own : List (ℕ × Vec (Vec ℕ))) → IsKept table.old.entries own →
+    ensures given { (own : List (ℕ × Vec Bytes)) → IsKept table.old.entries own →
         table_of table.new.entries
-        ≡ given_back (table_of table.old.entries) (resource_of key.now.items) unit }
-    ensures freed { result ≡ true → lookup (finds key.now.items) table.new.entries ≡ None }
+        ≡ given_back (table_of table.old.entries) (resource_of key.now) unit }
+    ensures freed { result ≡ true → lookup (finds key.now) table.new.entries ≡ None }
 {
     let Some(holding) = table.get(key) else {
         return false;
@@ -358,19 +359,19 @@ impl Enqueues {
 
     // Acquires the user's value of a key as `enq` does.
     fn enq_key(&mut self, key: &Key, unit: UnitId) -> Result<Option<UnitId>, TakeFault>
-        requires key { resource_key (resource_of key.now.items) ≡ key.now.items }
-        requires user { is_user (resource_of key.now.items) ≡ true }
+        requires key { resource_key (resource_of key.now) ≡ key.now }
+        requires user { is_user (resource_of key.now) ≡ true }
         ensures holder { IfOk result (λ holder. holder
-            ≡ other_than (Some unit) (holder_of (resource_of key.now.items) self.old)) }
+            ≡ other_than (Some unit) (holder_of (resource_of key.now) self.old)) }
         ensures taken { IfOk result (λ holder. self.new ≡ (if is_some holder
             then self.old
-            else taken self.old (resource_of key.now.items) unit)) }
+            else taken self.old (resource_of key.now) unit)) }
         ensures room { IfOk result (λ holder. IfNone holder
-            (is_full (resource_of key.now.items) self.old ≡ false)) }
+            (is_full (resource_of key.now) self.old ≡ false)) }
         ensures full { IfErr result (λ fault. fault ≡ TakeFault.Full
-            → is_full (resource_of key.now.items) self.old ≡ true) }
+            → is_full (resource_of key.now) self.old ≡ true) }
         ensures own { IfErr result (λ fault. fault ≡ TakeFault.Full
-            → other_than (Some unit) (holder_of (resource_of key.now.items) self.old) ≡ None) }
+            → other_than (Some unit) (holder_of (resource_of key.now) self.old) ≡ None) }
         ensures err { OnErr result (self.new ≡ self.old) }
     {
         let Some(held) = self.take_free(key, unit)? else {
@@ -408,15 +409,15 @@ impl Enqueues {
 
     // Acquires the resource of a key as `hold` does.
     fn hold_key(&mut self, key: &Key, unit: UnitId) -> Result<bool, NoMemory>
-        requires key { resource_key (resource_of key.now.items) ≡ key.now.items }
-        requires plain { is_user (resource_of key.now.items) ≡ false }
-        requires free { IsFreeFor self.old (resource_of key.now.items) unit }
+        requires key { resource_key (resource_of key.now) ≡ key.now }
+        requires plain { is_user (resource_of key.now) ≡ false }
+        requires free { IsFreeFor self.old (resource_of key.now) unit }
         ensures was_free { IfOk result (λ was_free.
-            is_some (holder_of (resource_of key.now.items) self.old) ≡ not was_free) }
+            is_some (holder_of (resource_of key.now) self.old) ≡ not was_free) }
         ensures taken { OnOk result (self.new
-            ≡ taken self.old (resource_of key.now.items) unit) }
+            ≡ taken self.old (resource_of key.now) unit) }
         ensures undone { IfOk result (λ was_free. (if was_free
-            then given_back self.new (resource_of key.now.items) unit
+            then given_back self.new (resource_of key.now) unit
             else self.new) ≡ self.old) }
         ensures err { OnErr result (self.new ≡ self.old) }
     {
@@ -431,14 +432,14 @@ impl Enqueues {
     // look-up.
     #[tactic(auto, using(crate::proofs::Tables::in_order))]
     fn take_free(&mut self, key: &Key, unit: UnitId) -> Result<Option<Holding>, NoMemory>
-        requires key { resource_key (resource_of key.now.items) ≡ key.now.items }
+        requires key { resource_key (resource_of key.now) ≡ key.now }
         ensures in_order { T (is_in_order self.old) }
         ensures held { IfOk result (λ held.
-            option_map seen held ≡ held_at (resource_of key.now.items) self.old) }
+            option_map seen held ≡ held_at (resource_of key.now) self.old) }
         ensures table { IfOk result (λ held. self.new
             ≡ (if is_some held
             then self.old
-            else taken self.old (resource_of key.now.items) unit)) }
+            else taken self.old (resource_of key.now) unit)) }
         ensures err { OnErr result (self.new ≡ self.old) }
     {
         let kept = key.copy(self.alloc)?;
@@ -455,14 +456,14 @@ impl Enqueues {
 
     // Acquires the resource of a key once more for its owner. `NoMemory` if nobody owns it.
     fn take_again(&mut self, key: &Key, user: bool) -> Result<(), TakeFault>
-        requires key { resource_key (resource_of key.now.items) ≡ key.now.items }
-        requires user { user ≡ is_user (resource_of key.now.items) }
+        requires key { resource_key (resource_of key.now) ≡ key.now }
+        requires user { user ≡ is_user (resource_of key.now) }
         ensures taken { (u : ℕ) →
-            IfSome (holder_of (resource_of key.now.items) self.old) (λ v. v ≡ u) →
-            OnOk result (self.new ≡ taken self.old (resource_of key.now.items) u) }
-        ensures room { OnOk result (is_full (resource_of key.now.items) self.old ≡ false) }
+            IfSome (holder_of (resource_of key.now) self.old) (λ v. v ≡ u) →
+            OnOk result (self.new ≡ taken self.old (resource_of key.now) u) }
+        ensures room { OnOk result (is_full (resource_of key.now) self.old ≡ false) }
         ensures full { IfErr result (λ fault. fault ≡ TakeFault.Full
-            ↔ IsTrue (is_full (resource_of key.now.items) self.old)) }
+            ↔ IsTrue (is_full (resource_of key.now) self.old)) }
         ensures err { OnErr result (self.new ≡ self.old) }
     {
         let Some(holding) = self.table.get_mut(key) else {
@@ -508,8 +509,8 @@ impl Enqueues {
 
     // Releases the resource of a key once.
     fn let_go_key(&mut self, key: &Key, unit: UnitId)
-        requires key { resource_key (resource_of key.now.items) ≡ key.now.items }
-        ensures { self.new ≡ given_back self.old (resource_of key.now.items) unit }
+        requires key { resource_key (resource_of key.now) ≡ key.now }
+        ensures { self.new ≡ given_back self.old (resource_of key.now) unit }
     {
         if lessen(&mut self.table, key, unit) {
             owned::remove(&mut self.owned, unit, key);

@@ -9,13 +9,13 @@ use Rattle.cics_enqueue.proofs.compact.find_among.Goals as goal
 pub returns-then-eq : goal.returns-then-eq
 returns-then-eq c =
     let bytes = c.args.bytes.now in
-    let found : finds bytes c.in-Some.key.now ≡ true = sym (pointwise-is_same bytes c.in-Some.key.now.items) ∙ ap (pointwise nat_eq bytes) (sym c.as_slice.ensures) ∙ sym c.eq.ensures ∙ c.if-eq.true in
+    let found : finds bytes c.in-Some.key.now ≡ true = sym (pointwise-is_same bytes c.in-Some.key.now) ∙ ap (pointwise nat_eq bytes) (sym c.as_slice.ensures) ∙ sym c.eq.ensures ∙ c.if-eq.true in
     sym (sym c.loop-key.invariant.rest ∙ ap (lookup (finds bytes)) c.in-Some.ensures.steps ∙ ap (λ b. cond b (Some c.in-Some.holding.now) (lookup (finds bytes) c.next.new.self)) found)
 
 pub loop-key-preserved : goal.loop-key-preserved
 loop-key-preserved c =
     let bytes = c.args.bytes.now in
-    let other : finds bytes c.in-Some.key.now ≡ false = sym (pointwise-is_same bytes c.in-Some.key.now.items) ∙ ap (pointwise nat_eq bytes) (sym c.as_slice.ensures) ∙ sym c.eq.ensures ∙ c.if-eq.false in
+    let other : finds bytes c.in-Some.key.now ≡ false = sym (pointwise-is_same bytes c.in-Some.key.now) ∙ ap (pointwise nat_eq bytes) (sym c.as_slice.ensures) ∙ sym c.eq.ensures ∙ c.if-eq.false in
     record {
       can = tt;
       finite = tt;

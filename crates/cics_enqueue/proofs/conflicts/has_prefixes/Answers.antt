@@ -10,6 +10,6 @@ use Rattle.cics_enqueue.proofs.conflicts.has_prefixes.Goals as goal
 pub returns-in-Some-first : goal.returns-in-Some-first
 returns-in-Some-first c =
     let kind = c.in-Some-first.kind.now in
-    let at : slice_get c.in-Some.key.now.items 0 ≡ Some kind = ap (λ b. slice_get b 0) (sym c.as_slice.ensures) ∙ sym c.first.ensures.value ∙ ap option_copied c.in-Some-first.is in
-    let split = headed c.in-Some.key.now.items kind at in
-    on_false_by {Q = (b : Bytes) → lookup (finds (0 ∷ b)) c.args.table.now.entries ≡ None} _ (λ other b. none_of_kind b c.in-Some.key.now.items split.0 kind split.1 other c.args.table.now.entries c.in-Some.ensures.all_from)
+    let at : slice_get c.in-Some.key.now 0 ≡ Some kind = ap (λ b. slice_get b 0) (sym c.as_slice.ensures) ∙ sym c.first.ensures.value ∙ ap option_copied c.in-Some-first.is in
+    let split = headed c.in-Some.key.now kind at in
+    on_false_by {Q = (b : Bytes) → lookup (finds (0 ∷ b)) c.args.table.now.entries ≡ None} _ (λ other b. none_of_kind b c.in-Some.key.now split.0 kind split.1 other c.args.table.now.entries c.in-Some.ensures.all_from)

@@ -11,4 +11,4 @@ either (Ok x) b start is err = ap (λ k. has_prefix k start) is ∙ has_prefix-s
 either (Err e) b start ok none = ap (λ k. has_prefix k start) none
 
 pub returns : goal.returns
-returns c = either c.set.result c.set.new.self.items c.args.start.now c.set.ensures.set c.set.ensures.err
+returns c = either c.set.result c.set.new.self c.args.start.now c.set.ensures.set c.set.ensures.err

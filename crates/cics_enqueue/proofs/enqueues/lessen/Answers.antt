@@ -12,19 +12,19 @@ use Rattle.cics_enqueue.proofs.enqueues.lessen.Goals as goal
 
 pub returns-in_default-clause-given : goal.returns-in_default-clause-given
 returns-in_default-clause-given c = λ own kept.
-    let key = c.args.key.now.items in
+    let key = c.args.key.now in
     let absent : lookup (finds key) c.args.table.now.entries ≡ None = sym c.get.ensures.value ∙ ap option_copied c.in_default.is in
     sym (given_back-free (resource_of key) key (sym c.requires.key) c.args.table.now.entries kept.keys absent c.args.unit)
 
 pub returns-then-ne-clause-given : goal.returns-then-ne-clause-given
 returns-then-ne-clause-given c = λ own kept.
-    let key = c.args.key.now.items in
+    let key = c.args.key.now in
     let found : lookup (finds key) c.args.table.now.entries ≡ Some c.in-Some.holding.now = sym c.get.ensures.value ∙ ap option_copied c.in-Some.is in
     sym (given_back-foreign (resource_of key) key (sym c.requires.key) c.args.table.now.entries kept.keys c.in-Some.holding.now found c.args.unit (not-true _ (sym c.ne.ensures ∙ c.if-ne.true)))
 
 pub returns-then-holding-gt1-clause-kept : goal.returns-then-holding-gt1-clause-kept
 returns-then-holding-gt1-clause-kept c = λ own kept.
-    let key = c.args.key.now.items in
+    let key = c.args.key.now in
     let es = c.args.table.now.entries in
     let v = c.in-Some-get_mut.holding.now in
     let w : Holding = record { unit = v.unit; count = v.count - 1 } in
@@ -34,8 +34,8 @@ returns-then-holding-gt1-clause-kept c = λ own kept.
 pub returns-then-holding-gt1-clause-given : goal.returns-then-holding-gt1-clause-given
 returns-then-holding-gt1-clause-given c = λ own kept.
     let es = c.args.table.now.entries in
-    let r = resource_of c.args.key.now.items in
-    let key = c.args.key.now.items in
+    let r = resource_of c.args.key.now in
+    let key = c.args.key.now in
     let is = sym c.requires.key in
     let v = c.in-Some-get_mut.holding.now in
     let w : Holding = record { unit = v.unit; count = v.count - 1 } in
@@ -50,13 +50,13 @@ returns-then-holding-gt1-clause-given c = λ own kept.
 
 pub returns-clause-kept : goal.returns-clause-kept
 returns-clause-kept c = λ own kept.
-    IsKept-removed (resource_of c.args.key.now.items) c.args.key.now.items (sym c.requires.key) c.args.table.now.entries kept.keys own kept c.args.unit c.remove.new.self.entries own c.remove.ensures.entries c.remove.ensures.updates.0 (λ u k other had. had)
+    IsKept-removed (resource_of c.args.key.now) c.args.key.now (sym c.requires.key) c.args.table.now.entries kept.keys own kept c.args.unit c.remove.new.self.entries own c.remove.ensures.entries c.remove.ensures.updates.0 (λ u k other had. had)
 
 pub returns-clause-given : goal.returns-clause-given
 returns-clause-given c = λ own kept.
     let es = c.args.table.now.entries in
-    let r = resource_of c.args.key.now.items in
-    let key = c.args.key.now.items in
+    let r = resource_of c.args.key.now in
+    let key = c.args.key.now in
     let is = sym c.requires.key in
     let v = c.in-Some.holding.now in
     let found : lookup (finds key) es ≡ Some v = sym c.get.ensures.value ∙ ap option_copied c.in-Some.is in

@@ -8,7 +8,7 @@ use Rattle.cics_enqueue.proofs.owned.find.Goals as goal
 pub loop-key-preserved : goal.loop-key-preserved
 loop-key-preserved c =
     let bytes = c.args.bytes.now in
-    let other : finds bytes c.key-item.result ≡ false = sym (pointwise-is_same bytes c.key-item.result.items) ∙ ap (pointwise nat_eq bytes) (sym c.as_slice.ensures) ∙ sym c.eq.ensures ∙ c.if-eq.false in
+    let other : finds bytes c.key-item.result ≡ false = sym (pointwise-is_same bytes c.key-item.result) ∙ ap (pointwise nat_eq bytes) (sym c.as_slice.ensures) ∙ sym c.eq.ensures ∙ c.if-eq.false in
     let items = c.deref-key-items.result.now in
     let index = c.loop-key.key-index in
     let next : suc index ≡ index + 1 = omega arith in

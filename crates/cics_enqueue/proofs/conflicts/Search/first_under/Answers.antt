@@ -1,9 +1,8 @@
-use Rattle.std.proofs.Common.{[], ◌∷◌, ◌≡◌, ℕ, ◌∙◌, ◌&&◌, refl, sym, ap, subst, true, false, Some}
+use Rattle.std.proofs.Common.{[], ◌∷◌, ◌≡◌, ◌∙◌, ◌&&◌, refl, sym, ap, subst, true, false, Some}
 use Rattle.std.specs.Option.{option_map}
-use Rattle.std.specs.Global.{Vec}
 use Rattle.std.specs.Ordering.{is_lt, is_some_and}
 use Rattle.std.specs.Cmp.Lexicographic.{lists_agrees}
-use Rattle.cics_names.specs.Keyed.{bytes_cmp}
+use Rattle.cics_names.specs.Keyed.{Bytes, bytes_cmp}
 use Rattle.cics_enqueue.specs.declared.enqueues.Holding.{Holding}
 use Rattle.cics_enqueue.specs.Kept.{Entries, first_entry, first_shown, is_others_under, bytes_and_unit}
 use Rattle.std.specs.Prelude.{length}
@@ -21,13 +20,13 @@ loop-key-init c =
       finite = tt;
       rises = subst Rises (sym it) (Rises-filter _ es (rises_sorted es c.range-key-items.ensures.ordered));
       rest = ap (first_entry (is_others_under c.args.start.now c.args.self.now.asker)) it
-          ∙ first_entry-filter _ (is_others_under c.args.start.now c.args.self.now.asker) (before_bound c.set_bound.new.bound.items c.args.start.now c.args.self.now.asker c.set_bound.ensures) es;
+          ∙ first_entry-filter _ (is_others_under c.args.start.now c.args.self.now.asker) (before_bound c.set_bound.new.bound c.args.start.now c.args.self.now.asker c.set_bound.ensures) es;
     }
 
 pub returns-then-is_another : goal.returns-then-is_another
 returns-then-is_another c =
     let start = c.args.start.now in
-    let e : Vec ℕ × Holding = (c.in-Some.key.now, c.in-Some.holding.now) in
+    let e : Bytes × Holding = (c.in-Some.key.now, c.in-Some.holding.now) in
     let test = is_others_under start c.args.self.now.asker in
     let begins : has_prefix start c.as_slice-key.result.now ≡ true = sym c.starts_with.ensures.value ∙ c.if-starts_with.true in
     let passes : test e ≡ true = (λ i. has_prefix start (sym c.as_slice-key.ensures i) && is_other c.args.self.now.asker e.1.unit) ∙ (λ i. begins i && (sym c.is_another-is_another.ensures ∙ c.if-is_another.true) i) in
@@ -37,9 +36,9 @@ returns-then-is_another c =
 pub loop-key-preserved-else-is_another : goal.loop-key-preserved-else-is_another
 loop-key-preserved-else-is_another c =
     let start = c.args.start.now in
-    let e : Vec ℕ × Holding = (c.in-Some.key.now, c.in-Some.holding.now) in
+    let e : Bytes × Holding = (c.in-Some.key.now, c.in-Some.holding.now) in
     let test = is_others_under start c.args.self.now.asker in
-    let fails : test e ≡ false = ap (λ b. has_prefix start e.0.items && b) (sym c.is_another-is_another.ensures ∙ c.if-is_another.false) ∙ never (has_prefix start e.0.items) in
+    let fails : test e ≡ false = ap (λ b. has_prefix start e.0 && b) (sym c.is_another-is_another.ensures ∙ c.if-is_another.false) ∙ never (has_prefix start e.0) in
     record {
       can = tt;
       finite = tt;
@@ -50,20 +49,20 @@ loop-key-preserved-else-is_another c =
 pub returns-then-lt : goal.returns-then-lt
 returns-then-lt c =
     let start = c.args.start.now in
-    let e : Vec ℕ × Holding = (c.in-Some.key.now, c.in-Some.holding.now) in
+    let e : Bytes × Holding = (c.in-Some.key.now, c.in-Some.holding.now) in
     let test = is_others_under start c.args.self.now.asker in
-    let begins : has_prefix start e.0.items ≡ false = ap (has_prefix start) (sym c.as_slice-key.ensures) ∙ sym c.starts_with.ensures.value ∙ c.if-starts_with.false in
+    let begins : has_prefix start e.0 ≡ false = ap (has_prefix start) (sym c.as_slice-key.ensures) ∙ sym c.starts_with.ensures.value ∙ c.if-starts_with.false in
     let fails : test e ≡ false = ap (λ b. b && is_other c.args.self.now.asker e.1.unit) begins in
-    let above : is_lt (bytes_cmp start e.0.items) ≡ true = ap (λ b. is_lt (bytes_cmp start b)) (sym c.as_slice-key.ensures) ∙ sym (ap (is_some_and is_lt) (lists_agrees (λ x y. refl) start c.as_slice-key.result.now)) ∙ sym c.lt.ensures ∙ c.if-lt.true in
+    let above : is_lt (bytes_cmp start e.0) ≡ true = ap (λ b. is_lt (bytes_cmp start b)) (sym c.as_slice-key.ensures) ∙ sym (ap (is_some_and is_lt) (lists_agrees (λ x y. refl) start c.as_slice-key.result.now)) ∙ sym c.lt.ensures ∙ c.if-lt.true in
     sym (ap (option_map bytes_and_unit) (sym c.loop-key.invariant.rest ∙ ap (first_entry test) c.in-Some.ensures.steps ∙ first_entry-past test e c.next.new.self fails
-    ∙ first_entry-passed start e.0.items c.args.self.now.asker c.next.new.self above begins (subst Rises c.in-Some.ensures.steps c.loop-key.invariant.rises).0))
+    ∙ first_entry-passed start e.0 c.args.self.now.asker c.next.new.self above begins (subst Rises c.in-Some.ensures.steps c.loop-key.invariant.rises).0))
 
 pub loop-key-preserved : goal.loop-key-preserved
 loop-key-preserved c =
     let start = c.args.start.now in
-    let e : Vec ℕ × Holding = (c.in-Some.key.now, c.in-Some.holding.now) in
+    let e : Bytes × Holding = (c.in-Some.key.now, c.in-Some.holding.now) in
     let test = is_others_under start c.args.self.now.asker in
-    let begins : has_prefix start e.0.items ≡ false = ap (has_prefix start) (sym c.as_slice-key.ensures) ∙ sym c.starts_with.ensures.value ∙ c.if-starts_with.false in
+    let begins : has_prefix start e.0 ≡ false = ap (has_prefix start) (sym c.as_slice-key.ensures) ∙ sym c.starts_with.ensures.value ∙ c.if-starts_with.false in
     let fails : test e ≡ false = ap (λ b. b && is_other c.args.self.now.asker e.1.unit) begins in
     record {
       can = tt;

@@ -11,7 +11,7 @@ loop-key-preserved c =
     let es = c.loop-key.self-inside.table.entries in
     let own = c.loop-key.self-inside.owned.entries in
     let kept = c.loop-key.invariant.kept in
-    let key = c.in-Some.key.items in
+    let key = c.in-Some.key in
     record {
       kept = IsKept-let_go key es own c.args.unit c.free_key.new.table.entries c.pop.new.owned.entries c.free_key.ensures.entries c.free_key.ensures.each c.in-Some.ensures.taken kept;
       rest = ap (λ fs. released (table_of fs) c.args.unit) c.free_key.ensures.entries ∙ released-let_go es key c.args.unit kept.keys kept.in_order ∙ c.loop-key.invariant.rest;

@@ -12,7 +12,7 @@ use Rattle.cics_enqueue.proofs.enqueues.Enqueues.take_again.Goals as goal
 
 pub invariant_of-self-2 : goal.invariant_of-self-2
 invariant_of-self-2 c =
-    let key = c.args.key.now.items in
+    let key = c.args.key.now in
     let found : lookup (finds key) c.self.inside.table.entries ≡ Some c.in-Some.holding.now = sym c.get_mut.ensures.value ∙ ap option_copied_mut c.in-Some.is in
     let w = c.raise.new.holding in
     IsKept-written (resource_of key) key (sym c.requires.key) c.self.inside.table.entries c.self.invariant.keys c.self.inside.owned.entries c.self.invariant
@@ -20,7 +20,7 @@ invariant_of-self-2 c =
 
 pub returns-clause-taken : goal.returns-clause-taken
 returns-clause-taken c = λ u holds.
-    let key = c.args.key.now.items in
+    let key = c.args.key.now in
     let r = resource_of key in
     let is = sym c.requires.key in
     let es = c.self.inside.table.entries in
@@ -33,14 +33,14 @@ returns-clause-taken c = λ u holds.
 
 pub returns-clause-room : goal.returns-clause-room
 returns-clause-room c =
-    let key = c.args.key.now.items in
+    let key = c.args.key.now in
     let found : lookup (finds key) c.self.inside.table.entries ≡ Some c.in-Some.holding.now = sym c.get_mut.ensures.value ∙ ap option_copied_mut c.in-Some.is in
     on_ok_weaker c.raise.result (λ room. rw (← c.self.view_is) ((λ i. sym c.requires.user i
     && nat_le most_count (count_here (resource_of key) key (sym c.requires.key) c.self.inside.table.entries c.self.invariant.keys c.in-Some.holding.now found i)) ∙ room)) c.raise.ensures.room
 
 pub returns-clause-full : goal.returns-clause-full
 returns-clause-full c =
-    let key = c.args.key.now.items in
+    let key = c.args.key.now in
     let found : lookup (finds key) c.self.inside.table.entries ≡ Some c.in-Some.holding.now = sym c.get_mut.ensures.value ∙ ap option_copied_mut c.in-Some.is in
     MatchResult-weaker c.raise.result c.raise.ensures.full (λ x h. tt)
     (λ fault h. (
@@ -51,7 +51,7 @@ returns-clause-full c =
 
 pub returns-clause-err : goal.returns-clause-err
 returns-clause-err c =
-    let key = c.args.key.now.items in
+    let key = c.args.key.now in
     let v = c.in-Some.holding.now in
     let w = c.raise.new.holding in
     let found : lookup (finds key) c.self.inside.table.entries ≡ Some v = sym c.get_mut.ensures.value ∙ ap option_copied_mut c.in-Some.is in
@@ -60,6 +60,6 @@ returns-clause-err c =
 
 pub returns-in_default-clause-full : goal.returns-in_default-clause-full
 returns-in_default-clause-full c =
-    let key = c.args.key.now.items in
+    let key = c.args.key.now in
     let absent : lookup (finds key) c.self.inside.table.entries ≡ None = sym c.get_mut.ensures.value ∙ ap option_copied_mut c.in_default.is in
     rw (← c.self.view_is) (rw (not_full (resource_of key) key (sym c.requires.key) c.self.inside.table.entries c.self.invariant.keys absent) (λ e. cc, λ e. cc))

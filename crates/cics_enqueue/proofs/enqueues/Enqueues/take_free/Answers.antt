@@ -1,7 +1,7 @@
-use Rattle.std.proofs.Common.{ℕ, ◌≡◌, ◌∙◌, sym, ap, subst, refl, Some, None, cond, T}
+use Rattle.std.proofs.Common.{◌≡◌, ◌∙◌, sym, ap, subst, refl, Some, None, cond, T}
 use Rattle.std.specs.Prelude.{IfNone, option_map}
 use Rattle.std.specs.Map.{lookup, remove_entry}
-use Rattle.std.specs.Global.{Vec}
+use Rattle.cics_names.specs.Keyed.{Bytes}
 use Rattle.cics_enqueue.specs.declared.enqueues.Holding.{Holding}
 use Rattle.cics_enqueue.specs.Kept.{table_of, seen, finds, AreKeys, AreOwned, PutsNew}
 use Rattle.cics_enqueue.specs.Table.{held_at, taken, is_in_order}
@@ -12,7 +12,7 @@ use Rattle.cics_enqueue.proofs.enqueues.Enqueues.take_free.Goals as goal
 
 pub returns-then-is_some-clause-held : goal.returns-then-is_some-clause-held
 returns-then-is_some-clause-held c =
-    let key = c.args.key.now.items in
+    let key = c.args.key.now in
     let es = c.self.inside.table.entries in
     ap (option_map seen) (c.in_ok-held.ensures.held ∙ ap (λ b. lookup (finds b) es) c.in_ok-kept.ensures) ∙ sym (held_at-table_of (resource_of key) key (sym c.requires.key) es c.self.invariant.keys) ∙ ap (held_at (resource_of key)) c.self.view_is
 
@@ -42,18 +42,18 @@ returns-then-is_err-clause-err c =
 
 pub invariant_of-self-else-is_err : goal.invariant_of-self-else-is_err
 invariant_of-self-else-is_err c =
-    let key = c.args.key.now.items in
+    let key = c.args.key.now in
     let es = c.self.inside.table.entries in
     let h : Holding = record { unit = c.args.unit; count = 1 } in
     let none = none_from _ (sym c.is_some.ensures ∙ c.if-is_some.false) in
     let put : PutsNew c.in_ok-kept.kept h es c.put_first.new.table.entries = subst (λ o. IfNone o (PutsNew c.in_ok-kept.kept h es c.put_first.new.table.entries)) none c.in_ok-held.ensures.put in
     IsKept-added (resource_of key) key (sym c.requires.key) es c.self.invariant.keys c.self.inside.owned.entries c.self.invariant c.in_ok-kept.kept h c.put_first.new.table.entries c.add.new.owned.entries c.in_ok-kept.ensures
-    put.0 (subst (λ b. (k : Vec ℕ) → lookup (finds k.items) c.put_first.new.table.entries ≡ cond (finds b k) (Some h) (lookup (finds k.items) es)) c.in_ok-kept.ensures put.1)
+    put.0 (subst (λ b. (k : Bytes) → lookup (finds k) c.put_first.new.table.entries ≡ cond (finds b k) (Some h) (lookup (finds k) es)) c.in_ok-kept.ensures put.1)
     (ok_holds c.add.result (sym c.is_err.ensures.value ∙ c.if-is_err.false) c.add.ensures.added)
 
 pub returns-clause-held : goal.returns-clause-held
 returns-clause-held c =
-    let key = c.args.key.now.items in
+    let key = c.args.key.now in
     let es = c.self.inside.table.entries in
     let none = none_from _ (sym c.is_some.ensures ∙ c.if-is_some.false) in
     let absent : lookup (finds key) es ≡ None = ap (λ b. lookup (finds b) es) (sym c.in_ok-kept.ensures) ∙ sym c.in_ok-held.ensures.held ∙ none in
@@ -61,7 +61,7 @@ returns-clause-held c =
 
 pub returns-clause-table : goal.returns-clause-table
 returns-clause-table c =
-    let key = c.args.key.now.items in
+    let key = c.args.key.now in
     let r = resource_of key in
     let es = c.self.inside.table.entries in
     let h : Holding = record { unit = c.args.unit; count = 1 } in
