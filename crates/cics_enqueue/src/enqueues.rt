@@ -421,9 +421,6 @@ impl Enqueues {
             else self.new) ≡ self.old) }
         ensures err { OnErr result (self.new ≡ self.old) }
     {
-        if self.table.contains_key(key) {
-            return Ok(false);
-        }
         let was_held = self.take_free(key, unit)?;
         Ok(was_held.is_none())
     }
