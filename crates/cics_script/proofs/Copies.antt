@@ -1,7 +1,7 @@
 -- Literals, one byte further.
 use Rattle.std.proofs.Common.{◌≡◌, ℕ, true, false, List, [], ◌∷◌, ◌++◌, ◌+◌, length, take, drop, map, length-append, refl, ap, sym, ◌∙◌, Some, None, append_assoc, append-nil, inl, inr}
 use Rattle.std.proofs.lemmas.Bool.{cases_Bool}
-use Rattle.std.proofs.lemmas.List.{map-append, take_at, length-map}
+use Rattle.std.proofs.lemmas.List.{take_at, length-map}
 use Rattle.std.proofs.Math.Numerals.{one-add}
 use Rattle.std.specs.List.{prefix_len}
 use Rattle.std.specs.Prelude.{option_map, is_some}
@@ -10,8 +10,8 @@ use Rattle.cics_script.specs.declared.literals.Encoding.{Encoding}
 use Rattle.cics_script.specs.declared.literals.Encoding.TheVariants.{AsWritten, Ebcdic}
 use Rattle.cics_script.specs.declared.literals.Notation.{Notation}
 use Rattle.cics_script.specs.declared.literals.Notation.TheVariants.{Quoted, Hexadecimal}
-use Rattle.cics_script.specs.Tokens.{Text, with_byte, characters_from, digit_pairs, is_quote, text_in}
-use Rattle.cics_script.specs.Literals.{said, ebcdic, encoded, encoded_text, recorded, is_plain, with_front, coded}
+use Rattle.cics_script.specs.Tokens.{Text, with_byte, characters_from, is_quote, text_in}
+use Rattle.cics_script.specs.Literals.{said, encoded, encoded_text, recorded, is_plain, with_front, coded}
 
 -- a byte behind the front
 with_front-byte : (front : List ℕ) (byte : ℕ) (t : Text) → with_front (front ++ byte ∷ []) t ≡ with_front front (with_byte byte t)
@@ -32,24 +32,6 @@ copied-more encoding front byte whole here after so_far step =
     ∙ ap (with_front front) (sym (coded-with_byte encoding byte after) ∙ ap (coded encoding) (sym step))
     ∙ so_far
 
--- several bytes behind the front
-with_front-front : (a b : List ℕ) (t : Text) → with_front (a ++ b) t ≡ with_front a (with_front b t)
-with_front-front a b None = refl
-with_front-front a b (Some t) = ap (λ x. Some (x, t.1)) (append_assoc a b t.0)
-
-coded-with_front : (encoding : Encoding) (front : List ℕ) (t : Text) → coded encoding (with_front front t) ≡ with_front (encoded_text encoding front) (coded encoding t)
-coded-with_front encoding front None = refl
-coded-with_front AsWritten front (Some t) = refl
-coded-with_front Ebcdic front (Some t) = ap (λ x. Some (x, t.1)) (map-append ebcdic front t.0)
-
--- several bytes more of a literal are copied
-pub copied-run : (encoding : Encoding) (before made after : List ℕ) (here behind : Text) → here ≡ with_front made behind → after ≡ before ++ encoded_text encoding made
-    → with_front after (coded encoding behind) ≡ with_front before (coded encoding here)
-copied-run encoding before made after here behind step grown =
-    ap (λ front. with_front front (coded encoding behind)) grown
-    ∙ with_front-front before (encoded_text encoding made) (coded encoding behind)
-    ∙ ap (with_front before) (sym (coded-with_front encoding made behind) ∙ ap (coded encoding) (sym step))
-
 -- what was copied at the literal's end
 said-coded : (encoding : Encoding) (t : Text) → said (coded encoding t) ≡ encoded_text encoding (said t)
 said-coded AsWritten None = refl
@@ -66,17 +48,12 @@ copied-all encoding front rest whole here so_far end =
     ap (λ text. front ++ text) (sym (encoded_text-nil encoding))
     ∙ ap (λ t. said (with_front front (coded encoding t))) (sym end) ∙ ap said so_far ∙ said-coded encoding whole
 
-pub copied-none : (encoding : Encoding) (front : List ℕ) (whole here : Text)
-    → with_front front (coded encoding here) ≡ coded encoding whole → here ≡ None → [] ≡ encoded_text encoding (said whole)
-copied-none encoding front whole here so_far bad =
-    ap (λ t. said (with_front front (coded encoding t))) (sym bad) ∙ ap said so_far ∙ said-coded encoding whole
-
 pub recorded-hexadecimal : (notation : Notation) (bytes : List ℕ) → notation ≡ Hexadecimal → bytes ≡ recorded notation bytes
 recorded-hexadecimal Quoted bytes e = cc
 recorded-hexadecimal Hexadecimal bytes e = refl
 
 -- what follows a literal, one byte further
-rest-with_byte : (byte : ℕ) (t : Text) → option_map (λ t. t.1) (with_byte byte t) ≡ option_map (λ t. t.1) t
+pub rest-with_byte : (byte : ℕ) (t : Text) → option_map (λ t. t.1) (with_byte byte t) ≡ option_map (λ t. t.1) t
 rest-with_byte byte None = refl
 rest-with_byte byte (Some t) = refl
 
@@ -85,7 +62,7 @@ pub rest-more : (byte : ℕ) (whole here after : Text) → option_map (λ t. t.1
 rest-more byte whole here after so_far step = sym (rest-with_byte byte after) ∙ ap (option_map (λ t. t.1)) (sym step) ∙ so_far
 
 -- characters that stand for themselves, in front of a text
-with_front-nil : (t : Text) → with_front [] t ≡ t
+pub with_front-nil : (t : Text) → with_front [] t ≡ t
 with_front-nil None = refl
 with_front-nil (Some t) = refl
 
@@ -106,7 +83,7 @@ characters-plain (c ∷ bytes) =
     ]
 
 -- what follows a literal, behind characters that stand for themselves
-rest-with_front : (front : List ℕ) (t : Text) → option_map (λ t. t.1) (with_front front t) ≡ option_map (λ t. t.1) t
+pub rest-with_front : (front : List ℕ) (t : Text) → option_map (λ t. t.1) (with_front front t) ≡ option_map (λ t. t.1) t
 rest-with_front front None = refl
 rest-with_front front (Some t) = refl
 
@@ -131,21 +108,11 @@ rest-ends rest whole here so_far end = sym (ap (option_map (λ t. t.1)) end) ∙
 pub rest-none : (whole here : Text) → option_map (λ t. t.1) here ≡ option_map (λ t. t.1) whole → here ≡ None → None ≡ option_map (λ t. t.1) whole
 rest-none whole here so_far bad = sym (ap (option_map (λ t. t.1)) bad) ∙ so_far
 
--- what follows a literal whose characters in front stand for themselves, and whose next one is two quotes
-pub rest-behind : (front : List ℕ) (byte : ℕ) (whole here after : Text) → whole ≡ with_front front here → here ≡ with_byte byte after
-    → option_map (λ t. t.1) after ≡ option_map (λ t. t.1) whole
-rest-behind front byte whole here after step next = rest-more byte whole here after (rest-plain front whole whole here refl step) next
-
 -- some bytes that are read at once
 pub run-quoted : (notation : Notation) (bytes plain behind : List ℕ) (n : ℕ) → notation ≡ Quoted → n ≡ prefix_len is_plain bytes → plain ≡ take n bytes → behind ≡ drop n bytes
     → text_in notation bytes ≡ with_front plain (text_in notation behind)
 run-quoted Quoted bytes plain behind n is count front rest = characters-front bytes plain behind n count front rest
 run-quoted Hexadecimal bytes plain behind n is count front rest = cc
-
-pub run-digits : (notation : Notation) (bytes made behind : List ℕ) → notation ≡ Hexadecimal → digit_pairs bytes ≡ with_front made (digit_pairs (drop 8 bytes)) → behind ≡ drop 8 bytes
-    → text_in notation bytes ≡ with_front made (text_in notation behind)
-run-digits Quoted bytes made behind is read rest = cc
-run-digits Hexadecimal bytes made behind is read rest = read ∙ ap (λ b. with_front made (digit_pairs b)) (sym rest)
 
 -- and what follows them
 pub rest-run : (notation : Notation) (front bytes behind : List ℕ) → text_in notation bytes ≡ with_front front (text_in notation behind)

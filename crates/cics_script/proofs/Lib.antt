@@ -10,3 +10,4 @@ pub mod ScriptBytes
 pub mod Stuck
 pub mod Cuts
 pub mod Passed
+pub mod Taken

@@ -1,5 +1,5 @@
 -- What a literal says, and the record of it.
-use Rattle.std.specs.Prelude.{◌≡◌, ◌<◌, ◌&&◌, ℕ, Bool, not, List, [], ◌++◌, map, length, Some, None, unwrap_or, is_some}
+use Rattle.std.specs.Prelude.{◌≡◌, ◌<◌, ◌≤◌, ◌+◌, ◌&&◌, ℕ, suc, Bool, not, List, [], ◌++◌, map, length, option_map, Some, None, unwrap_or, is_some}
 use Rattle.cics_names.specs.Ebcdic.{code_of}
 use Rattle.cics_names.specs.Names.{blank}
 use Rattle.cics_script.specs.Tokens.{Text, with_byte, is_quote, text_in}
@@ -45,11 +45,17 @@ recorded Quoted text = encoded_text Ebcdic text
 recorded Hexadecimal bytes = bytes
 
 -- what stands first in the rest of a literal: its last quote, a byte, or what no literal has. What
--- follows the first two is shorter
+-- follows the first two is shorter, by one behind a last quote
 abbrev pub Begins : (List ℕ → Text) → List ℕ → Piece → Type 0
-Begins read bytes (End rest) = read bytes ≡ Some ([], rest.now)
+Begins read bytes (End rest) = (read bytes ≡ Some ([], rest.now)) × (suc (length rest.now) ≡ length bytes)
 Begins read bytes (Byte byte rest) = (read bytes ≡ with_byte byte (read rest.now)) × (length rest.now < length bytes)
 Begins read bytes Bad = read bytes ≡ None
+
+-- a literal takes the first n bytes, its last quote included, and the others follow it
+pub record Takes (notation : Notation) (bytes : List ℕ) (n : ℕ) : Type 0 where
+  pub some : 0 < n
+  pub within : n ≤ length bytes
+  pub ends : option_map (λ t. n + length t.1) (text_in notation bytes) ≡ Some (length bytes)
 
 -- whether a character stands for itself in a quoted literal: it has a code, and is no quote
 abbrev pub is_plain : ℕ → Bool

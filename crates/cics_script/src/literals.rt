@@ -4,12 +4,13 @@
 //! character is *plain* if it stands for itself in a quoted literal: it has an EBCDIC code, and is
 //! no quote.
 
-ghost use Rattle.std.specs.Prelude.{◌≡◌, ◌≤◌, ◌+◌, true, ℕ, List, [], ◌∷◌, ◌++◌, IfOk, IfSome};
-ghost use Rattle.std.specs.Prelude.{OnOk, OnSome, drop, length, option_map, take};
+ghost use Rattle.std.specs.Char.{is_ascii_hexdigit};
+ghost use Rattle.std.specs.Prelude.{◌≡◌, ◌≤◌, ◌<◌, ◌+◌, ◌-◌, ◌*◌, true, ◌++◌, IfOk, IfSome};
+ghost use Rattle.std.specs.Prelude.{MatchOption, OnOk, length, option_map, take};
 ghost use Rattle.std.specs.List.{list_all, prefix_len};
-ghost use Rattle.cics_script.specs.Tokens.{is_quote, hex_value, digit_pairs, with_byte, text_in};
-ghost use Rattle.cics_script.specs.Literals.{Begins, is_plain, said, encoded, encoded_text};
-ghost use Rattle.cics_script.specs.Literals.{recorded, IsWrittenAs, with_front, coded};
+ghost use Rattle.cics_script.specs.Tokens.{is_quote, hex_value, text_in};
+ghost use Rattle.cics_script.specs.Literals.{Begins, Takes, is_plain, said, encoded, encoded_text};
+ghost use Rattle.cics_script.specs.Literals.{recorded, IsWrittenAs};
 
 use cics_names::{NoMemory, Record, to_ebcdic};
 use std::alloc::{AllocError, Global};
@@ -27,16 +28,16 @@ pub enum Notation {
 #[derive(Clone, Copy)]
 pub struct Literal<'a> {
     pub notation: Notation,
-    // If true, the literal says the first `plain_len` characters after its first quote. An `Option`
-    // of that length would make literals larger, and they are moved often.
+    // If true, the literal says what stands between its quotes. An `Option` of that text would make
+    // literals larger, and they are moved often.
     is_plain: bool,
-    // How many characters after the first quote are plain; 0 for a hexadecimal literal.
-    plain_len: usize,
+    // How many bytes the literal takes after its first quote, its last quote included.
+    len: usize,
     /// The line after the literal's first quote, up to the line's end.
     pub behind_quote: &'a [u8],
-    ghost within: { plain_len ≤ length behind_quote.now },
+    ghost ends: { Takes notation behind_quote.now len },
     ghost as_written: { is_plain ≡ true →
-        IsWrittenAs notation behind_quote.now (take plain_len behind_quote.now) },
+        IsWrittenAs notation behind_quote.now (take (len - 1) behind_quote.now) },
 }
 
 /// How what a literal says is copied: as it is, or in EBCDIC.
@@ -77,10 +78,18 @@ static DIGITS: [u8; 256] = [
     16, 16, 16, 16, 16, 16, 16, 16, 16, 16, 16, 16, 16, 16,
 ];
 
+// Returns the value of a hexadecimal digit, or 16 for any other byte.
+fn digit_or_16(byte: u8) -> u8
+    ensures { MatchOption (hex_value byte) (16 ≤ result)
+        (λ value. (result ≡ value) × (value < 16)) }
+{
+    DIGITS[usize::from(byte)]
+}
+
 fn hex_digit(byte: u8) -> Option<u8>
     ensures { result ≡ hex_value byte }
 {
-    let value = DIGITS[usize::from(byte)];
+    let value = digit_or_16(byte);
     if value < 16 { Some(value) } else { None }
 }
 
@@ -269,37 +278,21 @@ fn copy_plain(alloc: Global, encoding: Encoding, plain: &[u8]) -> Result<Vec<u8>
     Ok(text)
 }
 
-// Returns the byte that two hexadecimal digits make, or `None` unless both are digits.
-fn pair_of(first: u8, second: u8) -> Option<u8>
-    ensures { IfSome result (λ byte. (rest : List ℕ) →
-        digit_pairs (first ∷ second ∷ rest) ≡ with_byte byte (digit_pairs rest)) }
+// Returns whether every byte is a hexadecimal digit. No early end, as in `are_plain`.
+fn are_digits(bytes: &[u8]) -> bool
+    ensures { result ≡ list_all is_ascii_hexdigit bytes.now }
 {
-    let high = hex_digit(first)?;
-    let low = hex_digit(second)?;
-    Some(high * 16 + low)
+    let mut all = true;
+    for byte in bytes {
+        all &= byte.is_ascii_hexdigit();
+    }
+    all
 }
 
-// How many hexadecimal digits are read at once: a run of them.
-const DIGITS_AT_ONCE: usize = 8;
+// How many hexadecimal digits are looked up at once.
+const DIGITS_AT_ONCE: usize = 16;
 
-// Returns the four bytes that the first eight digits make, or `None` if the bytes don't begin with
-// so many.
-fn first_pairs(bytes: &[u8]) -> Option<(u8, u8, u8, u8)>
-    ensures read { IfSome result (λ made. digit_pairs bytes.now
-        ≡ with_front (made.0 ∷ made.1 ∷ made.2 ∷ made.3 ∷ []) (digit_pairs (drop 8 bytes.now))) }
-    ensures within { OnSome result (8 ≤ length bytes.now) }
-{
-    let [a, b, c, d, e, f, g, h, ..] = bytes else {
-        return None;
-    };
-    let first = pair_of(*a, *b)?;
-    let second = pair_of(*c, *d)?;
-    let third = pair_of(*e, *f)?;
-    let fourth = pair_of(*g, *h)?;
-    Some((first, second, third, fourth))
-}
-
-// Returns what follows the pieces of a literal that are read at once: its plain characters, or a
+// Returns what follows the pieces of a literal that are passed at once: its plain characters, or a
 // run of its digits. If there are none, returns all bytes.
 fn behind_run(notation: Notation, bytes: &[u8]) -> &[u8]
     ensures rest { option_map (λ t. t.1) (text_in notation result.now)
@@ -307,38 +300,10 @@ fn behind_run(notation: Notation, bytes: &[u8]) -> &[u8]
     ensures within { length result.now ≤ length bytes.now }
 {
     match notation {
-        Notation::Quoted => bytes.split_at(plain_len(bytes)).1,
-        Notation::Hexadecimal => match first_pairs(bytes) {
-            Some(_) => bytes.split_at(DIGITS_AT_ONCE).1,
-            None => bytes,
-        },
-    }
-}
-
-// Appends what the pieces that `behind_run` passes say, and returns what follows them.
-fn push_run<'a>(
-    text: &mut Vec<u8>,
-    encoding: Encoding,
-    notation: Notation,
-    bytes: &'a [u8],
-) -> Result<&'a [u8], AllocError>
-    ensures read { IfOk result (λ rest. with_front text.new.items
-        (coded encoding (text_in notation rest.now))
-        ≡ with_front text.old.items (coded encoding (text_in notation bytes.entry.now))) }
-    ensures within { IfOk result (λ rest. length rest.now ≤ length bytes.entry.now) }
-{
-    match notation {
-        Notation::Quoted => {
-            let (plain, rest) = bytes.split_at(plain_len(bytes));
-            push_plain(text, encoding, plain)?;
-            Ok(rest)
-        }
-        Notation::Hexadecimal => match first_pairs(bytes) {
-            Some((first, second, third, fourth)) => {
-                push_plain(text, encoding, &[first, second, third, fourth])?;
-                Ok(bytes.split_at(DIGITS_AT_ONCE).1)
-            }
-            None => Ok(bytes),
+        Notation::Quoted => bytes.split_at(short_plain_len(bytes)).1,
+        Notation::Hexadecimal => match bytes.split_first_chunk::<DIGITS_AT_ONCE>() {
+            Some((digits, rest)) if are_digits(digits) => rest,
+            _ => bytes,
         },
     }
 }
@@ -360,29 +325,60 @@ fn behind_pieces(notation: Notation, bytes: &[u8]) -> Option<&[u8]>
     }
 }
 
-// Returns what a literal says, or nothing if the bytes are no literal. They begin after its first
-// quote.
+// Writes what a quoted literal says over a text as long as the literal, and returns how many
+// characters it says. The first of two quotes is written too, and the second over it: no branch
+// predictor foresees where quotes stand.
+fn put_characters(text: &mut [u8], encoding: Encoding, bytes: &[u8]) -> usize
+    requires { Takes Notation.Quoted bytes.now (length text.old) }
+    ensures { take result text.new
+        ≡ encoded_text encoding (said (text_in Notation.Quoted bytes.now)) }
+{
+    let mut count = 0;
+    let mut is_first = false;
+    for i in 0..text.len() {
+        is_first = is_quote_byte(bytes[i]) && !is_first;
+        text[count] = encoded_byte(encoding, bytes[i]);
+        count += usize::from(!is_first);
+    }
+    count
+}
+
+// Writes the bytes that a literal's digits make over a text.
+fn put_bytes(text: &mut [u8], encoding: Encoding, digits: &[u8])
+    requires { Takes Notation.Hexadecimal digits.now (2 * length text.old + 1) }
+    ensures { text.new ≡ encoded_text encoding (said (text_in Notation.Hexadecimal digits.now)) }
+{
+    for i in 0..text.len() {
+        let high = digit_or_16(digits[2 * i]);
+        let low = digit_or_16(digits[2 * i + 1]);
+        text[i] = encoded_byte(encoding, high * 16 + low);
+    }
+}
+
+// Returns what a literal of `len` bytes says. They begin after its first quote.
 #[inline(never)]
 fn copy_pieces(
     alloc: Global,
     encoding: Encoding,
     notation: Notation,
     bytes: &[u8],
+    len: usize,
 ) -> Result<Vec<u8>, AllocError>
+    requires { Takes notation bytes.now len }
     ensures { IfOk result (λ text. text.items
         ≡ encoded_text encoding (said (text_in notation bytes.now))) }
 {
-    let mut text = Vec::new(alloc);
-    let mut rest = bytes;
-    'pieces: loop {
-        let behind = push_run(&mut text, encoding, notation, rest)?;
-        match next_piece(notation, behind) {
-            Piece::Byte(byte, after) => {
-                text.push(encoded_byte(encoding, byte))?;
-                rest = after;
-            }
-            Piece::End(_) => return Ok(text),
-            Piece::Bad => return Ok(Vec::new(alloc)),
+    match notation {
+        Notation::Quoted => {
+            let mut text = vec![in alloc; 0; len]?;
+            let count = put_characters(&mut text, encoding, bytes);
+            text.truncate(count);
+            Ok(text)
+        }
+        Notation::Hexadecimal => {
+            let mut text = vec![in alloc; 0; len / 2]?;
+            put_bytes(&mut text, encoding, bytes);
+            Ok(text)
         }
     }
 }
@@ -395,21 +391,21 @@ pub fn literal_at(notation: Notation, behind_quote: &[u8]) -> Option<(Literal<'_
     ensures literal { IfSome result (λ found. (found.0.notation ≡ notation)
         × (found.0.behind_quote.now ≡ behind_quote.now)) }
 {
-    let (plain_len, is_plain, rest) = match notation {
+    let (is_plain, rest) = match notation {
         Notation::Quoted => {
             let plain_len = plain_len(behind_quote);
             match next_character(behind_quote.split_at(plain_len).1) {
-                Piece::End(rest) => (plain_len, true, rest),
-                Piece::Byte(_, after) => (plain_len, false, behind_pieces(notation, after)?),
+                Piece::End(rest) => (true, rest),
+                Piece::Byte(_, after) => (false, behind_pieces(notation, after)?),
                 Piece::Bad => return None,
             }
         }
-        Notation::Hexadecimal => (0, false, behind_pieces(notation, behind_quote)?),
+        Notation::Hexadecimal => (false, behind_pieces(notation, behind_quote)?),
     };
     let literal = Literal {
         notation,
         is_plain,
-        plain_len,
+        len: behind_quote.len() - rest.len(),
         behind_quote,
     };
     Some((literal, rest))
@@ -423,7 +419,7 @@ impl<'a> Literal<'a> {
             IsWrittenAs self.entry.notation self.entry.behind_quote.now text.now) }
     {
         if self.is_plain {
-            Some(self.behind_quote.split_at(self.plain_len).0)
+            Some(self.behind_quote.split_at(self.len - 1).0)
         } else {
             None
         }
@@ -437,7 +433,7 @@ impl<'a> Literal<'a> {
     {
         match self.plain() {
             Some(text) => copy_plain(alloc, encoding, text),
-            None => copy_pieces(alloc, encoding, self.notation, self.behind_quote),
+            None => copy_pieces(alloc, encoding, self.notation, self.behind_quote, self.len),
         }
     }
 

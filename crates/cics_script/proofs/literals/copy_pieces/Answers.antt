@@ -1,12 +1,6 @@
-use Rattle.std.proofs.Common.{sym, ◌∙◌, append-nil}
-use Rattle.cics_script.proofs.Copies.{copied-more, copied-all, copied-none}
+use Rattle.std.proofs.Common.{◌∙◌}
+use Rattle.cics_script.proofs.Taken.{takes-odd}
 use Rattle.cics_script.proofs.literals.copy_pieces.Goals as goal
 
-pub pieces-preserved : goal.pieces-preserved
-pieces-preserved c = rw (c.in_ok-push-in-Byte.ensures.items, c.encoded_byte.ensures) (copied-more _ _ _ _ _ _ (c.in_ok-behind.ensures.read ∙ c.pieces.invariant) c.in-Byte.ensures.0)
-
-pub returns-in-End : goal.returns-in-End
-returns-in-End c = sym (append-nil _) ∙ copied-all _ _ c.in-End.field-0.now _ _ (c.in_ok-behind.ensures.read ∙ c.pieces.invariant) c.in-End.ensures
-
-pub returns-in-Bad : goal.returns-in-Bad
-returns-in-Bad c = c.new.ensures.items ∙ copied-none _ _ _ _ (c.in_ok-behind.ensures.read ∙ c.pieces.invariant) c.in-Bad.ensures
+pub put_bytes-requires : goal.put_bytes-requires
+put_bytes-requires c = takes-odd c.args.notation c.args.bytes.now c.args.len _ c.in-Hexadecimal.is c.requires (c.deref_mut-in-Hexadecimal.ensures.len ∙ c.in_ok-text-in-Hexadecimal.ensures.len)

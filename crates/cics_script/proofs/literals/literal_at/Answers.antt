@@ -1,4 +1,4 @@
-use Rattle.std.proofs.Common.{◌≡◌, ◌≤◌, ℕ, true, false, List, [], Some, None, Option, length, take, drop, ap, sym, subst, refl, arith, ◌∙◌}
+use Rattle.std.proofs.Common.{◌≡◌, ◌-◌, ℕ, true, false, List, [], Some, None, Option, length, take, drop, ap, sym, subst, refl, arith, ◌∙◌}
 use Rattle.std.specs.Prelude.{option_map}
 use Rattle.std.specs.List.{prefix_len}
 use Rattle.cics_script.specs.declared.literals.Notation.{Notation}
@@ -6,6 +6,7 @@ use Rattle.cics_script.specs.declared.literals.Notation.TheVariants.{Quoted, Hex
 use Rattle.cics_script.specs.Tokens.{text_in, with_byte}
 use Rattle.cics_script.specs.Literals.{is_plain, IsWrittenAs}
 use Rattle.cics_script.proofs.Copies.{characters-front, said-plain, rest-more, rest-plain}
+use Rattle.cics_script.proofs.Taken.{takes, plain-size}
 use Rattle.cics_script.proofs.literals.literal_at.Goals.{in-Quoted+in-End, in-Quoted+in-Byte+in_ok-behind_pieces-in-Byte, in-Hexadecimal+in_ok-behind_pieces-in-Hexadecimal}
 use Rattle.cics_script.proofs.literals.literal_at.Goals as goal
 
@@ -43,30 +44,55 @@ pub returns-clause-rest : goal.returns-clause-rest
 returns-clause-rest c =
     elim c.match-notation.branch [
       | in-Quoted+in-End w ↦
-          ap (λ p. Some p.2.now) w.plain_len-is
+          ap (λ p. Some p.1.now) w.is_plain-is
           ∙ quoted-rest c.args.notation c.args.behind_quote.now _ _ _ _ w.in-Quoted.is w.plain_len-plain_len.ensures.value w.split_at.ensures.front w.split_at.ensures.back
-          (sym (ap (option_map (λ t. t.1)) w.in-End.ensures))
+          (sym (ap (option_map (λ t. t.1)) w.in-End.ensures.0))
       | in-Quoted+in-Byte+in_ok-behind_pieces-in-Byte w ↦
-          ap (λ p. Some p.2.now) w.plain_len-is
+          ap (λ p. Some p.1.now) w.is_plain-is
           ∙ quoted-rest c.args.notation c.args.behind_quote.now _ _ _ _ w.in-Quoted.is w.plain_len-plain_len.ensures.value w.split_at.ensures.front w.split_at.ensures.back
           (pieces-rest c.args.notation w.split_at.result.1.now w.in-Byte.after.now _ _ w.in-Quoted.is w.in-Byte.ensures.0 w.in_ok-behind_pieces-in-Byte.ensures)
-      | in-Hexadecimal+in_ok-behind_pieces-in-Hexadecimal w ↦ ap (λ p. Some p.2.now) w.plain_len-is ∙ w.in_ok-behind_pieces-in-Hexadecimal.ensures
+      | in-Hexadecimal+in_ok-behind_pieces-in-Hexadecimal w ↦ ap (λ p. Some p.1.now) w.is_plain-is ∙ w.in_ok-behind_pieces-in-Hexadecimal.ensures
     ]
+
+pub overflow_sub-literal : goal.overflow_sub-literal
+overflow_sub-literal c =
+    let found : Some c.match-notation.is_plain.1.now ≡ option_map (λ t. t.1) (text_in c.args.notation c.args.behind_quote.now) =
+    elim c.match-notation.branch [
+      | in-Quoted+in-End w ↦
+          ap (λ p. Some p.1.now) w.is_plain-is
+          ∙ quoted-rest c.args.notation c.args.behind_quote.now _ _ _ _ w.in-Quoted.is w.plain_len-plain_len.ensures.value w.split_at.ensures.front w.split_at.ensures.back
+          (sym (ap (option_map (λ t. t.1)) w.in-End.ensures.0))
+      | in-Quoted+in-Byte+in_ok-behind_pieces-in-Byte w ↦
+          ap (λ p. Some p.1.now) w.is_plain-is
+          ∙ quoted-rest c.args.notation c.args.behind_quote.now _ _ _ _ w.in-Quoted.is w.plain_len-plain_len.ensures.value w.split_at.ensures.front w.split_at.ensures.back
+          (pieces-rest c.args.notation w.split_at.result.1.now w.in-Byte.after.now _ _ w.in-Quoted.is w.in-Byte.ensures.0 w.in_ok-behind_pieces-in-Byte.ensures)
+      | in-Hexadecimal+in_ok-behind_pieces-in-Hexadecimal w ↦ ap (λ p. Some p.1.now) w.is_plain-is ∙ w.in_ok-behind_pieces-in-Hexadecimal.ensures
+    ] in
+    let some = (takes c.args.notation c.args.behind_quote.now c.match-notation.is_plain.1.now (sym found)).some in omega (arith, some)
 
 pub invariant_of-literal : goal.invariant_of-literal
 invariant_of-literal c =
-    let bytes = c.args.behind_quote.now in
+    let found : Some c.match-notation.is_plain.1.now ≡ option_map (λ t. t.1) (text_in c.args.notation c.args.behind_quote.now) =
+    elim c.match-notation.branch [
+      | in-Quoted+in-End w ↦
+          ap (λ p. Some p.1.now) w.is_plain-is
+          ∙ quoted-rest c.args.notation c.args.behind_quote.now _ _ _ _ w.in-Quoted.is w.plain_len-plain_len.ensures.value w.split_at.ensures.front w.split_at.ensures.back
+          (sym (ap (option_map (λ t. t.1)) w.in-End.ensures.0))
+      | in-Quoted+in-Byte+in_ok-behind_pieces-in-Byte w ↦
+          ap (λ p. Some p.1.now) w.is_plain-is
+          ∙ quoted-rest c.args.notation c.args.behind_quote.now _ _ _ _ w.in-Quoted.is w.plain_len-plain_len.ensures.value w.split_at.ensures.front w.split_at.ensures.back
+          (pieces-rest c.args.notation w.split_at.result.1.now w.in-Byte.after.now _ _ w.in-Quoted.is w.in-Byte.ensures.0 w.in_ok-behind_pieces-in-Byte.ensures)
+      | in-Hexadecimal+in_ok-behind_pieces-in-Hexadecimal w ↦ ap (λ p. Some p.1.now) w.is_plain-is ∙ w.in_ok-behind_pieces-in-Hexadecimal.ensures
+    ] in
     record {
-      within = elim c.match-notation.branch [
-        | in-Quoted+in-End w ↦ subst (λ p. p.0 ≤ length bytes) (sym w.plain_len-is) w.plain_len-plain_len.ensures.within
-        | in-Quoted+in-Byte+in_ok-behind_pieces-in-Byte w ↦ subst (λ p. p.0 ≤ length bytes) (sym w.plain_len-is) w.plain_len-plain_len.ensures.within
-        | in-Hexadecimal+in_ok-behind_pieces-in-Hexadecimal w ↦ subst (λ p. p.0 ≤ length bytes) (sym w.plain_len-is) (omega arith)
-      ];
+      ends = takes c.args.notation c.args.behind_quote.now c.match-notation.is_plain.1.now (sym found);
       as_written = elim c.match-notation.branch [
         | in-Quoted+in-End w ↦
-            subst (λ p. p.1 ≡ true → IsWrittenAs c.args.notation bytes (take p.0 bytes)) (sym w.plain_len-is)
-            (λ is. quoted-plain c.args.notation bytes _ w.in-End.rest.now _ w.in-Quoted.is w.plain_len-plain_len.ensures.value w.split_at.ensures.back w.in-End.ensures)
-        | in-Quoted+in-Byte+in_ok-behind_pieces-in-Byte w ↦ λ is. let wrong : false ≡ true = ap (λ p. p.1) (sym w.plain_len-is) ∙ is in cc
-        | in-Hexadecimal+in_ok-behind_pieces-in-Hexadecimal w ↦ λ is. let wrong : false ≡ true = ap (λ p. p.1) (sym w.plain_len-is) ∙ is in cc
+            let size = plain-size c.args.behind_quote.now w.split_at.result.1.now w.in-End.rest.now _ w.plain_len-plain_len.ensures.within w.split_at.ensures.back w.in-End.ensures.1 in
+            subst (λ p. p.0 ≡ true → IsWrittenAs c.args.notation c.args.behind_quote.now (take (length c.args.behind_quote.now - length p.1.now - 1) c.args.behind_quote.now)) (sym w.is_plain-is)
+            (λ is. subst (λ n. IsWrittenAs c.args.notation c.args.behind_quote.now (take n c.args.behind_quote.now)) size
+            (quoted-plain c.args.notation c.args.behind_quote.now _ w.in-End.rest.now _ w.in-Quoted.is w.plain_len-plain_len.ensures.value w.split_at.ensures.back w.in-End.ensures.0))
+        | in-Quoted+in-Byte+in_ok-behind_pieces-in-Byte w ↦ λ is. let wrong : false ≡ true = ap (λ p. p.0) (sym w.is_plain-is) ∙ is in cc
+        | in-Hexadecimal+in_ok-behind_pieces-in-Hexadecimal w ↦ λ is. let wrong : false ≡ true = ap (λ p. p.0) (sym w.is_plain-is) ∙ is in cc
       ];
     }
