@@ -1,6 +1,5 @@
 -- The entries whose keys begin with a prefix stand side by side.
-use Rattle.std.proofs.Common.{map, take, set, ◌++◌, Option, None, unwrap_or, IfSome, ◌≡◌, ℕ, zero, suc, ◌+◌, ◌<◌, ◌≤◌, Some, inl, inr, get_or, Bool, true, false, not, ◌&&◌, cond, T, List, [], ◌∷◌, length, drop, nat_eq, refl, sym, ◌∙◌, ap, subst, arith}
-use Rattle.std.specs.Borrow.{Bor}
+use Rattle.std.proofs.Common.{map, take, set, ◌++◌, Option, None, IfSome, ◌≡◌, ℕ, zero, suc, ◌+◌, ◌<◌, ◌≤◌, Some, inl, inr, get_or, Bool, true, false, not, ◌&&◌, cond, T, List, [], ◌∷◌, length, drop, nat_eq, refl, sym, ◌∙◌, ap, subst, arith}
 use Rattle.std.specs.List.{filter}
 use Rattle.std.specs.Ordering.{is_lt, is_eq, nat_cmp, ordering_then}
 use Rattle.std.specs.declared.cmp.Ordering.{Ordering}
@@ -10,7 +9,7 @@ use Rattle.std.specs.Cmp.{tied_itself}
 use Rattle.std.proofs.lemmas.Cmp.{nat_cmp_total}
 use Rattle.std.proofs.lemmas.Bool.{eqb-true, eq-eqb}
 use Rattle.std.specs.FinMap.Entries.{below_all}
-use Rattle.cics_names.specs.Keyed.{Bytes, Map, value_at, bytes_cmp, is_below, is_rising, is_same, without}
+use Rattle.cics_names.specs.Keyed.{Bytes, Map, value_at, bytes_cmp, is_rising, is_same, without}
 use Rattle.cics_ksds.specs.declared.definition.FileDef.{FileDef}
 use Rattle.cics_ksds.specs.declared.places.Place.{Place}
 use Rattle.cics_ksds.specs.declared.places.Place.TheVariants.{Filled, Empty}
@@ -23,8 +22,8 @@ use Rattle.cics_ksds.proofs.Edits.{find_at}
 use Rattle.cics_ksds.proofs.Values.{get_records}
 use Rattle.std.specs.Option.{option_and_then}
 use Rattle.std.proofs.lemmas.List.{drop_more, get_or_default}
-use Rattle.cics_ksds.specs.Prefixes.{has_prefix, under, from, bound_of}
-use Rattle.cics_ksds.proofs.Order.{first, second, less, turned_less, same_or_below}
+use Rattle.cics_ksds.specs.Prefixes.{has_prefix, under, from}
+use Rattle.cics_ksds.proofs.Order.{total, first, second, less, same_or_below}
 
 -- ---- what passes one test after another
 pub filter_within : {X : Type 0} (p q : X → Bool) → ((x : X) → p x ≡ true → q x ≡ true) → (xs : List X) → filter p (filter q xs) ≡ filter p xs
@@ -50,15 +49,6 @@ pub prefix_itself : (p : Bytes) → has_prefix p p ≡ true
 prefix_itself [] = refl
 prefix_itself (x ∷ p) = (λ i. eq-eqb x x refl i && prefix_itself p i)
 
--- so does the key at which to look for records under it
-pub bound_begins : (prefix : Bytes) (last : Option (Bor Bytes)) → IfSome last (λ key. has_prefix prefix key.now ≡ true) → has_prefix prefix (bound_of prefix last) ≡ true
-bound_begins prefix None begins = prefix_itself prefix
-bound_begins prefix (Some key) begins = begins
-
-pub bound_is : (prefix : Bor Bytes) (last : Option (Bor Bytes)) → (unwrap_or last prefix).now ≡ bound_of prefix.now last
-bound_is prefix None = refl
-bound_is prefix (Some key) = refl
-
 -- no key that begins with a prefix is below it
 pub prefix_from : (p k : Bytes) → has_prefix p k ≡ true → is_from p false k ≡ true
 prefix_from [] [] has = refl
@@ -68,31 +58,30 @@ prefix_from (x ∷ p) (y ∷ k) has =
     let same : x ≡ y = eqb-true x y (left _ _ has) in
     ap (λ o. not (is_lt (ordering_then o (bytes_cmp k p)))) (ap (nat_cmp y) same ∙ tied_itself nat_cmp_total y) ∙ prefix_from p k (right _ _ has)
 
--- a key between two that begin with a prefix begins with it
-pub convex : (p a b c : Bytes) → has_prefix p a ≡ true → has_prefix p c ≡ true → is_below b a ≡ false → bytes_cmp b c ≡ Less → has_prefix p b ≡ true
-convex [] a b c ha hc above below = refl
-convex (x ∷ p) [] b c ha hc above below = let wrong : false ≡ true = ha in cc
-convex (x ∷ p) (u ∷ a) [] c ha hc above below = let wrong : true ≡ false = above in cc
-convex (x ∷ p) (u ∷ a) (v ∷ b) [] ha hc above below = let wrong : false ≡ true = hc in cc
-convex (x ∷ p) (u ∷ a) (v ∷ b) (w ∷ c) ha hc above below =
-    let first_same : x ≡ u = eqb-true x u (left _ _ ha) in
-    let last_same : x ≡ w = eqb-true x w (left _ _ hc) in
-    by (λ above below. convex p a b c (right _ _ ha) (right _ _ hc) above below) (nat_cmp v x) refl (ap (λ n. is_lt (ordering_then (nat_cmp v n) (bytes_cmp b a))) first_same ∙ above) (ap (λ n. ordering_then (nat_cmp v n) (bytes_cmp b c)) last_same ∙ below)
+-- a key that isn't below a prefix, and is below one that begins with it, begins with it
+pub convex : (p b c : Bytes) → has_prefix p c ≡ true → is_from p false b ≡ true → bytes_cmp b c ≡ Less → has_prefix p b ≡ true
+convex [] b c hc above below = refl
+convex (x ∷ p) [] c hc above below = let wrong : false ≡ true = above in cc
+convex (x ∷ p) (v ∷ b) [] hc above below = let wrong : false ≡ true = hc in cc
+convex (x ∷ p) (v ∷ b) (w ∷ c) hc above below =
+    let same : x ≡ w = eqb-true x w (left _ _ hc) in
+    by (λ above below. convex p b c (right _ _ hc) above below) (nat_cmp v x) refl above (ap (λ n. ordering_then (nat_cmp v n) (bytes_cmp b c)) same ∙ below)
   where
-    by : (is_below b a ≡ false → bytes_cmp b c ≡ Less → has_prefix p b ≡ true) → (o : Ordering) → nat_cmp v x ≡ o → is_lt (ordering_then (nat_cmp v x) (bytes_cmp b a)) ≡ false → ordering_then (nat_cmp v x) (bytes_cmp b c) ≡ Less → (nat_eq x v && has_prefix p b) ≡ true
-    by rest Less is above below = let wrong : true ≡ false = sym (ap (λ r. is_lt (ordering_then r (bytes_cmp b a))) is) ∙ above in cc
-    by rest Equal is above below = (λ i. eq-eqb x v (sym (nat_cmp-IsAntisymmetric v x is)) i && rest (sym (ap (λ r. is_lt (ordering_then r (bytes_cmp b a))) is) ∙ above) (sym (ap (λ r. ordering_then r (bytes_cmp b c)) is) ∙ below) i)
+    by : (is_from p false b ≡ true → bytes_cmp b c ≡ Less → has_prefix p b ≡ true) → (o : Ordering) → nat_cmp v x ≡ o → not (is_lt (ordering_then (nat_cmp v x) (bytes_cmp b p))) ≡ true → ordering_then (nat_cmp v x) (bytes_cmp b c) ≡ Less → (nat_eq x v && has_prefix p b) ≡ true
+    by rest Less is above below = let wrong : false ≡ true = sym (ap (λ r. not (is_lt (ordering_then r (bytes_cmp b p)))) is) ∙ above in cc
+    by rest Equal is above below = (λ i. eq-eqb x v (sym (nat_cmp-IsAntisymmetric v x is)) i && rest (sym (ap (λ r. not (is_lt (ordering_then r (bytes_cmp b p)))) is) ∙ above) (sym (ap (λ r. ordering_then r (bytes_cmp b c)) is) ∙ below) i)
     by rest Greater is above below = let wrong : false ≡ true = ap is_lt (sym (ap (λ r. ordering_then r (bytes_cmp b c)) is) ∙ below) in cc
 
--- ---- the records from a bound on
-pub from_not_below : (bound : Bytes) (strict : Bool) (k : Bytes) → is_from bound strict k ≡ true → is_below k bound ≡ false
-from_not_below bound true k is = ap is_lt (turned_less bound k (less _ (subst T (sym is) tt)))
-from_not_below bound false k is = by (is_below k bound) is
+-- a key above one that begins with a prefix isn't below the prefix
+pub above_from : (p k q : Bytes) → has_prefix p k ≡ true → is_from k true q ≡ true → is_from p false q ≡ true
+above_from p k q has above = by (bytes_cmp q p) refl
   where
-    by : (b : Bool) → not b ≡ true → b ≡ false
-    by true e = let wrong : false ≡ true = e in cc
-    by false e = refl
+    by : (o : Ordering) → bytes_cmp q p ≡ o → not (is_lt o) ≡ true
+    by Less is = let wrong : false ≡ true = sym (ap (λ o. not (is_lt o)) (total.trans k q p (less _ (subst T (sym above) tt)) is)) ∙ prefix_from p k has in cc
+    by Equal is = refl
+    by Greater is = refl
 
+-- ---- the records from a bound on
 -- where the keys that pass are those from a place on, the entries that pass are those from there on
 pub from_start : (d : FileDef) (bound : Bytes) (strict : Bool) (places : List Place) (start : ℕ) →
     ((j : ℕ) → j < start → j < length places → is_from bound strict (key_at d places j) ≡ false) → ((j : ℕ) → start ≤ j → j < length places → is_from bound strict (key_at d places j) ≡ true) →
@@ -115,9 +104,9 @@ rising_drop d (suc n) [] rising = tt
 rising_drop d (suc n) (p ∷ ps) rising = rising_drop d n ps (second _ _ rising)
 
 -- ---- where the prefix ends
-module _ (d : FileDef) (bound prefix : Bytes) (begins : has_prefix prefix bound ≡ true) (k : Bytes) (from_bound : is_below k bound ≡ false) (ends : has_prefix prefix k ≡ false) where
+module _ (d : FileDef) (prefix k : Bytes) (from_prefix : is_from prefix false k ≡ true) (ends : has_prefix prefix k ≡ false) where
   beyond : (b : Bool) (q : Bytes) → has_prefix prefix q ≡ b → bytes_cmp k q ≡ Less → b ≡ false
-  beyond true q has below = let wrong : true ≡ false = sym (convex prefix bound k q begins has from_bound below) ∙ ends in cc
+  beyond true q has below = let wrong : true ≡ false = sym (convex prefix k q has from_prefix below) ∙ ends in cc
   beyond false q has below = refl
 
   -- no key above one that doesn't begin with it begins with it
@@ -135,29 +124,49 @@ module _ (d : FileDef) (bound prefix : Bytes) (begins : has_prefix prefix bound 
   none_left (Empty e) ps is rising = none_above ps (subst (λ q. T (below_all bytes_cmp q (slots d ps))) is (first _ _ rising))
 
 -- ---- the records under a prefix
-pub under_from : (prefix : Bytes) (records : Map Bytes) → under prefix (from prefix false records) ≡ under prefix records
+under_from : (prefix : Bytes) (records : Map Bytes) → under prefix (from prefix false records) ≡ under prefix records
 under_from prefix records = filter_within (λ e. has_prefix prefix e.0) (λ e. is_from prefix false e.0) (λ e has. prefix_from prefix e.0 has) records
+
+-- from where the keys from the prefix on begin, all records under it are left
+pub start_left : (d : FileDef) (areas : List (List (List Place))) (prefix : Bytes) (at : Position) →
+    ((j : ℕ) → j < index_of areas at → j < length (places_in areas) → is_from prefix false (key_at d (places_in areas) j) ≡ false) → ((j : ℕ) → index_of areas at ≤ j → j < length (places_in areas) → is_from prefix false (key_at d (places_in areas) j) ≡ true) →
+    left_at d areas prefix (Some at) ≡ under prefix (value_of d (places_in areas)).records
+start_left d areas prefix at before after = ap (under prefix) (sym (from_start d prefix false (places_in areas) (index_of areas at) before after)) ∙ under_from prefix (value_of d (places_in areas)).records
 
 -- the entries above a key are there without it
 pub from_without : (key : Bytes) (records : Map Bytes) → from key true (without key records) ≡ from key true records
 from_without key records = filter_within (λ e. is_from key true e.0) (λ e. not (is_same key e.0)) (λ e above. ap (λ o. not (is_eq o)) (less (bytes_cmp key e.0) (subst T (sym above) tt))) records
 
 -- ---- by positions
--- from a record under the prefix on there is its entry, and what is above it
-pub left_more : (d : FileDef) (areas : List (List (List Place))) (prefix : Bytes) (at : Position) → ArePlaces d (places_in areas) → (is : IsRecordUnder d areas prefix at) →
-    left_at d areas prefix (Some at) ≡ (key_of d is.record_there.0, is.record_there.0) ∷ under prefix (from (key_of d is.record_there.0) true (value_of d (places_in areas)).records)
-left_more d areas prefix at are is =
-    let places = places_in areas in
-    let i = index_of areas at in
-    let r = is.record_there.0 in
-    let key = key_of d r in
-    let lt : i < length places = index_within areas at is.there is.place in
-    let at_key : IsAt d places key i = record { in_range = lt; has_key = ap (place_key d) is.record_there.1 } in
-    ap (λ l. under prefix (filled_slots (slots d l))) (drop_more places i (Empty []) lt ∙ ap (λ p. p ∷ drop (i + 1) places) is.record_there.1)
-    ∙ ap (λ b. cond b ((key, r) ∷ under prefix (filled_slots (slots d (drop (i + 1) places)))) (under prefix (filled_slots (slots d (drop (i + 1) places))))) is.record_there.2
-    ∙ ap (λ l. (key, r) ∷ under prefix l) (sym (from_start d key true places (i + 1)
-    (λ j below in_range. elim (same_or_below j i below) [ inl less ↦ before_at d places key true i are.rising at_key j less | inr same ↦ here_at d places key true i are.rising at_key j same ])
-    (λ j above in_range. after_at d places key true i are.rising at_key j (omega (arith, above)) in_range)))
+-- a record under the prefix, at its position
+module _ (d : FileDef) (areas : List (List (List Place))) (prefix : Bytes) (at : Position) (are : ArePlaces d (places_in areas)) (is : IsRecordUnder d areas prefix at) (r : Bytes) (read : get_or (places_in areas) (index_of areas at) (Empty []) ≡ Filled r) where
+  abbrev i : ℕ
+  i = index_of areas at
+
+  within : i < length (places_in areas)
+  within = index_within areas at is.there is.place
+
+  at_key : IsAt d (places_in areas) (key_of d r) i
+  at_key = record { in_range = within; has_key = ap (place_key d) read }
+
+  pub begins : has_prefix prefix (key_of d r) ≡ true
+  begins = ap (λ p. has_prefix prefix (place_key d p)) (sym read ∙ is.record_there.1) ∙ is.record_there.2
+
+  -- from there on there is its entry, and what is behind it
+  pub left_more : left_at d areas prefix (Some at) ≡ (key_of d r, r) ∷ under prefix (value_of d (drop (i + 1) (places_in areas))).records
+  left_more =
+      ap (λ l. under prefix (filled_slots (slots d l))) (drop_more (places_in areas) i (Empty []) within ∙ ap (λ p. p ∷ drop (i + 1) (places_in areas)) read)
+      ∙ ap (λ b. cond b ((key_of d r, r) ∷ under prefix (filled_slots (slots d (drop (i + 1) (places_in areas))))) (under prefix (filled_slots (slots d (drop (i + 1) (places_in areas)))))) begins
+
+  pub above : (j : ℕ) → i + 1 ≤ j → j < length (places_in areas) → is_from (key_of d r) true (key_at d (places_in areas) j) ≡ true
+  above j behind in_range = after_at d (places_in areas) (key_of d r) true i are.rising at_key j (omega (arith, behind)) in_range
+
+  -- behind it are the records above its key
+  pub records_above : from (key_of d r) true (value_of d (places_in areas)).records ≡ (value_of d (drop (i + 1) (places_in areas))).records
+  records_above = from_start d (key_of d r) true (places_in areas) (i + 1) (λ j below in_range. elim (same_or_below j i below) [
+    | inl less ↦ before_at d (places_in areas) (key_of d r) true i are.rising at_key j less
+    | inr same ↦ here_at d (places_in areas) (key_of d r) true i are.rising at_key j same
+  ]) above
 
 -- the place at a position that was read
 pub read_there : (d : FileDef) (places : List Place) (i : ℕ) (p : Place) → ArePlaces d places → i < length places → p ≡ get_or places i p → (get_or places i (Empty []) ≡ p) × IsPlace d p
@@ -187,7 +196,9 @@ module _ (d : FileDef) (areas : List (List (List Place))) (prefix : Bytes) where
   module _ (are : ArePlaces d (places_in areas)) (at : Position) (is : IsRecordUnder d areas prefix at) where
     pub found_left : (next : Option Position) → next ≡ Some at →
         left_at d areas prefix next ≡ (key_of d is.record_there.0, is.record_there.0) ∷ under prefix (from (key_of d is.record_there.0) true (value_of d (places_in areas)).records)
-    found_left next some = ap (λ (o : Option Position). left_at d areas prefix o) some ∙ left_more d areas prefix at are is
+    found_left next some =
+        ap (λ (o : Option Position). left_at d areas prefix o) some ∙ left_more d areas prefix at are is is.record_there.0 is.record_there.1
+        ∙ ap (λ l. (key_of d is.record_there.0, is.record_there.0) ∷ under prefix l) (sym (records_above d areas prefix at are is is.record_there.0 is.record_there.1))
 
     lt : index_of areas at < length (places_in areas)
     lt = index_within areas at is.there is.place

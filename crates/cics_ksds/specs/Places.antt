@@ -214,6 +214,7 @@ IsPrevious areas at None = index_of areas at ≡ 0
 pub record IsRecordUnder (d : FileDef) (areas : List (List (List Place))) (prefix : Bytes) (at : Position) : Type 0 where
   pub there : IsThere areas at
   pub place : at.place < length (interval_at areas at)
+  pub at_most : length (interval_at areas at) ≤ 16
   pub record_there : (r : Bytes) × (slice_index_or (places_in areas) (index_of areas at) (Empty []) ≡ Filled r) × (has_prefix prefix (key_of d r) ≡ true)
 
 -- the entries under the prefix from a position on; from no position there are none

@@ -1,7 +1,6 @@
 -- DELETE with GENERIC: it deletes the records whose keys begin with the same bytes, each as DELETE
 -- of its key does.
-use Rattle.std.specs.Prelude.{◌≡◌, Bool, not, if◌then◌else◌, List, [], ◌∷◌, Option, unwrap_or, option_copied, map, fold, nat_eq}
-use Rattle.std.specs.Borrow.{Bor}
+use Rattle.std.specs.Prelude.{◌≡◌, Bool, not, if◌then◌else◌, List, [], ◌∷◌, map, fold, nat_eq}
 use Rattle.std.specs.List.{filter, starts_with}
 use Rattle.cics_names.specs.Keyed.{Bytes, Map}
 use Rattle.cics_ksds.specs.declared.definition.FileDef.{FileDef}
@@ -28,10 +27,6 @@ keys_under prefix records = map (λ e. e.0) (under prefix records)
 -- the entries from a bound on, or strictly above it
 abbrev pub from : Bytes → Bool → Map Bytes → Map Bytes
 from bound strict records = filter (λ e. is_from bound strict e.0) records
-
--- where to look for records under a prefix: at the last key that was found, or else at the prefix
-abbrev pub bound_of : Bytes → Option (Bor Bytes) → Bytes
-bound_of prefix last = unwrap_or (option_copied last) prefix
 
 -- the file after these keys were deleted, one after another
 abbrev pub all_deleted : Bool → FileValue → List Bytes → FileValue

@@ -1,9 +1,12 @@
 //! The records whose keys begin with the same bytes: counting and deleting them.
 
-ghost use Rattle.std.specs.Prelude.{◌≡◌, ◌<◌, ◌^◌, true, false, not, length, map};
-ghost use Rattle.std.specs.Prelude.{IfOk, IfSome, OnOk, OnErr, is_some};
-ghost use Rattle.cics_ksds.specs.Places.{ArePlaces, IsRecordUnder, places_in, file_of, left_at};
-ghost use Rattle.cics_ksds.specs.Prefixes.{has_prefix, under, outside, from, bound_of};
+ghost use Rattle.std.specs.Prelude.{◌≡◌, ◌<◌, ◌≤◌, ◌^◌, ℕ, List, [], ◌∷◌, true, false, not};
+ghost use Rattle.std.specs.Prelude.{length, map, slice_index_or, IfOk, IfSome, OnOk, OnErr};
+ghost use Rattle.cics_ksds.specs.Files.{entry_of, is_from};
+ghost use Rattle.cics_ksds.specs.Places.{ArePlaces, IsThere, IsRecordUnder, key_at, places_in};
+ghost use Rattle.cics_ksds.specs.Places.{file_of, interval_at, index_of, left_at};
+ghost use Rattle.cics_ksds.specs.declared.places.Place.TheVariants.{Filled, Empty};
+ghost use Rattle.cics_ksds.specs.Prefixes.{has_prefix, under, outside};
 ghost use Rattle.cics_ksds.specs.Prefixes.{without_prefix, added_entry};
 
 use crate::FileDef;
@@ -15,24 +18,25 @@ use crate::ranges::{behind, start_of};
 use cics_names::{Items, NoMemory, Record};
 use std::alloc::Global;
 
-/// Returns where the first record is whose key begins with the prefix. With `last`, a key under it,
-/// that is the first one above `last`. It looks at most at one slot beyond the prefix, and at
-/// one of an interval without records.
-fn next_under(
+/// Returns where the first record under the prefix is, from a position on. No key from there on is
+/// below the prefix. It looks at most at one slot beyond the prefix, and at one of an interval
+/// without records.
+fn first_under(
     definition: FileDef,
     places: &Dataset,
-    last: Option<&[u8]>,
+    mut at: Position,
     prefix: &[u8],
 ) -> Option<Position>
     requires places { ArePlaces definition (places_in places.now) }
-    requires last { IfSome last (λ key. has_prefix prefix.now key.now ≡ true) }
-    ensures left { left_at definition places.now prefix.now result ≡ under prefix.now
-        (from (bound_of prefix.now last.entry) (is_some last.entry)
-        (file_of definition places.now).records) }
+    requires there { 0 < length places.now → IsThere places.now at }
+    requires place { at.place ≤ length (interval_at places.now at) }
+    requires from { (j : ℕ) → index_of places.now at ≤ j → j < length (places_in places.now)
+        → is_from prefix.now false (key_at definition (places_in places.now) j) ≡ true }
+    ensures left { left_at definition places.now prefix.now result
+        ≡ left_at definition places.now prefix.now (Some at) }
     ensures found { IfSome result (IsRecordUnder definition places.now prefix.now) }
     ensures few { length (places_in places.now) < 2 ^ 64 }
 {
-    let mut at = start_of(definition, places, last.unwrap_or(prefix), last.is_some());
     while let Some(here) = places.next(at) {
         let place = place_at(places, here);
         if !place.key(definition).starts_with(prefix) {
@@ -46,17 +50,36 @@ fn next_under(
     None
 }
 
+/// Returns where the next record under the prefix is, behind one that is.
+fn next_under(
+    definition: FileDef,
+    places: &Dataset,
+    at: Position,
+    prefix: &[u8],
+) -> Option<Position>
+    requires places { ArePlaces definition (places_in places.now) }
+    requires at { IsRecordUnder definition places.now prefix.now at }
+    ensures left { (r : List ℕ)
+        → slice_index_or (places_in places.now) (index_of places.now at) (Empty []) ≡ Filled r
+        → left_at definition places.now prefix.now (Some at)
+        ≡ entry_of definition r ∷ left_at definition places.now prefix.now result }
+    ensures found { IfSome result (IsRecordUnder definition places.now prefix.now) }
+{
+    let place = at.place + 1;
+    first_under(definition, places, Position { place, ..at }, prefix)
+}
+
 /// Returns how many records have keys that begin with the prefix.
 fn count_under(definition: FileDef, places: &Dataset, prefix: &[u8]) -> u64
     requires { ArePlaces definition (places_in places.now) }
     ensures { result ≡ length (under prefix.now (file_of definition places.now).records) }
 {
     let mut number = 0;
-    let mut next = next_under(definition, places, None, prefix);
+    let start = start_of(definition, places, prefix, false);
+    let mut next = first_under(definition, places, start, prefix);
     while let Some(at) = next {
+        next = next_under(definition, places, at, prefix);
         number += 1;
-        let key = place_at(places, at).key(definition);
-        next = next_under(definition, places, Some(key), prefix);
     }
     number
 }
@@ -73,12 +96,13 @@ fn images_under(
         ≡ map (added_entry definition) (under prefix.now (file_of definition places.now).records)) }
 {
     let mut images = Vec::new(alloc);
-    let mut next = next_under(definition, places, None, prefix);
+    let start = start_of(definition, places, prefix, false);
+    let mut next = first_under(definition, places, start, prefix);
     while let Some(at) = next {
         let key = place_at(places, at).key(definition);
         let before = Before::Added(Record::from_slice(alloc, key)?);
         images.push(FileImage { definition, before })?;
-        next = next_under(definition, places, Some(key), prefix);
+        next = next_under(definition, places, at, prefix);
     }
     Ok(images)
 }
@@ -92,11 +116,13 @@ fn drop_under(definition: FileDef, places: &mut Dataset, prefix: &[u8]) -> u64
     ensures number { result ≡ length (under prefix.now (file_of definition places.old).records) }
 {
     let mut number = 0;
-    let mut next = next_under(definition, places, None, prefix);
+    let start = start_of(definition, places, prefix, false);
+    let mut next = first_under(definition, places, start, prefix);
     while let Some(at) = next {
         let old = take_at(definition, places, at);
         number += 1;
-        next = next_under(definition, places, Some(old.key(definition)), prefix);
+        let rest = start_of(definition, places, old.key(definition), true);
+        next = first_under(definition, places, rest, prefix);
     }
     number
 }
@@ -118,7 +144,8 @@ impl File {
 
     /// Returns how many records have keys that begin with the prefix. It takes no memory.
     ///
-    /// Cost: a look-up for each of them, one more, and the empty slots that it passes over.
+    /// Cost: one look-up, and one pass over the slots under the prefix, in one step over an interval
+    /// without records.
     pub fn count_prefix(&self, prefix: &[u8]) -> u64
         ensures { result ≡ length (under prefix.now self.now.records) }
     {
@@ -131,9 +158,8 @@ impl File {
     /// all records, with more than a key has none. If the number is 0, DELETE is answered NOTFND,
     /// and nothing changes.
     ///
-    /// Cost: one look-up, and for each record that it removes one more, or two with `keep`. It
-    /// passes once over the empty slots under the prefix, in one step over an interval without
-    /// records.
+    /// Cost: one look-up, and one more for each record that it removes. It passes once over the slots
+    /// under the prefix, in one step over an interval without records.
     ///
     /// With `keep` the slots stay, empty, and it returns the images that undo it. Only then is
     /// memory requested, for the images and for the keys. The only error is `NoMemory`.

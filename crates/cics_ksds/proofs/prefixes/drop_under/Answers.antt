@@ -1,21 +1,21 @@
 use Rattle.std.proofs.Common.{◌≡◌, true, false, [], ◌∷◌, length, map, sym, ◌∙◌, ap, arith}
 use Rattle.cics_names.specs.Keyed.{Bytes, Map}
 use Rattle.cics_ksds.specs.Files.{FileValue, key_of, dropped}
-use Rattle.cics_ksds.specs.Places.{IsRecordUnder, places_in, place_key, value_of, left_at}
+use Rattle.cics_ksds.specs.Places.{IsRecordUnder, places_in, place_key, key_at, index_of, value_of, left_at}
 use Rattle.cics_ksds.specs.Prefixes.{has_prefix, under, from, all_deleted, without_prefix}
 use Rattle.cics_ksds.specs.PrefixLaws.{dropped_there}
-use Rattle.cics_ksds.proofs.UnderPrefix.{under_from, from_without, fewer_under, found_at, none_found, found_left, found_key, found_place, found_record}
+use Rattle.cics_ksds.proofs.UnderPrefix.{above_from, start_left, from_start, from_without, fewer_under, found_at, none_found, found_left, found_key, found_place, found_record}
 use Rattle.cics_ksds.proofs.prefixes.drop_under.Goals as goal
-use Rattle.cics_ksds.proofs.prefixes.drop_under.Goals.{In-Some, In_default, After-take_at-old, After-next_under-next-in-Some}
+use Rattle.cics_ksds.proofs.prefixes.drop_under.Goals.{In-Some, In_default, After-take_at-old, After-first_under-next-in-Some}
 
 pub loop-next-init : goal.loop-next-init
 loop-next-init c =
-    let all = c.next_under-next.ensures.left ∙ under_from c.args.prefix.now (value_of c.args.definition (places_in c.args.places.now)).records in
+    let all = c.first_under-next.ensures.left ∙ start_left c.args.definition c.args.places.now c.args.prefix.now c.start_of-start.result c.start_of-start.ensures.before c.start_of-start.ensures.after in
     record {
       are = c.requires;
-      found = c.next_under-next.ensures.found;
+      found = c.first_under-next.ensures.found;
       counted = omega (arith, ap length all);
-      few = c.next_under-next.ensures.few;
+      few = c.first_under-next.ensures.few;
       whole = ap (λ (es : Map Bytes). all_deleted false (value_of c.args.definition (places_in c.args.places.now)) (map (λ e. e.0) es)) all;
     }
 
@@ -52,30 +52,34 @@ module _ (c : After-take_at-old) (found : IsRecordUnder c.args.definition c.loop
   less_one : value_of c.args.definition (places_in c.take_at-old.new.places) ≡ dropped (value_of c.args.definition (places_in c.loop-next.places)) (key_of c.args.definition found.record_there.0)
   less_one = c.take_at-old.ensures.value ∙ ap (λ p. dropped (value_of c.args.definition (places_in c.loop-next.places)) (place_key c.args.definition p)) found.record_there.1
 
-pub next_under-next-requires-in-Some-clause-last : goal.next_under-next-requires-in-Some-clause-last
-next_under-next-requires-in-Some-clause-last c =
-    let at = found (goal.at.next_under-next-requires-in-Some-clause-last c).In-Some in
-    ap (has_prefix c.args.prefix.now) (c.key.ensures ∙ key_is (goal.at.next_under-next-requires-in-Some-clause-last c).After-take_at-old at) ∙ at.record_there.2
+pub first_under-next-requires-in-Some-clause-from : goal.first_under-next-requires-in-Some-clause-from
+first_under-next-requires-in-Some-clause-from c j behind in_range =
+    let at = goal.at.first_under-next-requires-in-Some-clause-from c in
+    above_from c.args.prefix.now c.key.result.now (key_at c.args.definition (places_in c.take_at-old.new.places) j)
+    (ap (has_prefix c.args.prefix.now) (c.key.ensures ∙ key_is at.After-take_at-old (found at.In-Some)) ∙ (found at.In-Some).record_there.2)
+    (c.start_of-rest.ensures.after j behind in_range)
 
 -- what is left after it
-left_next : (c : After-next_under-next-in-Some) (found : IsRecordUnder c.args.definition c.loop-next.places c.args.prefix.now c.in-Some.at) →
+left_next : (c : After-first_under-next-in-Some) (found : IsRecordUnder c.args.definition c.loop-next.places c.args.prefix.now c.in-Some.at) →
     place_key c.args.definition c.take_at-old.result ≡ key_of c.args.definition found.record_there.0 →
     value_of c.args.definition (places_in c.take_at-old.new.places) ≡ dropped (value_of c.args.definition (places_in c.loop-next.places)) (key_of c.args.definition found.record_there.0) →
-    left_at c.args.definition c.take_at-old.new.places c.args.prefix.now c.next_under-next-in-Some.result
+    left_at c.args.definition c.take_at-old.new.places c.args.prefix.now c.first_under-next-in-Some.result
     ≡ under c.args.prefix.now (from (key_of c.args.definition found.record_there.0) true (value_of c.args.definition (places_in c.loop-next.places)).records)
 left_next c found same less =
-    let key = key_of c.args.definition found.record_there.0 in
-    c.next_under-next-in-Some.ensures.left
-    ∙ (λ i. under c.args.prefix.now (from ((c.key.ensures ∙ same) i) true (less i).records))
-    ∙ ap (under c.args.prefix.now) (from_without key (value_of c.args.definition (places_in c.loop-next.places)).records)
+    let d = c.args.definition in
+    let key = key_of d found.record_there.0 in
+    let places = places_in c.take_at-old.new.places in
+    c.first_under-next-in-Some.ensures.left
+    ∙ ap (under c.args.prefix.now) (sym (from_start d c.key.result.now true places (index_of c.take_at-old.new.places c.start_of-rest.result) c.start_of-rest.ensures.before c.start_of-rest.ensures.after)
+    ∙ (λ i. from ((c.key.ensures ∙ same) i) true (less i).records) ∙ from_without key (value_of d (places_in c.loop-next.places)).records)
 
 -- deleting what is left after it deletes all
-whole_next : (c : After-next_under-next-in-Some) (found : IsRecordUnder c.args.definition c.loop-next.places c.args.prefix.now c.in-Some.at) →
+whole_next : (c : After-first_under-next-in-Some) (found : IsRecordUnder c.args.definition c.loop-next.places c.args.prefix.now c.in-Some.at) →
     left_at c.args.definition c.loop-next.places c.args.prefix.now c.loop-next.next
     ≡ (key_of c.args.definition found.record_there.0, found.record_there.0) ∷ under c.args.prefix.now (from (key_of c.args.definition found.record_there.0) true (value_of c.args.definition (places_in c.loop-next.places)).records) →
     place_key c.args.definition c.take_at-old.result ≡ key_of c.args.definition found.record_there.0 →
     value_of c.args.definition (places_in c.take_at-old.new.places) ≡ dropped (value_of c.args.definition (places_in c.loop-next.places)) (key_of c.args.definition found.record_there.0) →
-    all_deleted false (value_of c.args.definition (places_in c.take_at-old.new.places)) (map (λ e. e.0) (left_at c.args.definition c.take_at-old.new.places c.args.prefix.now c.next_under-next-in-Some.result))
+    all_deleted false (value_of c.args.definition (places_in c.take_at-old.new.places)) (map (λ e. e.0) (left_at c.args.definition c.take_at-old.new.places c.args.prefix.now c.first_under-next-in-Some.result))
     ≡ without_prefix false (value_of c.args.definition (places_in c.args.places.now)) c.args.prefix.now
 whole_next c found now same less =
     let d = c.args.definition in
@@ -89,16 +93,16 @@ pub loop-next-smaller-in-Some : goal.loop-next-smaller-in-Some
 loop-next-smaller-in-Some c =
     let here = (goal.at.loop-next-smaller-in-Some c).In-Some in
     let taken = (goal.at.loop-next-smaller-in-Some c).After-take_at-old in
-    omega (arith, ap length (left_now here), ap length (left_next (goal.at.loop-next-smaller-in-Some c).After-next_under-next-in-Some (found here) (key_is taken (found here)) (less_one taken (found here))))
+    omega (arith, ap length (left_now here), ap length (left_next (goal.at.loop-next-smaller-in-Some c).After-first_under-next-in-Some (found here) (key_is taken (found here)) (less_one taken (found here))))
 
 pub loop-next-preserved-in-Some : goal.loop-next-preserved-in-Some
 loop-next-preserved-in-Some c =
     let here = (goal.at.loop-next-preserved-in-Some c).In-Some in
     let taken = (goal.at.loop-next-preserved-in-Some c).After-take_at-old in
-    let then = (goal.at.loop-next-preserved-in-Some c).After-next_under-next-in-Some in
+    let then = (goal.at.loop-next-preserved-in-Some c).After-first_under-next-in-Some in
     record {
       are = c.take_at-old.ensures.places;
-      found = c.next_under-next-in-Some.ensures.found;
+      found = c.first_under-next-in-Some.ensures.found;
       counted = omega (arith, ap length (left_now here), ap length (left_next then (found here) (key_is taken (found here)) (less_one taken (found here))), c.loop-next.invariant.counted);
       few = c.loop-next.invariant.few;
       whole = whole_next then (found here) (left_now here) (key_is taken (found here)) (less_one taken (found here));
@@ -108,16 +112,16 @@ pub loop-next-smaller : goal.loop-next-smaller
 loop-next-smaller c =
     let here = (goal.at.loop-next-smaller c).In-Some in
     let taken = (goal.at.loop-next-smaller c).After-take_at-old in
-    omega (arith, ap length (left_now here), ap length (left_next (goal.at.loop-next-smaller c).After-next_under-next-in-Some (found here) (key_is taken (found here)) (less_one taken (found here))))
+    omega (arith, ap length (left_now here), ap length (left_next (goal.at.loop-next-smaller c).After-first_under-next-in-Some (found here) (key_is taken (found here)) (less_one taken (found here))))
 
 pub loop-next-preserved : goal.loop-next-preserved
 loop-next-preserved c =
     let here = (goal.at.loop-next-preserved c).In-Some in
     let taken = (goal.at.loop-next-preserved c).After-take_at-old in
-    let then = (goal.at.loop-next-preserved c).After-next_under-next-in-Some in
+    let then = (goal.at.loop-next-preserved c).After-first_under-next-in-Some in
     record {
       are = c.take_at-old.ensures.places;
-      found = c.next_under-next-in-Some.ensures.found;
+      found = c.first_under-next-in-Some.ensures.found;
       counted = omega (arith, ap length (left_now here), ap length (left_next then (found here) (key_is taken (found here)) (less_one taken (found here))), c.loop-next.invariant.counted);
       few = c.loop-next.invariant.few;
       whole = whole_next then (found here) (left_now here) (key_is taken (found here)) (less_one taken (found here));

@@ -1,18 +1,18 @@
-use Rattle.std.proofs.Common.{◌≡◌, true, ◌++◌, ◌∷◌, length, map, sym, ◌∙◌, ap, arith, append_assoc}
+use Rattle.std.proofs.Common.{◌≡◌, ◌++◌, ◌∷◌, length, map, sym, ◌∙◌, ap, arith, append_assoc}
 use Rattle.std.proofs.lemmas.List.{append-nil}
 use Rattle.cics_ksds.specs.declared.images.Before.TheVariants.{Added}
 use Rattle.cics_ksds.specs.Files.{key_of}
-use Rattle.cics_ksds.specs.Places.{IsRecordUnder, places_in, value_of, left_at}
-use Rattle.cics_ksds.specs.Prefixes.{has_prefix, under, from, added_entry}
-use Rattle.cics_ksds.proofs.UnderPrefix.{under_from, found_at, none_found, found_left, found_key, found_place}
+use Rattle.cics_ksds.specs.Places.{IsRecordUnder, left_at}
+use Rattle.cics_ksds.specs.Prefixes.{added_entry}
+use Rattle.cics_ksds.proofs.UnderPrefix.{start_left, found_at, none_found, found_key, found_place}
 use Rattle.cics_ksds.proofs.prefixes.images_under.Goals as goal
-use Rattle.cics_ksds.proofs.prefixes.images_under.Goals.{In-Some, After-key-key, After-next_under-next-in-Some}
+use Rattle.cics_ksds.proofs.prefixes.images_under.Goals.{In-Some, After-next_under-next}
 
 pub loop-next-init : goal.loop-next-init
 loop-next-init c = record {
-  found = c.next_under-next.ensures.found;
-  whole = ap (λ l. l ++ map (added_entry c.args.definition) (left_at c.args.definition c.args.places.now c.args.prefix.now c.next_under-next.result)) c.new-images.ensures.items
-      ∙ ap (map (added_entry c.args.definition)) (c.next_under-next.ensures.left ∙ under_from c.args.prefix.now (value_of c.args.definition (places_in c.args.places.now)).records);
+  found = c.first_under-next.ensures.found;
+  whole = ap (λ l. l ++ map (added_entry c.args.definition) (left_at c.args.definition c.args.places.now c.args.prefix.now c.first_under-next.result)) c.new-images.ensures.items
+      ∙ ap (map (added_entry c.args.definition)) (c.first_under-next.ensures.left ∙ start_left c.args.definition c.args.places.now c.args.prefix.now c.start_of-start.result c.start_of-start.ensures.before c.start_of-start.ensures.after);
 }
 
 -- the record whose key comes next
@@ -28,43 +28,26 @@ place_at-requires-clause-place c = (found (goal.at.place_at-requires-clause-plac
 pub key-key-requires : goal.key-key-requires
 key-key-requires c = found_place c.args.definition c.args.places.now c.args.prefix.now c.requires c.in-Some.at (found (goal.at.key-key-requires c).In-Some) c.place_at.result.now c.place_at.ensures
 
--- the key that was read is that of its record
-key_is : (c : After-key-key) (found : IsRecordUnder c.args.definition c.args.places.now c.args.prefix.now c.in-Some.at) → c.key-key.result.now ≡ key_of c.args.definition found.record_there.0
-key_is c found = c.key-key.ensures ∙ found_key c.args.definition c.args.places.now c.args.prefix.now c.requires c.in-Some.at found c.place_at.result.now c.place_at.ensures
-
-pub next_under-next-requires-in-Some-clause-last : goal.next_under-next-requires-in-Some-clause-last
-next_under-next-requires-in-Some-clause-last c =
-    let found = found (goal.at.next_under-next-requires-in-Some-clause-last c).In-Some in
-    ap (λ k. has_prefix c.args.prefix.now k) (key_is (goal.at.next_under-next-requires-in-Some-clause-last c).After-key-key found) ∙ found.record_there.2
-
--- what is left, and what is left after it
-left_now : (c : In-Some) → left_at c.args.definition c.args.places.now c.args.prefix.now c.loop-next.next
-    ≡ (key_of c.args.definition (found c).record_there.0, (found c).record_there.0) ∷ under c.args.prefix.now (from (key_of c.args.definition (found c).record_there.0) true (value_of c.args.definition (places_in c.args.places.now)).records)
-left_now c = found_left c.args.definition c.args.places.now c.args.prefix.now c.requires c.in-Some.at (found c) c.loop-next.next c.in-Some.is
-
--- after that key what is left is the records under the prefix above it
-left_next : (c : After-next_under-next-in-Some) (found : IsRecordUnder c.args.definition c.args.places.now c.args.prefix.now c.in-Some.at) → c.key-key.result.now ≡ key_of c.args.definition found.record_there.0 →
-    left_at c.args.definition c.args.places.now c.args.prefix.now c.next_under-next-in-Some.result ≡ under c.args.prefix.now (from (key_of c.args.definition found.record_there.0) true (value_of c.args.definition (places_in c.args.places.now)).records)
-left_next c found same = c.next_under-next-in-Some.ensures.left ∙ ap (λ k. under c.args.prefix.now (from k true (value_of c.args.definition (places_in c.args.places.now)).records)) same
+-- what is left begins with it
+left_now : (c : After-next_under-next) (found : IsRecordUnder c.args.definition c.args.places.now c.args.prefix.now c.in-Some.at) →
+    left_at c.args.definition c.args.places.now c.args.prefix.now c.loop-next.next ≡ (key_of c.args.definition found.record_there.0, found.record_there.0) ∷ left_at c.args.definition c.args.places.now c.args.prefix.now c.next_under-next.result
+left_now c found = ap (λ o. left_at c.args.definition c.args.places.now c.args.prefix.now o) c.in-Some.is ∙ c.next_under-next.ensures.left found.record_there.0 found.record_there.1
 
 pub loop-next-smaller : goal.loop-next-smaller
-loop-next-smaller c =
-    let at = (goal.at.loop-next-smaller c).In-Some in
-    omega (arith, ap length (left_now at), ap length (left_next (goal.at.loop-next-smaller c).After-next_under-next-in-Some (found at) (key_is (goal.at.loop-next-smaller c).After-key-key (found at))))
+loop-next-smaller c = omega (arith, ap length (left_now (goal.at.loop-next-smaller c).After-next_under-next (found (goal.at.loop-next-smaller c).In-Some)))
 
 pub loop-next-preserved : goal.loop-next-preserved
 loop-next-preserved c =
-    let at = (goal.at.loop-next-preserved c).In-Some in
+    let at = found (goal.at.loop-next-preserved c).In-Some in
     let d = c.args.definition in
-    let same = key_is (goal.at.loop-next-preserved c).After-key-key (found at) in
-    let next = left_next (goal.at.loop-next-preserved c).After-next_under-next-in-Some (found at) same in
-    let rest = map (added_entry d) (left_at d c.args.places.now c.args.prefix.now c.next_under-next-in-Some.result) in
+    let same = c.key-key.ensures ∙ found_key d c.args.places.now c.args.prefix.now c.requires c.in-Some.at at c.place_at.result.now c.place_at.ensures in
+    let rest = map (added_entry d) (left_at d c.args.places.now c.args.prefix.now c.next_under-next.result) in
     record {
-      found = c.next_under-next-in-Some.ensures.found;
+      found = c.next_under-next.ensures.found;
       whole = ap (λ l. l ++ rest) c.in_ok-push.ensures.items
           ∙ append_assoc c.loop-next.images.items _ rest
-          ∙ (λ i. c.loop-next.images.items ++ (record { definition = d; before = Added ((c.in_ok-from_slice.ensures ∙ same) i) } ∷ map (added_entry d) (next i)))
-          ∙ ap (λ l. c.loop-next.images.items ++ map (added_entry d) l) (sym (left_now at))
+          ∙ (λ i. c.loop-next.images.items ++ (record { definition = d; before = Added ((c.in_ok-from_slice.ensures ∙ same) i) } ∷ rest))
+          ∙ ap (λ l. c.loop-next.images.items ++ map (added_entry d) l) (sym (left_now (goal.at.loop-next-preserved c).After-next_under-next at))
           ∙ c.loop-next.invariant.whole;
     }
 

@@ -1,107 +1,23 @@
-use Rattle.std.proofs.Common.{◌≡◌, ◌<◌, ◌+◌, ℕ, refl, List, [], ◌∷◌, T, is_some, length, get_or, drop, map, sym, ◌∙◌, ap, subst, arith}
-use Rattle.std.specs.Borrow.{Bor}
-use Rattle.std.proofs.lemmas.List.{drop_more}
-use Rattle.cics_names.specs.Keyed.{Bytes, is_rising, is_below}
-use Rattle.cics_ksds.specs.declared.places.Place.{Place}
-use Rattle.cics_ksds.specs.declared.places.Place.TheVariants.{Empty}
-use Rattle.cics_ksds.specs.Places.{IsPlace, record_in, slots, filled_slots, value_of, place_key, key_at, places_in, index_of, IsPosition}
-use Rattle.cics_ksds.specs.Files.{is_from}
-use Rattle.cics_ksds.specs.Prefixes.{has_prefix, under, from, bound_of}
-use Rattle.cics_ksds.proofs.Bounds.{records_listed, keyed}
-use Rattle.cics_ksds.proofs.IntervalEdits.{index_within}
-use Rattle.cics_ksds.proofs.UnderPrefix.{bound_begins, bound_is, from_start, from_not_below, none_left, read_there, rising_drop}
+use Rattle.std.proofs.Common.{◌≡◌, ◌∷◌, ◌+◌, drop, sym, ◌∙◌, ap, arith}
+use Rattle.cics_names.specs.Keyed.{Bytes}
+use Rattle.cics_ksds.specs.Files.{key_of}
+use Rattle.cics_ksds.specs.Places.{places_in, value_of, index_of, key_at}
+use Rattle.cics_ksds.specs.Prefixes.{under}
+use Rattle.cics_ksds.proofs.UnderPrefix.{begins, left_more, above, above_from}
 use Rattle.cics_ksds.proofs.prefixes.next_under.Goals as goal
-use Rattle.cics_ksds.proofs.prefixes.next_under.Goals.{After-place_at-place}
 
-pub loop-here-init : goal.loop-here-init
-loop-here-init c =
-    let d = c.args.definition in
-    let places = places_in c.args.places.now in
-    let start = index_of c.args.places.now c.start_of-at.result in
-    let bound : c.unwrap_or.result.now ≡ bound_of c.args.prefix.now c.args.last = ap (λ (b : Bor Bytes). b.now) c.unwrap_or.ensures ∙ bound_is c.args.prefix c.args.last in
-    let strict : c.is_some.result ≡ is_some c.args.last = c.is_some.ensures in
-    record {
-      there = c.start_of-at.ensures.there;
-      place = c.start_of-at.ensures.place;
-      after = λ j le lt. sym (ap (λ b. is_from b c.is_some.result (key_at d places j)) bound ∙ ap (λ s. is_from (bound_of c.args.prefix.now c.args.last) s (key_at d places j)) strict) ∙ c.start_of-at.ensures.after j le lt;
-      left = ap (under c.args.prefix.now) (sym (from_start d c.unwrap_or.result.now c.is_some.result places start c.start_of-at.ensures.before c.start_of-at.ensures.after)
-          ∙ ap (λ b. from b c.is_some.result (value_of d places).records) bound ∙ ap (λ s. from (bound_of c.args.prefix.now c.args.last) s (value_of d places).records) strict);
-    }
+pub first_under-requires-clause-from : goal.first_under-requires-clause-from
+first_under-requires-clause-from c j behind in_range =
+    let r = c.requires.at.record_there.0 in
+    let read = c.requires.at.record_there.1 in
+    above_from c.args.prefix.now (key_of c.args.definition r) (key_at c.args.definition (places_in c.args.places.now) j)
+    (begins c.args.definition c.args.places.now c.args.prefix.now c.args.at c.requires.places c.requires.at r read)
+    (above c.args.definition c.args.places.now c.args.prefix.now c.args.at c.requires.places c.requires.at r read j (omega (arith, behind)) in_range)
 
-pub next-requires-clause-there : goal.next-requires-clause-there
-next-requires-clause-there c = c.loop-here.invariant.there
-
-pub next-requires-clause-place : goal.next-requires-clause-place
-next-requires-clause-place c = c.loop-here.invariant.place
-
--- the place that was read, and where it stands
-module _ (c : After-place_at-place) where
-  abbrev places : List Place
-  places = places_in c.args.places.now
-
-  abbrev index : ℕ
-  index = index_of c.args.places.now c.in-Some.here
-
-  is : IsPosition c.args.places.now (index_of c.args.places.now c.loop-here.at) c.in-Some.here
-  is = c.in-Some.ensures.next
-
-  within : index < length places
-  within = index_within c.args.places.now c.in-Some.here is.there is.place
-
-  stands : (get_or places index (Empty []) ≡ c.place_at-place.result.now) × IsPlace c.args.definition c.place_at-place.result.now
-  stands = read_there c.args.definition places index c.place_at-place.result.now c.requires.places within c.place_at-place.ensures
-
-  parts : drop index places ≡ c.place_at-place.result.now ∷ drop (index + 1) places
-  parts = drop_more places index (Empty []) within ∙ ap (λ p. p ∷ drop (index + 1) places) stands.0
-
-pub key-requires : goal.key-requires
-key-requires c = (stands (goal.at.key-requires c).After-place_at-place).1
-
-pub returns-then-not-starts_with-clause-left : goal.returns-then-not-starts_with-clause-left
-returns-then-not-starts_with-clause-left c =
-    let at = (goal.at.returns-then-not-starts_with-clause-left c).After-place_at-place in
-    let d = c.args.definition in
-    let place = c.place_at-place.result.now in
-    let bound = bound_of c.args.prefix.now c.args.last in
-    let above = c.loop-here.invariant.after (index at) (omega (arith, (is at).same)) (within at) in
-    sym (none_left d bound c.args.prefix.now (bound_begins c.args.prefix.now c.args.last c.requires.last) (place_key d place)
-    (ap (λ p. is_below (place_key d p) bound) (sym (stands at).0) ∙ from_not_below bound (is_some c.args.last) (key_at d (places at) (index at)) above)
-    (ap (has_prefix c.args.prefix.now) (sym c.key.ensures) ∙ sym c.starts_with.ensures.value ∙ c.if-not-starts_with.true)
-    place (drop (index at + 1) (places at)) refl (subst (λ l. T (is_rising (slots d l))) (parts at) (rising_drop d (index at) (places at) c.requires.places.rising)))
-    ∙ ap (λ l. under c.args.prefix.now (filled_slots (slots d l))) (sym (parts at) ∙ ap (λ n. drop n (places at)) (is at).same)
-    ∙ c.loop-here.invariant.left
-
-pub returns-in-Filled-clause-found : goal.returns-in-Filled-clause-found
-returns-in-Filled-clause-found c =
-    let at = (goal.at.returns-in-Filled-clause-found c).After-place_at-place in
-    record {
-      there = (is at).there;
-      place = (is at).place;
-      record_there = (
-        c.in-Filled.field-0,
-        (stands at).0 ∙ c.in-Filled.is,
-        ap (λ p. has_prefix c.args.prefix.now (place_key c.args.definition p)) (sym c.in-Filled.is) ∙ ap (has_prefix c.args.prefix.now) (sym c.key.ensures) ∙ sym c.starts_with.ensures.value ∙ c.if-not-starts_with.false,
-      );
-    }
-
-pub behind-at-requires-clause-empty : goal.behind-at-requires-clause-empty
-behind-at-requires-clause-empty c = ap record_in ((stands (goal.at.behind-at-requires-clause-empty c).After-place_at-place).0 ∙ c.in-Empty.is)
-
-pub loop-here-smaller : goal.loop-here-smaller
-loop-here-smaller c =
-    let at = (goal.at.loop-here-smaller c).After-place_at-place in
-    omega (arith, within at, (is at).same, c.behind-at.ensures.further)
-
-pub loop-here-preserved : goal.loop-here-preserved
-loop-here-preserved c =
-    let at = (goal.at.loop-here-preserved c).After-place_at-place in
-    let d = c.args.definition in
-    let next = drop (index_of c.args.places.now c.behind-at.result) (places at) in
-    record {
-      there = λ some. c.behind-at.ensures.there;
-      place = c.behind-at.ensures.place;
-      after = λ j le lt. c.loop-here.invariant.after j (omega (arith, le, c.behind-at.ensures.further, (is at).same)) lt;
-      left = ap (under c.args.prefix.now) (records_listed d next ∙ ap (map (keyed d)) c.behind-at.ensures.records ∙ sym (records_listed d (drop (index at) (places at))))
-          ∙ ap (λ n. under c.args.prefix.now (filled_slots (slots d (drop n (places at))))) (is at).same
-          ∙ c.loop-here.invariant.left;
-    }
+pub returns-clause-left : goal.returns-clause-left
+returns-clause-left c r read =
+    let e : Bytes × Bytes = (key_of c.args.definition r, r) in
+    let behind : index_of c.args.places.now c.args.at + 1 ≡ index_of c.args.places.now (record { area = c.args.at.area; interval = c.args.at.interval; place = c.args.at.place + 1 }) = omega arith in
+    left_more c.args.definition c.args.places.now c.args.prefix.now c.args.at c.requires.places c.requires.at r read
+    ∙ ap (λ n. e ∷ under c.args.prefix.now (value_of c.args.definition (drop n (places_in c.args.places.now))).records) behind
+    ∙ ap (λ l. e ∷ l) (sym c.first_under.ensures.left)
