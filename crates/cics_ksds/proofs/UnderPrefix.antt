@@ -26,7 +26,7 @@ use Rattle.cics_ksds.specs.Prefixes.{has_prefix, under, from}
 use Rattle.cics_ksds.proofs.Order.{total, first, second, less, same_or_below}
 
 -- ---- what passes one test after another
-pub filter_within : {X : Type 0} (p q : X → Bool) → ((x : X) → p x ≡ true → q x ≡ true) → (xs : List X) → filter p (filter q xs) ≡ filter p xs
+filter_within : {X : Type 0} (p q : X → Bool) → ((x : X) → p x ≡ true → q x ≡ true) → (xs : List X) → filter p (filter q xs) ≡ filter p xs
 filter_within p q within [] = refl
 filter_within p q within (x ∷ xs) = by (filter_within p q within xs) (p x) (q x) refl refl
   where
@@ -44,13 +44,8 @@ right : (a b : Bool) → (a && b) ≡ true → b ≡ true
 right true b e = e
 right false b e = let wrong : false ≡ true = e in cc
 
--- a prefix begins with itself
-pub prefix_itself : (p : Bytes) → has_prefix p p ≡ true
-prefix_itself [] = refl
-prefix_itself (x ∷ p) = (λ i. eq-eqb x x refl i && prefix_itself p i)
-
 -- no key that begins with a prefix is below it
-pub prefix_from : (p k : Bytes) → has_prefix p k ≡ true → is_from p false k ≡ true
+prefix_from : (p k : Bytes) → has_prefix p k ≡ true → is_from p false k ≡ true
 prefix_from [] [] has = refl
 prefix_from [] (y ∷ k) has = refl
 prefix_from (x ∷ p) [] has = let wrong : false ≡ true = has in cc
@@ -59,7 +54,7 @@ prefix_from (x ∷ p) (y ∷ k) has =
     ap (λ o. not (is_lt (ordering_then o (bytes_cmp k p)))) (ap (nat_cmp y) same ∙ tied_itself nat_cmp_total y) ∙ prefix_from p k (right _ _ has)
 
 -- a key that isn't below a prefix, and is below one that begins with it, begins with it
-pub convex : (p b c : Bytes) → has_prefix p c ≡ true → is_from p false b ≡ true → bytes_cmp b c ≡ Less → has_prefix p b ≡ true
+convex : (p b c : Bytes) → has_prefix p c ≡ true → is_from p false b ≡ true → bytes_cmp b c ≡ Less → has_prefix p b ≡ true
 convex [] b c hc above below = refl
 convex (x ∷ p) [] c hc above below = let wrong : false ≡ true = above in cc
 convex (x ∷ p) (v ∷ b) [] hc above below = let wrong : false ≡ true = hc in cc

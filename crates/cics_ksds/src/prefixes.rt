@@ -122,6 +122,7 @@ fn drop_under(definition: FileDef, places: &mut Dataset, prefix: &[u8]) -> u64
         let old = take_at(definition, places, at);
         number += 1;
         let rest = start_of(definition, places, old.key(definition), true);
+        drop(old);
         next = first_under(definition, places, rest, prefix);
     }
     number
@@ -144,8 +145,8 @@ impl File {
 
     /// Returns how many records have keys that begin with the prefix. It takes no memory.
     ///
-    /// Cost: one look-up, and one pass over the slots under the prefix, in one step over an interval
-    /// without records.
+    /// Cost: one look-up, and one pass over the slots under the prefix. That takes one step over an
+    /// interval without records.
     pub fn count_prefix(&self, prefix: &[u8]) -> u64
         ensures { result ≡ length (under prefix.now self.now.records) }
     {
@@ -158,8 +159,8 @@ impl File {
     /// all records, with more than a key has none. If the number is 0, DELETE is answered NOTFND,
     /// and nothing changes.
     ///
-    /// Cost: one look-up, and one more for each record that it removes. It passes once over the slots
-    /// under the prefix, in one step over an interval without records.
+    /// Cost: one look-up, one more for each record that it removes, and one pass over the slots
+    /// under the prefix. That takes one step over an interval without records.
     ///
     /// With `keep` the slots stay, empty, and it returns the images that undo it. Only then is
     /// memory requested, for the images and for the keys. The only error is `NoMemory`.

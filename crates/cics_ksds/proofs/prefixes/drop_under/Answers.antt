@@ -89,25 +89,6 @@ whole_next c found now same less =
     ∙ ap (λ (es : Map Bytes). all_deleted false old (map (λ e. e.0) es)) (sym now)
     ∙ c.loop-next.invariant.whole
 
-pub loop-next-smaller-in-Some : goal.loop-next-smaller-in-Some
-loop-next-smaller-in-Some c =
-    let here = (goal.at.loop-next-smaller-in-Some c).In-Some in
-    let taken = (goal.at.loop-next-smaller-in-Some c).After-take_at-old in
-    omega (arith, ap length (left_now here), ap length (left_next (goal.at.loop-next-smaller-in-Some c).After-first_under-next-in-Some (found here) (key_is taken (found here)) (less_one taken (found here))))
-
-pub loop-next-preserved-in-Some : goal.loop-next-preserved-in-Some
-loop-next-preserved-in-Some c =
-    let here = (goal.at.loop-next-preserved-in-Some c).In-Some in
-    let taken = (goal.at.loop-next-preserved-in-Some c).After-take_at-old in
-    let then = (goal.at.loop-next-preserved-in-Some c).After-first_under-next-in-Some in
-    record {
-      are = c.take_at-old.ensures.places;
-      found = c.first_under-next-in-Some.ensures.found;
-      counted = omega (arith, ap length (left_now here), ap length (left_next then (found here) (key_is taken (found here)) (less_one taken (found here))), c.loop-next.invariant.counted);
-      few = c.loop-next.invariant.few;
-      whole = whole_next then (found here) (left_now here) (key_is taken (found here)) (less_one taken (found here));
-    }
-
 pub loop-next-smaller : goal.loop-next-smaller
 loop-next-smaller c =
     let here = (goal.at.loop-next-smaller c).In-Some in
