@@ -337,6 +337,10 @@ pub pushed_key : (rs new : List Resource) (r : Resource) (there is_new : Bool) �
 pushed_key rs new r true is_new put added is = absurd (true≢false (sym is ∙ added))
 pushed_key rs new r false is_new put added is = put
 
+pub same_key : (rs new : List Resource) (r : Resource) (there is_new : Bool) → new ≡ (if there then rs else rs ++ r ∷ []) → is_new ≡ not there → is_new ≡ false → new ≡ rs
+same_key rs new r true is_new put added is = put
+same_key rs new r false is_new put added is = absurd (true≢false (sym added ∙ is))
+
 pub resources_more : (rs : List Resource) (r : Resource) → KeepsResources rs (rs ++ r ∷ [])
 resources_more rs r = record { kept = kept rs }
   where

@@ -1,5 +1,5 @@
 use Rattle.std.proofs.Common.{◌≡◌, ◌∙◌, ◌∷◌, ◌++◌, [], None, ap}
-use Rattle.cics_waits.proofs.FiledNotes.{pushed_key, filed_new_group, resources_more, blockers_more}
+use Rattle.cics_waits.proofs.FiledNotes.{pushed_key, same_key, filed_new_group, resources_more, blockers_more}
 use Rattle.cics_waits.proofs.ShownNotes.{none_in}
 use Rattle.cics_waits.proofs.notes.Notes.line_of.Goals as goal
 use Rattle.cics_waits.proofs.notes.Notes.line_of.Goals.{Then-is_new}
@@ -24,3 +24,12 @@ returns-then-is_new-clause-resources c =
 pub returns-then-is_new-clause-blockers : goal.returns-then-is_new-clause-blockers
 returns-then-is_new-clause-blockers c =
     rw (← c.self.view_is) (rw (c.push_reserved.ensures.items ∙ ap (λ bs. bs ++ None ∷ []) c.in_ok-reserve.ensures.items) (blockers_more c.self.inside.groups.blockers.items))
+
+pub invariant_of-self-in_err-group : goal.invariant_of-self-in_err-group
+invariant_of-self-in_err-group c =
+    rw c.in_err-group.ensures.err (rw c.in_ok-reserve.ensures.items (rw c.in_ok-reserve-2.ensures.items c.self.invariant))
+
+pub invariant_of-self-else-is_new : goal.invariant_of-self-else-is_new
+invariant_of-self-else-is_new c =
+    rw (same_key c.self.inside.resources.keys c.insert_full.new.self.keys c.args.resource _ c.in_ok-group.is_new c.in_ok-group.ensures.keys c.in_ok-group.ensures.added c.if-is_new.false)
+    (rw c.in_ok-reserve.ensures.items (rw c.in_ok-reserve-2.ensures.items c.self.invariant))

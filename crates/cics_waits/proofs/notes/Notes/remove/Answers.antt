@@ -42,3 +42,10 @@ invariant_of-self c =
     let new = c.leave.new.self in
     rw c.leave.ensures.rows (rw c.leave.ensures.blockers
     (filed_gone _ _ _ _ _ _ _ c.self.invariant c.args.at (u.count - 1) c.in-Some.note new.members.items new.keys known c.leave.ensures.left less))
+
+pub unreachable-requires : goal.unreachable-requires
+unreachable-requires c =
+    let rows = c.self.inside.groups.rows.items in
+    let there = ap (λ v. slice_get v.rows c.args.at) c.self.view_is ∙ c.requires.there.1 in
+    let read = slice_get_read rows (length rows) c.args.at c.index.result.now refl (slice_get_within rows c.args.at (Some c.requires.there.0) there) c.index.ensures in
+    c.in_default.not-Some c.requires.there.0 cc
