@@ -19,3 +19,6 @@ invariant_of-self c = record {
   );
   head = subst (λ (l : List Place). IsHead l c.head_of-self-inside.result) c.as_slice-3.ensures.value c.head_of-self-inside.ensures;
 }
+
+pub overflow_sub-self : goal.overflow_sub-self
+overflow_sub-self c = omega (arith, records_halves 8 c.self.inside.places.items, ap (λ l. length (listed l)) (c.as_slice.ensures.value ∙ c.move_tail.ensures.tail), c.records_in-right-inside.ensures, c.self.invariant.counted)
