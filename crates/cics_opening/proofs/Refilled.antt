@@ -6,6 +6,7 @@ use Rattle.std.specs.declared.cmp.Ordering.TheVariants.{Less, Greater}
 use Rattle.std.specs.Ordering.{is_lt, ordering_reverse}
 use Rattle.std.specs.Cmp.Lexicographic.{nat_list_cmp_total}
 use Rattle.std.proofs.lemmas.List.{append_assoc, append-nil}
+use Rattle.std.proofs.lemmas.List.Sums.{fold-append}
 use Rattle.std.specs.FinMap.Entries.{by_order, below_all}
 use Rattle.cics_names.specs.Keyed.{Bytes, Map, bytes_cmp, with_value, is_rising}
 use Rattle.cics_opening.specs.RegionFiles.{refilled}
@@ -60,3 +61,7 @@ module _ {X : Type 0} where
 
   pub refilled-rising : (es : Map X) → T (is_rising es) → refilled es ≡ es
   refilled-rising es rising = put_behind [] es (ahead_of_none es) rising
+
+  -- one entry more is put in
+  pub refilled-more : (new m es : Map X) (k : Bytes) (x y : X) → new ≡ with_value k x m → x ≡ y → m ≡ refilled es → new ≡ refilled (es ++ (k, y) ∷ [])
+  refilled-more new m es k x y put same is = put ∙ ap (λ v. with_value k v m) same ∙ ap (with_value k y) is ∙ sym (fold-append (λ n e. with_value e.0 e.1 n) [] es ((k, y) ∷ []))

@@ -26,7 +26,7 @@ impl Named<File> {
     {
         let mut files = Named::new(self.alloc);
         for (name, original) in &self.rows {
-            files.insert(*name, original.copy()?)?;
+            drop(files.insert(*name, original.copy()?)?);
         }
         Ok(files)
     }

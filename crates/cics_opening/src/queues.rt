@@ -156,7 +156,7 @@ impl Queues {
     {
         let mut queues = Queues::new(self.alloc);
         for (name, original) in &self.rows {
-            queues.insert(*name, original.copy()?)?;
+            drop(queues.insert(*name, original.copy()?)?);
         }
         Ok(queues)
     }

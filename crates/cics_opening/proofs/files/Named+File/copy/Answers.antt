@@ -1,9 +1,15 @@
-use Rattle.std.proofs.Common.{◌≡◌, map, rules, ◌∙◌, ap}
+use Rattle.std.proofs.Common.{◌≡◌, map, rules, ◌∙◌, ap, [], ◌∷◌}
+use Rattle.std.proofs.lemmas.List.{map-append}
 use Rattle.std.specs.Map.Iter.{deref_pair}
 use Rattle.std.proofs.lemmas.Map.Iter.{iter_end}
 use Rattle.cics_opening.specs.RegionFiles.{refilled}
-use Rattle.cics_opening.proofs.Refilled.{refilled-rising}
+use Rattle.cics_opening.proofs.Refilled.{refilled-rising, refilled-more}
 use Rattle.cics_opening.proofs.files.Named+File.copy.Goals as goal
+
+pub loop-name-preserved : goal.loop-name-preserved
+loop-name-preserved c =
+    rw (map-append deref_pair c.loop-name.yielded ((c.in-Some.name, c.in-Some.original) ∷ []))
+    (refilled-more _ _ (map deref_pair c.loop-name.yielded) _ _ _ c.in_ok-insert.ensures.values c.in_ok-copy.ensures c.loop-name.invariant)
 
 pub returns : goal.returns
 returns c =
