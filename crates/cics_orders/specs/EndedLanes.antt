@@ -112,6 +112,8 @@ Awake m = (x : Bytes) → is_waiting m.waiting x ≡ true → ended_task m.tasks
 abbrev Down : Machine → Type 0
 Down m = m.is_down ≡ true → (x : Bytes) → ended_task m.tasks x ≡ Some false → ⊥
 
+-- lanes and tasks agree on which have ended, no task that has ended waits, and after a shutdown
+-- each task has ended
 pub record Fits (s : State) : Type 0 where
   pub agrees : Agrees s
   pub awake : Awake s.machine
@@ -262,6 +264,7 @@ shutdown s fits = by m.is_down
       awake = λ x waits. let clash : false ≡ true = ap (λ ws. is_waiting ws x) (sym (waits_shut m.tasks (with_waiting m []))) ∙ waits in cc;
     }
 
+-- so it is after each line
 pub line_fits : (s : State) → Fits s → (r : Result Line LineFault) → Fits (after_line s r)
 line_fits s fits (Ok (says.Issue label command)) = issue s fits label command
 line_fits s fits (Ok (says.Clock seconds)) = clock s fits seconds
@@ -301,6 +304,7 @@ late_waits m t (v ∷ ws) is =
           (elim (is_same v.label t.label) as (λ b. cond b true (is_waiting ws t.label) ≡ true) [ true ↦ refl | false ↦ rest.0 ], rest.1)
     ] is
 
+-- a task that was found not to have ended has not ended
 pub not_ended : (o : Option Task) (t : Task) → o ≡ Some t → option_map (λ t. t.has_ended) o ≡ Some false → t.has_ended ≡ false
 not_ended o t is ended = cc
 
@@ -359,12 +363,14 @@ within_fits (suc n) s fits = by (within_fits n) (drained_once s) refl
     by rest None is = fits
     by rest (Some t) is = rest t (once_fits s t fits is)
 
+-- so it is once what may go on has gone on
 pub drained_fits : (s : State) → Fits s → Fits (drained s)
 unfolding drained
 drained_fits s fits = within_fits (length s.machine.waiting) s fits
 
 -- ---- A lane gives
 
+-- which lanes have ended stays so if a lane gives a line
 pub lanes_given : (xs : List Lane) (l : ℕ) (x : Lane) (ends : Bool) (y : Bytes) → slice_get xs l ≡ Some x → ended_lane (slice_set xs l (with_given x ends)) y ≡ ended_lane xs y
 lanes_given [] l x ends y at = cc
 lanes_given (z ∷ zs) zero x ends y at =
@@ -477,6 +483,7 @@ attaches_up : (ts : List TaskPlan) (m : Machine) → m.is_down ≡ false → (fo
 attaches_up [] m up = up
 attaches_up (t ∷ ts) m up = attaches_up ts (with_task m t) (attach_up m t up)
 
+-- so it is at the start
 pub start_fits : (p : Plan) → Fits (initial_state p)
 unfolding initial_state
 start_fits p = record {

@@ -59,6 +59,7 @@ ended_put (w ∷ ws) u b x there = by (ended_put ws u b x) (is_same w.label u.la
 
 -- ---- Who waits
 
+-- a task that still waits after another wait ended has waited before
 pub still_waits : (ws : List Suspended) (label x : Bytes) → is_waiting (not_waiting ws label) x ≡ true → is_waiting ws x ≡ true
 still_waits [] label x = λ waits. waits
 still_waits (w ∷ ws) label x =

@@ -62,12 +62,14 @@ core_told (x ∷ xs) label o = by (core_told xs label o) (is_of x label)
     by rest true = refl
     by rest false = ap (λ ys. core x ∷ ys) rest
 
+-- an outcome leaves the cores of lanes as they are
 pub core_hearing : (xs : List Lane) (label : Bytes) (o : Outcome) → map core (hearing xs label o) ≡ map core xs
 core_hearing xs label (Replied reply) = core_told xs label (Replied reply)
 core_hearing xs label (Waiting holder) = refl
 core_hearing xs label (Abended code reply) = core_told xs label (Abended code reply)
 core_hearing xs label Ended = core_told xs label Ended
 
+-- so does a shutdown
 pub core_shut : (xs : List Lane) → map core (map shut xs) ≡ map core xs
 core_shut [] = refl
 core_shut (x ∷ xs) = ap (λ ys. core x ∷ ys) (core_shut xs)
@@ -77,6 +79,7 @@ commands_core : (xs : List Lane) (label : Bytes) → command_of (map core xs) la
 commands_core [] label = refl
 commands_core (x ∷ xs) label = λ i. if of_core x label i then last_command x else commands_core xs label i
 
+-- so their labels have the same last command
 pub core_gave : (xs ys : List Lane) → map core xs ≡ map core ys → (label : Bytes) → command_of xs label ≡ command_of ys label
 core_gave xs ys same label = sym (commands_core xs label) ∙ ap (λ zs. command_of zs label) same ∙ commands_core ys label
 
@@ -85,6 +88,7 @@ frames_core : (xs : List Lane) → map frame (map core xs) ≡ map frame xs
 frames_core [] = refl
 frames_core (x ∷ xs) = ap (λ ys. frame x ∷ ys) (frames_core xs)
 
+-- lanes with the same cores have the same frames
 pub core_frames : (xs ys : List Lane) → map core xs ≡ map core ys → map frame xs ≡ map frame ys
 core_frames xs ys same = sym (frames_core xs) ∙ ap (map frame) same ∙ frames_core ys
 
@@ -118,6 +122,7 @@ IsRight (Some label) r = is_command_of label r ≡ true
 abbrev pub HasRight : Lane → Type 0
 HasRight x = (k : ℕ) (next : NumberedLine) → slice_get x.lines k ≡ Some next → IsRight x.label (line next.1)
 
+-- each line of each lane is right for it
 abbrev pub AreRight : List Lane → Type 0
 AreRight [] = Unit {0}
 AreRight (x ∷ xs) = HasRight x × AreRight xs
@@ -126,19 +131,23 @@ none_frames : (xs : List Lane) (label : Bytes) → NoneOf (map frame xs) label �
 none_frames [] label none = tt
 none_frames (x ∷ xs) label (first, none) = (sym (of_frame x label) ∙ first, none_frames xs label none)
 
+-- lanes whose frames have different labels have different labels
 pub apart_frames : (xs : List Lane) → AreApart (map frame xs) → AreApart xs
 apart_frames [] apart = tt
 apart_frames (x ∷ xs) (first, apart) = (λ label own. none_frames xs label (first label (of_frame x label ∙ own)), apart_frames xs apart)
 
+-- lanes whose frames are right are right
 pub right_frames : (xs : List Lane) → AreRight (map frame xs) → AreRight xs
 right_frames [] right = tt
 right_frames (x ∷ xs) (first, right) = (first, right_frames xs right)
 
+-- each of right lanes is right
 pub right_at : (xs : List Lane) (l : ℕ) (x : Lane) → AreRight xs → slice_get xs l ≡ Some x → HasRight x
 right_at [] l x right at = cc
 right_at (y ∷ ys) zero x (first, right) at = let same : y ≡ x = cc in subst HasRight same first
 right_at (y ∷ ys) (suc l) x (first, right) at = right_at ys l x right at
 
+-- if no lane has a label, none of them has it
 pub none_at : (xs : List Lane) (l : ℕ) (x : Lane) (label : Bytes) → NoneOf xs label → slice_get xs l ≡ Some x → is_of x label ≡ false
 none_at [] l x label none at = cc
 none_at (y ∷ ys) zero x label (first, none) at = let same : y ≡ x = cc in subst (λ z. is_of z label ≡ false) same first
@@ -146,6 +155,7 @@ none_at (y ∷ ys) (suc l) x label (first, none) at = none_at ys l x label none 
 
 -- ---- A lane gives
 
+-- a line that a lane gives leaves all frames as they are
 pub frames_given : (xs : List Lane) (l : ℕ) (x : Lane) (ends : Bool) → slice_get xs l ≡ Some x → map frame (slice_set xs l (with_given x ends)) ≡ map frame xs
 frames_given [] l x ends at = refl
 frames_given (y ∷ ys) zero x ends at = let same : y ≡ x = cc in ap (λ z. frame z ∷ map frame ys) (sym same)
@@ -173,6 +183,7 @@ own_given (y ∷ ys) (suc l) x ends label at own (first, apart) = by (own_given 
     by rest true is = let clash : true ≡ false = sym own ∙ none_at ys l x label (first label is) at in cc
     by rest false is = rest
 
+-- the last command of a lane that gave a line is what this line says
 pub command_given : (xs : List Lane) (l : ℕ) (x : Lane) (ends : Bool) (label : Bytes) (next : NumberedLine) → slice_get xs l ≡ Some x → is_of x label ≡ true → AreApart xs →
     slice_get x.lines x.given ≡ Some next → command_of (slice_set xs l (with_given x ends)) label ≡ said (line next.1)
 command_given xs l x ends label next at own apart is =
@@ -240,9 +251,11 @@ module _ (clock : List NumberedLine) where
       let parts = both_true (has_own_lines t) (list_all has_own_lines ts) own in
       (λ k next at. all_at (λ next. is_command_of t.label (line next.1)) t.lines k next parts.0 at, right_tasks ts parts.1 times)
 
+-- the first lanes of a proper plan have different labels
 pub apart_initial : (p : Plan) → is_proper p ≡ true → AreApart (initial_lanes p)
 apart_initial p proper = apart_tasks p.clock p.tasks (proper_parts p proper).distinct
 
+-- they are right
 pub right_initial : (p : Plan) → is_proper p ≡ true → AreRight (initial_lanes p)
 right_initial p proper = right_tasks p.clock p.tasks (proper_parts p proper).own (proper_parts p proper).clock
 
@@ -250,5 +263,6 @@ frames_tasks : (clock : List NumberedLine) (ts : List TaskPlan) → map frame (m
 frames_tasks clock [] = refl
 frames_tasks clock (t ∷ ts) = ap (λ xs. task_lane t ∷ xs) (frames_tasks clock ts)
 
+-- they are their own frames
 pub frames_initial : (p : Plan) → map frame (initial_lanes p) ≡ initial_lanes p
 frames_initial p = frames_tasks p.clock p.tasks

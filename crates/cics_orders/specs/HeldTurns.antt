@@ -39,12 +39,14 @@ use Rattle.cics_orders.specs.EndedLanes.{Fits, free_waits, late_waits, not_ended
 
 -- ---- What no event changes of lanes
 
+-- the gist of a lane: what no event changes of it
 pub record Gist : Type 0 where
   pub label : Option Bytes
   pub lines : List NumberedLine
   pub given : ℕ
   pub is_in_turn : Bool
 
+-- the gist of this lane
 abbrev pub gist : Lane → Gist
 gist x = record { label = x.label; lines = x.lines; given = x.given; is_in_turn = x.is_in_turn }
 
@@ -183,6 +185,7 @@ stays_given s l x next gave =
 
 -- ---- The states of orders
 
+-- the label and the lines of a gist
 abbrev pub shape : Gist → Option Bytes × List NumberedLine
 shape g = (g.label, g.lines)
 
@@ -234,6 +237,7 @@ sound_given s l sound = by (gave s l)
         sound_stays c (given s l) (stays_given s l x next gave)
         (subst Fits (sym gave.is) (drained_fits (after_line c (line next.1)) (line_fits c start.fits (line next.1)))) start
 
+-- the state after an order from a sound state is sound
 pub after_sound : (s : State) (o : Order) → Sound s → Sound (after lanes s o)
 after_sound s [] sound = sound
 after_sound s (l ∷ o) sound = after_sound (given s l) o (sound_given s l sound)
@@ -244,6 +248,7 @@ fresh_turns [] clock (suc j) g at = cc
 fresh_turns (t ∷ ts) clock zero g at = let same : gist (task_lane t) ≡ g = cc in sym (ap (λ (g : Gist). g.is_in_turn) same)
 fresh_turns (t ∷ ts) clock (suc j) g at = fresh_turns ts clock j g at
 
+-- the initial state of a plan is sound
 pub start_sound : (p : Plan) → Sound (initial_state p)
 unfolding initial_state
 start_sound p = record { fits = start_fits p; own = refl; turns = λ j g at none. fresh_turns p.tasks p.clock j g at }

@@ -175,6 +175,7 @@ front (x ∷ xs) zero y ys is =
     (ap Some same, rest)
 front (x ∷ xs) (suc k) y ys is = front xs k y ys is
 
+-- each of those that are numbered may give
 pub numbers_may : {X : Type 0} (may : X → Bool) (xs : List X) (k : ℕ) (ys : List X) → drop k xs ≡ ys → Each (May may xs) (numbered may k ys)
 numbers_may may xs k [] is = tt
 numbers_may {X} may xs k (y ∷ ys) is = by (numbers_may may xs (suc k) ys (front xs k y ys is).1) (may y) refl

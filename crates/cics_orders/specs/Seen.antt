@@ -110,6 +110,7 @@ ready_same : (m n : Machine) → m.waiting ≡ n.waiting → (has_ended : Bool) 
 ready_same m n waits has_ended None = refl
 ready_same m n waits has_ended (Some label) = ap (λ ws. not has_ended && is_none (option_map (λ w. w.command) (wait_of ws label))) waits
 
+-- a lane may give in one machine if it may in another with the same waits
 pub may_same : (m n : Machine) → m.waiting ≡ n.waiting → (x : Lane) → may_give m x ≡ may_give n x
 may_same m n waits x = ap (λ b. is_some (slice_get x.lines x.given) && b) (ready_same m n waits x.has_ended x.label)
 

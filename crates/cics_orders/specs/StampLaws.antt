@@ -36,6 +36,7 @@ proper_by : (p : Plan) (b : Bool) → is_proper p ≡ b → is_proper (if b then
 proper_by p true is = is
 proper_by p false is = refl
 
+-- the proper plan that stands for a plan is proper
 pub proper_is : (p : Plan) → is_proper (proper p) ≡ true
 proper_is p = proper_by p (is_proper p) refl
 

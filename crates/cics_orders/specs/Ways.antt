@@ -155,6 +155,7 @@ task_waits m t = by m.is_down (attach_refusal m t.label)
     by false (Some e) = refl
     by false None = refl
 
+-- to attach tasks changes no wait
 pub attaches_wait : (m : Machine) (ts : List TaskPlan) → (fold with_task m ts).waiting ≡ m.waiting
 attaches_wait m [] = refl
 attaches_wait m (t ∷ ts) = attaches_wait (with_task m t) ts ∙ task_waits m t
@@ -316,6 +317,7 @@ of_label : (l : Option Bytes) (x : Lane) (label : Bytes) → is_of (record x { l
 of_label None x label own = cc
 of_label (Some k) x label own = ap Some (is_same-eq k label own)
 
+-- a lane with a label is that of the label
 pub label_of_lane : (l : Option Bytes) (x : Lane) (label : Bytes) → l ≡ Some label → is_of (record x { label = l }) label ≡ true
 label_of_lane None x label own = cc
 label_of_lane (Some k) x label own = let same : k ≡ label = cc in ap (λ k. is_same k label) same ∙ is_same-self label
@@ -367,6 +369,7 @@ pub record Holds (p : Plan) (s : State) : Type 0 where
   pub keeps : Keeps s.lanes (opened p.definitions) s.machine
   pub frames : map frame s.lanes ≡ initial_lanes p
 
+-- what holds of each in a list holds of one in it
 pub one_of : (P : ℕ → Type 0) (ls : List ℕ) (l : ℕ) → Each P ls → IsOneOf l ls → P l
 one_of P [] l each one = absurd one
 one_of P (k ∷ ks) l (first, each) (inl same) = subst P (sym same) first
