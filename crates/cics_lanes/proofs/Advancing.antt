@@ -24,6 +24,12 @@ front_more f ls xs short are =
     ∙ sym (map_more f ls (length xs) 0 short) ∙ sym (take-map f (length xs + 1) ls)
     ∙ ap (λ n. take n (map f ls)) (sym (length_push xs (f (get_or ls (length xs) 0))))
 
+-- what was taken away is put back with one more
+pub put_more : {X : Type 0} (c : Bool) (x y : X) (xs us : List X) (old taken new put : Option (List X)) → x ≡ y → xs ≡ unwrap_or put [] → us ≡ xs ++ x ∷ [] →
+    taken ≡ cond c None old → new ≡ cond c (Some us) taken → new ≡ cond c (Some (unwrap_or put [] ++ y ∷ [])) old
+put_more true x y xs us old taken new put one found more takes puts = puts ∙ ap Some (more ∙ (λ i. found i ++ one i ∷ []))
+put_more false x y xs us old taken new put one found more takes puts = puts ∙ takes
+
 module _ {S : Type 0} (lanes : Lanes S) (breaks : S → ℕ → Bool) (stamp : Bool → S → Bytes) (ending : S → Parts) (b : Bool) (s : S)
     (tell : (o p : Order) → IsWay lanes s o → IsWay lanes s p → stamp b (after lanes s o) ≡ stamp b (after lanes s p) →
     AreStampedAlike lanes ending breaks (stamp b) b (after lanes s o) (after lanes s p)) where
@@ -113,14 +119,13 @@ module _ {S : Type 0} (lanes : Lanes S) (breaks : S → ℕ → Bool) (stamp : B
       by (Some us) are = are
 
   -- the next lane of a state that was met is known too
-  pub known_more : (o : Order) (here there : Reached) (rs : List Reached) (lane : ℕ) (old taken new : List (Bytes × List Reached)) →
+  pub known_more : (o : Order) (here there : Reached) (rs : List Reached) (lane : ℕ) (old new : List (Bytes × List Reached)) →
       IsWay lanes s o → here ≡ reached lanes breaks stamp b (after lanes s o) → length rs < length here.lanes → lane ≡ get_or here.lanes (length rs) 0 →
       there ≡ reached lanes breaks stamp b (lanes.given (after lanes s o) lane) →
       IsKnown lanes breaks stamp b s old → rs ≡ unwrap_or (lookup (bytes_eq here.stamp) old) [] →
-      ((q : Bytes) → lookup (bytes_eq q) taken ≡ cond (bytes_eq here.stamp q) None (lookup (bytes_eq q) old)) →
-      ((q : Bytes) → lookup (bytes_eq q) new ≡ cond (bytes_eq here.stamp q) (Some (rs ++ there ∷ [])) (lookup (bytes_eq q) taken)) →
+      ((q : Bytes) → lookup (bytes_eq q) new ≡ cond (bytes_eq here.stamp q) (Some (rs ++ there ∷ [])) (lookup (bytes_eq q) old)) →
       IsKnown lanes breaks stamp b s new
-  known_more o here there rs lane old taken new way at short next is known found takes puts =
+  known_more o here there rs lane old new way at short next is known found puts =
       let x = after lanes s o in
       let ls : here.lanes ≡ lanes_of lanes breaks b x = ap (λ r. r.lanes) at in
       let k : here.stamp ≡ stamp b x = ap (λ r. r.stamp) at in
@@ -128,6 +133,6 @@ module _ {S : Type 0} (lanes : Lanes S) (breaks : S → ℕ → Bool) (stamp : B
       let more = first_more o rs way so_far (subst (λ (ks : List ℕ). length rs < length ks) ls short) in
       let last : there ≡ reached lanes breaks stamp b (lanes.given x (get_or (lanes_of lanes breaks b x) (length rs) 0))
       = is ∙ ap (λ l. reached lanes breaks stamp b (lanes.given x l)) (next ∙ ap (λ ks. get_or ks (length rs) 0) ls) in
-      known_put taken new here.stamp (Some (rs ++ there ∷ [])) (known_put old taken here.stamp None known takes tt) puts
+      known_put old new here.stamp (Some (rs ++ there ∷ [])) known puts
       (subst (λ (j : Bytes). AreFirst lanes breaks stamp b s j (rs ++ there ∷ [])) (sym k)
       (subst (λ (r : Reached). AreFirst lanes breaks stamp b s (stamp b x) (rs ++ r ∷ [])) (sym last) more))

@@ -3,7 +3,8 @@
 //! To go to a state takes each line of its first order. So a walk that is at a state goes on from
 //! there along lanes that were not tried yet. What it comes to is noted for later levels.
 
-ghost use Rattle.std.specs.Prelude.{◌≡◌, [], None, IfOk, OnOk};
+ghost use Rattle.std.specs.Prelude.{◌≡◌, ◌++◌, ◌∷◌, [], length, cond, List, ℕ};
+ghost use Rattle.std.specs.Prelude.{None, Some, IfSome, IfOk, OnOk, slice_get};
 ghost use Rattle.std.specs.Option.{unwrap_or};
 ghost use Rattle.std.specs.Str.{bytes_eq};
 ghost use Rattle.indexmap.specs.IndexMap.{get, UpdatesBy};
@@ -38,6 +39,35 @@ fn take(alloc: Global, known: &mut Known, stamp: &Stamp) -> Items<Reached>
     }
 }
 
+// Returns the first lane of a state of which it isn't known where it leads. There is none either if
+// walks don't go on.
+fn next_lane(known: &Known, here: &Reached) -> Option<usize>
+    ensures { IfSome result (λ lane. slice_get here.now.lanes (length (unwrap_or
+        (get bytes_eq known.now here.now.stamp) [])) ≡ Some lane) }
+{
+    if known.len() >= MOST_NOTED {
+        return None;
+    }
+    let count = match known.get(&here.stamp) {
+        Some(states) => states.len(),
+        None => 0,
+    };
+    here.lanes.as_slice().get(count).copied()
+}
+
+// Notes that the next lane of the states of a stamp leads to this one.
+fn note(known: &mut Known, stamp: Stamp, there: &Reached) -> Result<(), NoMemory>
+    ensures { OnOk result ((q : List ℕ) → get bytes_eq known.new q ≡ cond (bytes_eq stamp q)
+        (Some (unwrap_or (get bytes_eq known.old stamp) [] ++ there.now ∷ []))
+        (get bytes_eq known.old q)) }
+{
+    let alloc = *known.allocator();
+    let mut states = take(alloc, known, &stamp);
+    states.push(there.copy(alloc)?)?;
+    known.insert(stamp, states)?;
+    Ok(())
+}
+
 // Goes on from the state of a walk, at each state along its first lane that isn't known yet. Notes
 // what it comes to.
 fn go_on<W: Walk>(
@@ -57,21 +87,12 @@ fn go_on<W: Walk>(
     let alloc = *known.allocator();
     let mut here = from.copy(alloc)?;
     for _ in 0..MOST_AHEAD {
-        if here.has_ended {
+        let Some(lane) = next_lane(known, &here) else {
             return Ok(());
-        }
-        if known.len() >= MOST_NOTED {
-            return Ok(());
-        }
-        let mut states = take(alloc, known, &here.stamp);
-        if states.len() >= here.lanes.len() {
-            known.insert(here.stamp, states)?;
-            return Ok(());
-        }
-        walk.give(here.lanes.as_slice()[states.len()])?;
+        };
+        walk.give(lane)?;
         let there = look(alloc, walk, is_serial)?;
-        states.push(there.copy(alloc)?)?;
-        known.insert(here.stamp, states)?;
+        note(known, here.into_stamp(), &there)?;
         here = there;
     }
     Ok(())

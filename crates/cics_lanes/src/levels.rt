@@ -100,6 +100,13 @@ impl Reached {
         })
     }
 
+    /// Returns its stamp.
+    pub(crate) fn into_stamp(self) -> Stamp
+        ensures { result ≡ self.stamp }
+    {
+        self.stamp
+    }
+
     /// Returns its entry, to which so many orders lead.
     pub(crate) fn led_by(self, first: Items<usize>, count: u128) -> (Stamp, Led)
         ensures { result ≡ (
