@@ -5,6 +5,7 @@ ghost use Rattle.cics_lanes.specs.Endings.{are_same};
 ghost use Rattle.cics_lanes.specs.Tallies.{tally_joined, ending_of};
 
 use crate::groups::Join;
+use crate::levels::Led;
 use cics_names::{Items, NoMemory, Record};
 use indexmap::IndexMap;
 use std::alloc::Global;
@@ -158,15 +159,16 @@ pub(crate) struct Tally {
 }
 
 impl Tally {
-    /// Returns the tally of so many orders, or of serial ones if `is_serial`.
-    pub(crate) fn new(order: Items<usize>, count: u128, is_serial: bool) -> Tally
-        ensures order { result.order ≡ order }
-        ensures orders { result.orders ≡ (if is_serial then 0 else count) }
-        ensures serial { result.serial ≡ (if is_serial then count else 0) }
+    /// Returns the tally of the orders that lead to a state, or of serial ones if `is_serial`.
+    pub(crate) fn new(led: Led, is_serial: bool) -> Tally
+        ensures order { result.order ≡ led.first }
+        ensures orders { result.orders ≡ (if is_serial then 0 else led.count) }
+        ensures serial { result.serial ≡ (if is_serial then led.count else 0) }
     {
+        let count = led.count;
         let (orders, serial) = if is_serial { (0, count) } else { (count, 0) };
         Tally {
-            order,
+            order: led.first,
             orders,
             serial,
         }

@@ -1,20 +1,21 @@
 //! Follows orders level by level, and counts those that lead to each ending.
 
-ghost use Rattle.std.specs.Prelude.{◌≡◌, ◌≤◌, ◌<◌, ◌+◌, map, ℕ};
-ghost use Rattle.std.specs.Prelude.{true, false, IfOk, OnOk};
+ghost use Rattle.std.specs.Prelude.{◌≡◌, ◌≤◌, ◌<◌, ◌+◌, ◌++◌, ◌∷◌, [], map, ℕ};
+ghost use Rattle.std.specs.Prelude.{true, false, List, IfOk, OnOk};
 ghost use Rattle.std.specs.Str.{bytes_eq};
 ghost use Rattle.cics_lanes.specs.Endings.{are_same};
-ghost use Rattle.cics_lanes.specs.Groups.{added_all};
+ghost use Rattle.cics_lanes.specs.Groups.{added, added_all};
 ghost use Rattle.cics_lanes.specs.Ahead.{IsKnown};
 ghost use Rattle.cics_lanes.specs.Levels.{led_joined, led_on, live, spread, tallied, IsEntry};
 ghost use Rattle.cics_lanes.specs.Levels.{IsLevel, IsNext, state_count};
+ghost use Rattle.cics_lanes.specs.declared.levels.Led.{Led};
 ghost use Rattle.cics_lanes.specs.Tallies.{tally_joined};
 ghost use Rattle.cics_lanes.specs.Reports.{IsReport};
 
 use crate::ahead::Known;
 use crate::endings::{Ending, Met, Parts, Tally, endings_of};
 use crate::groups::add;
-use crate::levels::{Led, Level, Stamp, go_to, look, with_lane};
+use crate::levels::{Led, Level, Reached, Stamp, go_to, look, with_lane};
 use crate::progress::{Progress, Stand};
 use crate::walks::Walk;
 use cics_names::{Items, NoMemory};
@@ -93,6 +94,21 @@ fn live_count(level: &Level) -> usize
     count
 }
 
+// Adds a state to a level. The orders of another state lead there by a lane more.
+fn add_led(level: &mut Level, led: &Led, lane: usize, reached: Reached) -> Result<(), NoMemory>
+    ensures { OnOk result (level.new.entries ≡ added bytes_eq led_joined level.old.entries
+        reached.stamp (record {
+          first = led.now.first ++ lane ∷ [];
+          lanes = reached.lanes;
+          has_ended = reached.has_ended;
+          count = led.now.count;
+        })) }
+{
+    let first = with_lane(*level.allocator(), led.first.as_slice(), lane)?;
+    let (stamp, led) = reached.led_by(first, led.count);
+    add(level, stamp, led)
+}
+
 impl Search {
     // Returns a search that has met no state yet. Orders have so many lines at most.
     fn new(alloc: Global, is_serial: bool, limit: u64, lines: usize) -> Search
@@ -154,13 +170,10 @@ impl Search {
     {
         let (stamp, led) = entry;
         let states = led.lead_on(walk, known, &stamp, self.is_serial)?;
-        let lanes = led.lanes.as_slice();
         let mut at = 0usize;
         for reached in states.into_vec() {
-            let first = with_lane(self.alloc, led.first.as_slice(), lanes[at])?;
+            add_led(next, &led, led.lanes.as_slice()[at], reached)?;
             at += 1;
-            let (stamp, led) = reached.led_by(first, led.count);
-            add(next, stamp, led)?;
         }
         Ok(())
     }
@@ -232,6 +245,20 @@ impl Search {
         Ok(next)
     }
 
+    // Returns the level before the first line.
+    fn first_level<W: Walk>(&self, walk: &mut W) -> Result<Level, NoMemory>
+        ensures level { IfOk result (λ level. IsLevel W.lanes W.breaks W.stamp self.now.is_serial
+            (W.start walk.old) 0 true level.entries) }
+        ensures start { OnOk result (W.start walk.new ≡ W.start walk.old) }
+    {
+        walk.restart()?;
+        let here = look(self.alloc, walk, self.is_serial)?;
+        let (stamp, led) = here.led_by(Items::new(self.alloc), 1);
+        let mut level = IndexMap::new(self.alloc);
+        add(&mut level, stamp, led)?;
+        Ok(level)
+    }
+
     // Follows orders from the start of a walk. Returns the level of the states after so many
     // lines.
     fn run<W: Walk, P: Progress>(
@@ -249,12 +276,8 @@ impl Search {
         ensures within { OnOk result (state_count W.lanes W.breaks W.stamp self.old.is_serial
             (W.start walk.old) lines ≤ self.old.limit → self.new.is_whole ≡ true) }
     {
-        walk.restart()?;
-        let here = look(self.alloc, walk, self.is_serial)?;
-        let (stamp, led) = here.led_by(Items::new(self.alloc), 1);
+        let mut level = self.first_level(walk)?;
         let mut known = IndexMap::new(self.alloc);
-        let mut level = IndexMap::new(self.alloc);
-        add(&mut level, stamp, led)?;
         for _ in 0..lines {
             level = self.next(walk, &mut known, level, progress)?;
         }
@@ -271,10 +294,37 @@ impl Search {
         for (_, led) in level {
             go_to(walk, led.first.as_slice())?;
             let parts = Parts::new(walk.parts()?);
-            add(met, parts, Tally::new(led.first, led.count, self.is_serial))?;
+            add(met, parts, Tally::new(led, self.is_serial))?;
         }
         Ok(())
     }
+}
+
+// Follows orders from the start of a walk: counts them for the endings that they lead to. Returns
+// whether all were followed.
+fn search_orders<W: Walk, P: Progress>(
+    alloc: Global,
+    walk: &mut W,
+    is_serial: bool,
+    limit: u64,
+    met: &mut Met,
+    progress: &mut P,
+) -> Result<bool, NoMemory>
+    ensures told { IfOk result (λ is_whole. (es : List (List ℕ × Led)) ×
+        IsLevel W.lanes W.breaks W.stamp is_serial (W.start walk.old)
+        (W.most (W.start walk.old)) is_whole es ×
+        (met.new.entries ≡ added_all are_same tally_joined met.old.entries
+        (map (tallied W.lanes W.ending is_serial (W.start walk.old)) es))) }
+    ensures start { OnOk result (W.start walk.new ≡ W.start walk.old) }
+    ensures within { IfOk result (λ is_whole. state_count W.lanes W.breaks W.stamp is_serial
+        (W.start walk.old) (W.most (W.start walk.old)) ≤ limit → is_whole ≡ true) }
+{
+    walk.restart()?;
+    let lines = walk.line_count();
+    let mut search = Search::new(alloc, is_serial, limit, lines);
+    let level = search.run(walk, lines, progress)?;
+    search.tally(walk, level, met)?;
+    Ok(search.is_whole)
 }
 
 /// Follows the orders from the start of a walk. Returns the endings that they lead to.
@@ -307,18 +357,12 @@ pub fn explore<W: Walk, P: Progress>(
         (W.start walk.old) (W.most (W.start walk.old)) ≤ limit →
         report.has_all_serial ≡ true) }
 {
-    walk.restart()?;
-    let lines = walk.line_count();
     let mut met = IndexMap::new(alloc);
-    let mut all = Search::new(alloc, false, limit, lines);
-    let level = all.run(walk, lines, progress)?;
-    all.tally(walk, level, &mut met)?;
-    let mut serial = Search::new(alloc, true, limit, lines);
-    let level = serial.run(walk, lines, progress)?;
-    serial.tally(walk, level, &mut met)?;
+    let is_whole = search_orders(alloc, walk, false, limit, &mut met, progress)?;
+    let has_all_serial = search_orders(alloc, walk, true, limit, &mut met, progress)?;
     Ok(Report {
         endings: endings_of(alloc, met)?,
-        is_whole: all.is_whole,
-        has_all_serial: serial.is_whole,
+        is_whole,
+        has_all_serial,
     })
 }

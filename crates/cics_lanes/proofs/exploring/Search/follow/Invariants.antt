@@ -13,7 +13,7 @@ invariant-loop-reached g l =
     let w = g.W.Walk in
     let x = after w.lanes (w.start l.fn.walk) l.fn.entry.1.first in
     record {
-      left : into_iter_items l.reached-iterator ≡ map (λ k. reached w.lanes w.breaks w.stamp l.self.is_serial (w.lanes.given x k)) (drop l.at l.lanes);
+      left : into_iter_items l.reached-iterator ≡ map (λ k. reached w.lanes w.breaks w.stamp l.self.is_serial (w.lanes.given x k)) (drop l.at l.fn.entry.1.lanes);
       next : l.next.entries ≡ added_all bytes_eq led_joined l.fn.next.entries
-          (map (λ k. entry w.lanes w.breaks w.stamp l.self.is_serial (l.fn.entry.1.first ++ k ∷ []) l.fn.entry.1.count (w.lanes.given x k)) (take l.at l.lanes));
+          (map (λ k. entry w.lanes w.breaks w.stamp l.self.is_serial (l.fn.entry.1.first ++ k ∷ []) l.fn.entry.1.count (w.lanes.given x k)) (take l.at l.fn.entry.1.lanes));
     }
