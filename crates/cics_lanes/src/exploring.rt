@@ -298,33 +298,33 @@ impl Search {
         }
         Ok(())
     }
-}
 
-// Follows orders from the start of a walk: counts them for the endings that they lead to. Returns
-// whether all were followed.
-fn search_orders<W: Walk, P: Progress>(
-    alloc: Global,
-    walk: &mut W,
-    is_serial: bool,
-    limit: u64,
-    met: &mut Met,
-    progress: &mut P,
-) -> Result<bool, NoMemory>
-    ensures told { IfOk result (λ is_whole. (es : List (List ℕ × Led)) ×
-        IsLevel W.lanes W.breaks W.stamp is_serial (W.start walk.old)
-        (W.most (W.start walk.old)) is_whole es ×
-        (met.new.entries ≡ added_all are_same tally_joined met.old.entries
-        (map (tallied W.lanes W.ending is_serial (W.start walk.old)) es))) }
-    ensures start { OnOk result (W.start walk.new ≡ W.start walk.old) }
-    ensures within { IfOk result (λ is_whole. state_count W.lanes W.breaks W.stamp is_serial
-        (W.start walk.old) (W.most (W.start walk.old)) ≤ limit → is_whole ≡ true) }
-{
-    walk.restart()?;
-    let lines = walk.line_count();
-    let mut search = Search::new(alloc, is_serial, limit, lines);
-    let level = search.run(walk, lines, progress)?;
-    search.tally(walk, level, met)?;
-    Ok(search.is_whole)
+    // Follows orders from the start of a walk, and counts them for the endings that they lead to.
+    // Returns whether it left out no state.
+    fn count_orders<W: Walk, P: Progress>(
+        mut self,
+        walk: &mut W,
+        met: &mut Met,
+        progress: &mut P,
+    ) -> Result<bool, NoMemory>
+        requires met { self.met ≡ 0 }
+        requires whole { self.is_whole ≡ true }
+        ensures told { IfOk result (λ is_whole. (es : List (List ℕ × Led)) ×
+            IsLevel W.lanes W.breaks W.stamp self.is_serial (W.start walk.old)
+            (W.most (W.start walk.old)) is_whole es ×
+            (met.new.entries ≡ added_all are_same tally_joined met.old.entries
+            (map (tallied W.lanes W.ending self.is_serial (W.start walk.old)) es))) }
+        ensures start { OnOk result (W.start walk.new ≡ W.start walk.old) }
+        ensures within { IfOk result (λ is_whole. state_count W.lanes W.breaks W.stamp
+            self.is_serial (W.start walk.old) (W.most (W.start walk.old)) ≤ self.limit
+            → is_whole ≡ true) }
+    {
+        walk.restart()?;
+        let lines = walk.line_count();
+        let level = self.run(walk, lines, progress)?;
+        self.tally(walk, level, met)?;
+        Ok(self.is_whole)
+    }
 }
 
 /// Follows the orders from the start of a walk. Returns the endings that they lead to.
@@ -357,9 +357,13 @@ pub fn explore<W: Walk, P: Progress>(
         (W.start walk.old) (W.most (W.start walk.old)) ≤ limit →
         report.has_all_serial ≡ true) }
 {
+    walk.restart()?;
+    let lines = walk.line_count();
     let mut met = IndexMap::new(alloc);
-    let is_whole = search_orders(alloc, walk, false, limit, &mut met, progress)?;
-    let has_all_serial = search_orders(alloc, walk, true, limit, &mut met, progress)?;
+    let all = Search::new(alloc, false, limit, lines);
+    let is_whole = all.count_orders(walk, &mut met, progress)?;
+    let serial = Search::new(alloc, true, limit, lines);
+    let has_all_serial = serial.count_orders(walk, &mut met, progress)?;
     Ok(Report {
         endings: endings_of(alloc, met)?,
         is_whole,

@@ -1,8 +1,9 @@
-use Rattle.std.proofs.Common.{◌≡◌, ◌∙◌, ◌≤◌, ap, subst, map, true, false, []}
+use Rattle.std.proofs.Common.{◌≡◌, ◌∙◌, ◌≤◌, ap, subst, map, true, false, [], Bool, List, ℕ}
 use Rattle.cics_lanes.specs.Endings.{are_same}
 use Rattle.cics_lanes.specs.Groups.{added_all}
 use Rattle.cics_lanes.specs.Levels.{tallied, IsLevel, state_count}
 use Rattle.cics_lanes.specs.Tallies.{tally_joined, ending_of}
+use Rattle.cics_lanes.specs.declared.levels.Led.{Led}
 use Rattle.cics_lanes.proofs.Reporting.{searched}
 use Rattle.cics_lanes.proofs.exploring.explore.Goals as goal
 
@@ -12,21 +13,38 @@ returns-clause-report g c =
     let w = g.W.Walk in
     let t = c.args.walk.now in
     let s = w.start t in
-    let all = c.in_ok-is_whole.ensures.told in
-    let serial = c.in_ok-has_all_serial.ensures.told in
-    let start = c.in_ok-is_whole.ensures.start in
-    let some : IsLevel w.lanes w.breaks w.stamp true s (w.most s) c.in_ok-has_all_serial.has_all_serial serial.0
-    = subst (λ u. IsLevel w.lanes w.breaks w.stamp true u (w.most u) c.in_ok-has_all_serial.has_all_serial serial.0) start serial.1 in
-    let first : c.search_orders.new.met.entries ≡ added_all are_same tally_joined [] (map (tallied w.lanes w.ending false s) all.0)
+    let met = c.count_orders.new.met.entries in
+    let begun : w.start c.restart.new.self ≡ s = ap w.start c.in_ok-restart.ensures ∙ w.start_is_start t in
+    let start : w.start c.count_orders.new.walk ≡ s = c.in_ok-is_whole.ensures.start ∙ begun in
+    let all : (es : List (List ℕ × Led)) × IsLevel w.lanes w.breaks w.stamp false s (w.most s) c.in_ok-is_whole.is_whole es × (met ≡ added_all are_same tally_joined c.new-met.result.entries (map (tallied w.lanes w.ending false s) es))
+    = subst (λ u. (es : List (List ℕ × Led)) × IsLevel w.lanes w.breaks w.stamp false u (w.most u) c.in_ok-is_whole.is_whole es × (met ≡ added_all are_same tally_joined c.new-met.result.entries (map (tallied w.lanes w.ending false u) es))) begun
+    (subst (λ (v : Bool). (es : List (List ℕ × Led)) × IsLevel w.lanes w.breaks w.stamp v (w.start c.restart.new.self) (w.most (w.start c.restart.new.self)) c.in_ok-is_whole.is_whole es × (met ≡ added_all are_same tally_joined c.new-met.result.entries (map (tallied w.lanes w.ending v (w.start c.restart.new.self)) es)))
+    c.new-all.ensures.serial c.in_ok-is_whole.ensures.told) in
+    let serial : (es : List (List ℕ × Led)) × IsLevel w.lanes w.breaks w.stamp true s (w.most s) c.in_ok-has_all_serial.has_all_serial es × (c.count_orders-2.new.met.entries ≡ added_all are_same tally_joined met (map (tallied w.lanes w.ending true s) es))
+    = subst (λ u. (es : List (List ℕ × Led)) × IsLevel w.lanes w.breaks w.stamp true u (w.most u) c.in_ok-has_all_serial.has_all_serial es × (c.count_orders-2.new.met.entries ≡ added_all are_same tally_joined met (map (tallied w.lanes w.ending true u) es))) start
+    (subst (λ (v : Bool). (es : List (List ℕ × Led)) × IsLevel w.lanes w.breaks w.stamp v (w.start c.count_orders.new.walk) (w.most (w.start c.count_orders.new.walk)) c.in_ok-has_all_serial.has_all_serial es × (c.count_orders-2.new.met.entries ≡ added_all are_same tally_joined met (map (tallied w.lanes w.ending v (w.start c.count_orders.new.walk)) es)))
+    c.new-serial.ensures.serial c.in_ok-has_all_serial.ensures.told) in
+    let first : met ≡ added_all are_same tally_joined [] (map (tallied w.lanes w.ending false s) all.0)
     = all.2 ∙ ap (λ es. added_all are_same tally_joined es (map (tallied w.lanes w.ending false s) all.0)) c.new-met.ensures.empty in
-    let both : c.search_orders-2.new.met.entries ≡ added_all are_same tally_joined (added_all are_same tally_joined [] (map (tallied w.lanes w.ending false s) all.0)) (map (tallied w.lanes w.ending true s) serial.0)
-    = serial.2 ∙ (λ i. added_all are_same tally_joined (first i) (map (tallied w.lanes w.ending true (start i)) serial.0)) in
+    let both : c.count_orders-2.new.met.entries ≡ added_all are_same tally_joined (added_all are_same tally_joined [] (map (tallied w.lanes w.ending false s) all.0)) (map (tallied w.lanes w.ending true s) serial.0)
+    = serial.2 ∙ ap (λ es. added_all are_same tally_joined es (map (tallied w.lanes w.ending true s) serial.0)) first in
     searched w.lanes w.breaks w.stamp w.ending w.serial s (λ b. w.stamps_tell b t) (w.most s) c.in_ok-is_whole.is_whole c.in_ok-has_all_serial.has_all_serial all.0 serial.0
-    c.in_ok-endings_of.field-0 (w.serial_starts t) (w.most_ends t) (w.keeps_serial t) (w.breaks_serial t) all.1 some (c.in_ok-endings_of.ensures ∙ ap (map ending_of) both)
+    c.in_ok-endings_of.field-0 (w.serial_starts t) (w.most_ends t) (w.keeps_serial t) (w.breaks_serial t) all.1 serial.1 (c.in_ok-endings_of.ensures ∙ ap (map ending_of) both)
 
 -- no state is left out within the limit
+pub returns-clause-within : goal.returns-clause-within
+returns-clause-within g c =
+    let w = g.W.Walk in
+    let begun : w.start c.restart.new.self ≡ w.start c.args.walk.now = ap w.start c.in_ok-restart.ensures ∙ w.start_is_start c.args.walk.now in
+    subst (λ u. state_count w.lanes w.breaks w.stamp false u (w.most u) ≤ c.args.limit → c.in_ok-is_whole.is_whole ≡ true) begun
+    (subst (λ (v : Bool). state_count w.lanes w.breaks w.stamp v (w.start c.restart.new.self) (w.most (w.start c.restart.new.self)) ≤ c.args.limit → c.in_ok-is_whole.is_whole ≡ true) c.new-all.ensures.serial
+    (subst (λ (n : ℕ). state_count w.lanes w.breaks w.stamp c.new-all.result.is_serial (w.start c.restart.new.self) (w.most (w.start c.restart.new.self)) ≤ n → c.in_ok-is_whole.is_whole ≡ true) c.new-all.ensures.limit c.in_ok-is_whole.ensures.within))
+
 pub returns-clause-serial_within : goal.returns-clause-serial_within
 returns-clause-serial_within g c =
     let w = g.W.Walk in
-    subst (λ u. state_count w.lanes w.breaks w.stamp true u (w.most u) ≤ c.args.limit → c.in_ok-has_all_serial.has_all_serial ≡ true) c.in_ok-is_whole.ensures.start
-    c.in_ok-has_all_serial.ensures.within
+    let at = c.count_orders.new.walk in
+    let start : w.start at ≡ w.start c.args.walk.now = c.in_ok-is_whole.ensures.start ∙ ap w.start c.in_ok-restart.ensures ∙ w.start_is_start c.args.walk.now in
+    subst (λ u. state_count w.lanes w.breaks w.stamp true u (w.most u) ≤ c.args.limit → c.in_ok-has_all_serial.has_all_serial ≡ true) start
+    (subst (λ (v : Bool). state_count w.lanes w.breaks w.stamp v (w.start at) (w.most (w.start at)) ≤ c.args.limit → c.in_ok-has_all_serial.has_all_serial ≡ true) c.new-serial.ensures.serial
+    (subst (λ (n : ℕ). state_count w.lanes w.breaks w.stamp c.new-serial.result.is_serial (w.start at) (w.most (w.start at)) ≤ n → c.in_ok-has_all_serial.has_all_serial ≡ true) c.new-serial.ensures.limit c.in_ok-has_all_serial.ensures.within))
