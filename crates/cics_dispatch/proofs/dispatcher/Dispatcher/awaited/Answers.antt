@@ -8,6 +8,8 @@ use Rattle.cics_machine.specs.KeptTasks.{IsReady}
 use Rattle.cics_machine.specs.Regions.{region_of}
 use Rattle.cics_machine.specs.Waking.{awaited_by}
 use Rattle.cics_machine.proofs.KeptTasks.{acting_or_none}
+use Rattle.cics_machine.proofs.Ready.{value_ready}
+use Rattle.cics_machine.proofs.RegionEnqueuing.{first_fit}
 use Rattle.cics_machine.proofs.RegionSteps.{one_task}
 use Rattle.cics_dispatch.proofs.dispatcher.Dispatcher.awaited.Goals as goal
 
@@ -38,3 +40,12 @@ returns-clause-is_open c = subst (λ v. IfSome c.value_holder.result (IsOpenUnit
 
 pub returns-in-Some-clause-sound : goal.returns-in-Some-clause-sound
 returns-in-Some-clause-sound c = λ reads. subst (λ v. IsSound v.machine.units) c.self.view_is c.awaited.ensures.sound
+
+pub slice_bounds-value_holder-end : goal.slice_bounds-value_holder-end
+slice_bounds-value_holder-end c =
+    let m = c.args.self.now.machine in
+    let w = c.args.wait.now in
+    let ready = subst (HasReady m c.args.at w.command.verb) (sym c.in_default.ensures) c.requires.ready in
+    let is = ap (λ x. x.verb) (sym c.command.ensures) ∙ c.in-Enq.is in
+    let fits = value_ready m c.args.at w.command.verb c.in-Enq.resource c.in-Enq.length c.in-Enq.nosuspend c.requires.within is ready in
+    (first_fit c.in-Enq.length c.in-Enq.resource c.bytes.result.now c.bytes.ensures fits).0
