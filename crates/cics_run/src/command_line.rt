@@ -76,10 +76,10 @@ T1 EXEC CICS SYNCPOINT ROLLBACK
 END";
 
 /// About how many states are followed, if the command line doesn't say.
-const STATES: u64 = 40_000;
+const STATES: u64 = 30_000;
 
 /// What the help says of that.
-const LIMIT: &str = "Follow about N states (40000)";
+const LIMIT: &str = "Follow about N states (30000)";
 
 /// What a command line asks for.
 ///
