@@ -355,34 +355,6 @@ fn put_bytes(text: &mut [u8], encoding: Encoding, digits: &[u8])
     }
 }
 
-// Returns what a literal of `len` bytes says. They begin after its first quote.
-#[inline(never)]
-fn copy_pieces(
-    alloc: Global,
-    encoding: Encoding,
-    notation: Notation,
-    bytes: &[u8],
-    len: usize,
-) -> Result<Vec<u8>, AllocError>
-    requires { Takes notation bytes.now len }
-    ensures { IfOk result (λ text. text.items
-        ≡ encoded_text encoding (said (text_in notation bytes.now))) }
-{
-    match notation {
-        Notation::Quoted => {
-            let mut text = vec![in alloc; 0; len]?;
-            let count = put_characters(&mut text, encoding, bytes);
-            text.truncate(count);
-            Ok(text)
-        }
-        Notation::Hexadecimal => {
-            let mut text = vec![in alloc; 0; len / 2]?;
-            put_bytes(&mut text, encoding, bytes);
-            Ok(text)
-        }
-    }
-}
-
 /// Returns the literal after a first quote, and the line after it, or `None` if the bytes are no
 /// literal.
 pub fn literal_at(notation: Notation, behind_quote: &[u8]) -> Option<(Literal<'_>, &[u8])>
@@ -433,7 +405,29 @@ impl<'a> Literal<'a> {
     {
         match self.plain() {
             Some(text) => copy_plain(alloc, encoding, text),
-            None => copy_pieces(alloc, encoding, self.notation, self.behind_quote, self.len),
+            None => self.copy_pieces(alloc, encoding),
+        }
+    }
+
+    // Copies what the literal says, whatever it has between its quotes.
+    #[inline(never)]
+    fn copy_pieces(self, alloc: Global, encoding: Encoding) -> Result<Vec<u8>, AllocError>
+        ensures { IfOk result (λ text. text.items
+            ≡ encoded_text encoding
+            (said (text_in self.entry.notation self.entry.behind_quote.now))) }
+    {
+        match self.notation {
+            Notation::Quoted => {
+                let mut text = vec![in alloc; 0; self.len]?;
+                let count = put_characters(&mut text, encoding, self.behind_quote);
+                text.truncate(count);
+                Ok(text)
+            }
+            Notation::Hexadecimal => {
+                let mut text = vec![in alloc; 0; self.len / 2]?;
+                put_bytes(&mut text, encoding, self.behind_quote);
+                Ok(text)
+            }
         }
     }
 

@@ -1,6 +1,0 @@
-use Rattle.std.proofs.Common.{◌∙◌}
-use Rattle.cics_script.proofs.Taken.{takes-odd}
-use Rattle.cics_script.proofs.literals.copy_pieces.Goals as goal
-
-pub put_bytes-requires : goal.put_bytes-requires
-put_bytes-requires c = takes-odd c.args.notation c.args.bytes.now c.args.len _ c.in-Hexadecimal.is c.requires (c.deref_mut-in-Hexadecimal.ensures.len ∙ c.in_ok-text-in-Hexadecimal.ensures.len)
