@@ -44,6 +44,11 @@ right : (a b : Bool) → (a && b) ≡ true → b ≡ true
 right true b e = e
 right false b e = let wrong : false ≡ true = e in cc
 
+-- a prefix begins with itself
+pub prefix_itself : (p : Bytes) → has_prefix p p ≡ true
+prefix_itself [] = refl
+prefix_itself (x ∷ p) = (λ i. eq-eqb x x refl i && prefix_itself p i)
+
 -- no key that begins with a prefix is below it
 prefix_from : (p k : Bytes) → has_prefix p k ≡ true → is_from p false k ≡ true
 prefix_from [] [] has = refl
