@@ -1,19 +1,7 @@
 -- The lanes that may give, in the order of their numbers.
-use Rattle.std.proofs.Common.{◌≡◌, ◌<◌, ◌≤◌, ℕ, suc, ◌+◌, Bool, true, false, List, [], ◌∷◌, length, drop, get_or, refl, ap, sym, ◌∙◌, arith, drop-cons}
-use Rattle.std.proofs.Math.ListN.{drop_of_length-le}
+use Rattle.std.proofs.Common.{◌≡◌, ◌≤◌, ℕ, suc, ◌+◌, Bool, true, false, List, [], ◌∷◌, drop, refl, ap, sym, ◌∙◌, arith}
 use Rattle.std.proofs.lemmas.List.{drop-drop}
 use Rattle.cics_lanes.specs.Orders.{numbered, numbered_from}
-
-pub giver_here : {X : Type 0} (may : X → Bool) (xs : List X) (i : ℕ) (d : X) → i < length xs → may (get_or xs i d) ≡ true →
-    numbered_from may xs i ≡ i ∷ numbered_from may xs (suc i)
-giver_here may xs i d short is = ap (numbered may i) (drop-cons xs i d short) ∙ rw is refl
-
-pub giver_past : {X : Type 0} (may : X → Bool) (xs : List X) (i : ℕ) (d : X) → i < length xs → may (get_or xs i d) ≡ false →
-    numbered_from may xs i ≡ numbered_from may xs (suc i)
-giver_past may xs i d short is = ap (numbered may i) (drop-cons xs i d short) ∙ rw is refl
-
-pub giver_none : {X : Type 0} (may : X → Bool) (xs : List X) (i : ℕ) → length xs ≤ i → numbered_from may xs i ≡ []
-giver_none may xs i long = ap (numbered may i) (drop_of_length-le xs long)
 
 -- after the first number stand those of the lanes after it
 numbers_after : {X : Type 0} (may : X → Bool) (ys : List X) (from l : ℕ) (ls : List ℕ) → numbered may from ys ≡ l ∷ ls →

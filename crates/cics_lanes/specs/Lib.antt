@@ -3,6 +3,4 @@ pub mod Endings
 pub mod EndingLaws
 pub mod Groups
 pub mod Tallies
-pub mod Levels
-pub mod Ahead
-pub mod Reports
+pub mod States

@@ -5,7 +5,7 @@ ghost use Rattle.cics_lanes.specs.Endings.{are_same};
 ghost use Rattle.cics_lanes.specs.Tallies.{tally_joined, ending_of};
 
 use crate::groups::Join;
-use crate::levels::Led;
+use crate::states::Led;
 use cics_names::{Items, NoMemory, Record};
 use indexmap::IndexMap;
 use std::alloc::Global;
@@ -78,7 +78,7 @@ impl Ending {
 
 /// The parts in which an ending is told.
 #[derive(Drop)]
-pub(crate) struct Parts {
+pub struct Parts {
     parts: Items<Record>,
 }
 
@@ -92,7 +92,7 @@ impl Model for Parts {
 
 impl Parts {
     /// Returns these parts.
-    pub(crate) fn new(parts: Items<Record>) -> Parts
+    pub fn new(parts: Items<Record>) -> Parts
         ensures { result ≡ parts }
     {
         Parts { parts }
@@ -152,15 +152,15 @@ fn are_same(parts: &[Record], others: &[Record]) -> bool
 /// The orders that lead to an ending: the first, how many were followed, and how many serial ones,
 /// which are followed by themselves. `u128::MAX` is that many or more.
 #[derive(Drop)]
-pub(crate) struct Tally {
-    pub(crate) order: Items<usize>,
-    pub(crate) orders: u128,
-    pub(crate) serial: u128,
+pub struct Tally {
+    pub order: Items<usize>,
+    pub orders: u128,
+    pub serial: u128,
 }
 
 impl Tally {
     /// Returns the tally of the orders that lead to a state, or of serial ones if `is_serial`.
-    pub(crate) fn new(led: Led, is_serial: bool) -> Tally
+    pub fn new(led: Led, is_serial: bool) -> Tally
         ensures order { result.order ≡ led.first }
         ensures orders { result.orders ≡ (if is_serial then 0 else led.count) }
         ensures serial { result.serial ≡ (if is_serial then led.count else 0) }
@@ -185,10 +185,10 @@ impl Join for Tally {
 }
 
 /// The endings that were met, by their parts.
-pub(crate) type Met = IndexMap<Parts, Tally>;
+pub type Met = IndexMap<Parts, Tally>;
 
 /// Returns the endings that were met, in their order. Errors: `NoMemory`.
-pub(crate) fn endings_of(alloc: Global, met: Met) -> Result<Items<Ending>, NoMemory>
+pub fn endings_of(alloc: Global, met: Met) -> Result<Items<Ending>, NoMemory>
     ensures { IfOk result (λ endings. endings ≡ map ending_of met.entries) }
 {
     let mut endings = Items::new(alloc);

@@ -8,7 +8,7 @@ use indexmap::IndexMap;
 use std::hash::Hash;
 
 /// A value to which another one of its key is joined.
-pub(crate) trait Join {
+pub trait Join {
     /// The value with another one.
     ghost joined: { Self → Self → Self };
 
@@ -18,7 +18,7 @@ pub(crate) trait Join {
 }
 
 /// Joins a value to the one of its key, or adds it. Errors: `NoMemory`.
-pub(crate) fn add<K: Eq + Hash + Drop, T: Join + Drop>(
+pub fn add<K: Eq + Hash + Drop, T: Join + Drop>(
     met: &mut IndexMap<K, T>,
     key: K,
     value: T,

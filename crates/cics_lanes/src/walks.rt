@@ -1,4 +1,4 @@
-//! What `explore` walks along an order.
+//! What walks along an order.
 
 ghost use Rattle.std.specs.Prelude.{◌≡◌, ℕ, suc, Bool, true, false, [], ◌++◌, List, All};
 ghost use Rattle.std.specs.Prelude.{IfOk, OnOk};

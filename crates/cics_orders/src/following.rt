@@ -2,8 +2,8 @@
 
 ghost use Rattle.std.specs.Prelude.{◌≡◌, ◌≤◌, Bool, true, false, IfOk};
 ghost use Rattle.cics_lanes.specs.Endings.{Parts};
-ghost use Rattle.cics_lanes.specs.Levels.{state_count};
-ghost use Rattle.cics_lanes.specs.Reports.{IsReport};
+ghost use Rattle.cics_search.specs.Levels.{state_count};
+ghost use Rattle.cics_search.specs.Reports.{IsReport};
 ghost use Rattle.cics_plans.specs.Proper.{is_proper};
 ghost use Rattle.cics_orders.specs.Giving.{State, lanes, initial_state, line_count};
 ghost use Rattle.cics_orders.specs.Same.{SameState};
@@ -11,9 +11,10 @@ ghost use Rattle.cics_orders.specs.Stamps.{state_stamp};
 ghost use Rattle.cics_orders.specs.Turns.{breaks};
 
 use crate::walks::Walker;
-use cics_lanes::{Progress, Report, Walk, explore};
+use cics_lanes::Walk;
 use cics_names::{Items, NoMemory, Record};
 use cics_plans::Plan;
+use cics_search::{Progress, Report, explore};
 use std::alloc::Global;
 use std::marker::Model;
 
@@ -135,7 +136,7 @@ impl<T: Tells> Walk for Following<T> {
     }
 }
 
-/// Follows every order of a plan's lines, as `cics_lanes::explore` does. Returns the endings that
+/// Follows every order of a plan's lines, as `cics_search::explore` does. Returns the endings that
 /// they lead to.
 ///
 /// If the report is whole, the endings are those of all orders. Each stands once, with the first

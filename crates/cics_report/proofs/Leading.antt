@@ -30,7 +30,7 @@ use Rattle.cics_plans.specs.Proper.{are_distinct}
 use Rattle.cics_plans.proofs.Proper.{has_first}
 use Rattle.cics_plans.specs.declared.plans.TaskPlan.{TaskPlan}
 use Rattle.cics_orders.specs.Giving.{State, hearing, shut, issuing, timing, shutting, attaching, left_by, after_line, late, resumed, drain_step, told_by, drained_once, after_step, drained_within, drained, unless_refused, with_task}
-use Rattle.cics_lanes.proofs.Regrouping.{Each}
+use Rattle.cics_search.proofs.Regrouping.{Each}
 use Rattle.cics_orders.specs.GivenLanes.{IsRight}
 use Rattle.cics_orders.specs.declared.lanes.Lane.{Lane}
 use Rattle.cics_report.specs.Leads.{machine_of, IsAccepted, AcceptsLine, LeadsTo}

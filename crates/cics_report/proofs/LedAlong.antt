@@ -17,8 +17,8 @@ use Rattle.cics_session.specs.Running.{Played, next, stepped, start}
 use Rattle.cics_stage.specs.Settling.{region_at}
 use Rattle.cics_stage.specs.Stages.{region_of, first_stage, silent, followed}
 use Rattle.cics_lanes.specs.Orders.{Order, after, IsOneOf, IsWay}
-use Rattle.cics_lanes.proofs.Regrouping.{Each}
-use Rattle.cics_lanes.proofs.Ways.{after-append, way-append}
+use Rattle.cics_search.proofs.Regrouping.{Each}
+use Rattle.cics_lanes.proofs.Orders.{after-append, way-append}
 use Rattle.cics_plans.specs.Taking.{NumberedLine, nothing_taken, taken_apart, planned}
 use Rattle.cics_plans.specs.Proper.{is_proper}
 use Rattle.cics_plans.proofs.Proper.{proper_parts, planned_proper}

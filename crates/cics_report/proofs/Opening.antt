@@ -27,8 +27,8 @@ use Rattle.cics_plans.specs.declared.plans.TaskPlan.{TaskPlan}
 use Rattle.cics_plans.specs.declared.plans.ScriptFault.{ScriptFault}
 use Rattle.cics_plans.specs.declared.plans.ScriptFault.TheVariants as fault
 use Rattle.cics_orders.specs.Giving.{opened}
-use Rattle.cics_lanes.proofs.Regrouping.{Each}
-use Rattle.cics_lanes.proofs.Ways.{each_append}
+use Rattle.cics_search.proofs.Regrouping.{Each}
+use Rattle.cics_search.proofs.Ways.{each_append}
 use Rattle.cics_report.specs.Leads.{machine_of, AcceptsLine, AcceptsLines}
 
 -- the bytes of lines that have numbers

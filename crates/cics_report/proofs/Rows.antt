@@ -5,7 +5,7 @@ use lib.Chars.{codes}
 use Rattle.cics_names.specs.Ebcdic.{code_of, character_of}
 use Rattle.cics_names.specs.Keyed.{Bytes}
 use Rattle.cics_machine.specs.declared.outcomes.Refused.TheVariants.{NoTask}
-use Rattle.cics_lanes.specs.declared.exploring.Report.{Report}
+use Rattle.cics_search.specs.declared.exploring.Report.{Report}
 use Rattle.cics_plans.specs.declared.plans.Planned.{Planned}
 use Rattle.cics_report.specs.Parts.{mark}
 use Rattle.cics_report.specs.Reporting.{greatest, report_text, endings_text, script_at}

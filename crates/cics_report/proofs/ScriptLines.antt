@@ -22,7 +22,7 @@ use Rattle.cics_lanes.specs.Orders.{Order}
 use Rattle.cics_plans.specs.Taking.{NumberedLine}
 use Rattle.cics_plans.specs.declared.plans.Plan.{Plan}
 use Rattle.cics_plans.specs.declared.plans.TaskPlan.{TaskPlan}
-use Rattle.cics_lanes.proofs.Regrouping.{Each}
+use Rattle.cics_search.proofs.Regrouping.{Each}
 use Rattle.cics_report.specs.Along.{lines_along}
 use Rattle.cics_report.specs.Reporting.{script_line, attach_line, run_text}
 use Rattle.cics_report.proofs.Opening.{bytes_of, goes}

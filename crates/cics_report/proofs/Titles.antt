@@ -9,7 +9,7 @@ use Rattle.cics_script.specs.Lines.{line, is_script_byte}
 use Rattle.cics_script.specs.declared.lines.Line.TheVariants.{Blank}
 use Rattle.cics_script.specs.declared.faults.LineFault.TheVariants.{TooLong, NotAscii}
 use Rattle.cics_lanes.specs.Endings.{Reported}
-use Rattle.cics_lanes.specs.declared.exploring.Report.{Report}
+use Rattle.cics_search.specs.declared.exploring.Report.{Report}
 use Rattle.cics_report.specs.Parts.{mark, mark_in}
 use Rattle.cics_report.specs.Reporting.{greatest, bound_text, count_text, both_text, title_text}
 use Rattle.cics_report.specs.Leads.{IsTitled}

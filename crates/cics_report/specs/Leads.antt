@@ -16,7 +16,7 @@ use Rattle.cics_session.specs.Lines.{all_lines}
 use Rattle.cics_session.specs.Running.{Played, next, start}
 use Rattle.cics_lanes.specs.Orders.{after, IsWay}
 use Rattle.cics_lanes.specs.Endings.{Reported}
-use Rattle.cics_lanes.specs.declared.exploring.Report.{Report}
+use Rattle.cics_search.specs.declared.exploring.Report.{Report}
 use Rattle.cics_plans.specs.Taking.{nothing_taken, taken_apart, planned}
 use Rattle.cics_plans.specs.declared.plans.Planned.{Planned}
 use Rattle.cics_orders.specs.Giving.{lanes, initial_state}

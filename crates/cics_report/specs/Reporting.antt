@@ -13,7 +13,7 @@ use Rattle.cics_stage.specs.declared.stage.Fault.{Fault}
 use Rattle.cics_stage.specs.declared.stage.Fault.TheVariants as faults
 use Rattle.cics_lanes.specs.Orders.{Order}
 use Rattle.cics_lanes.specs.Endings.{Parts, Reported, kept_number}
-use Rattle.cics_lanes.specs.declared.exploring.Report.{Report}
+use Rattle.cics_search.specs.declared.exploring.Report.{Report}
 use Rattle.cics_plans.specs.Taking.{NumberedLine}
 use Rattle.cics_plans.specs.declared.plans.Plan.{Plan}
 use Rattle.cics_plans.specs.declared.plans.TaskPlan.{TaskPlan}

@@ -7,8 +7,9 @@ ghost use Rattle.cics_report.specs.Reporting.{all_orders, serial_orders, serial_
 ghost use Rattle.cics_report.specs.Reporting.{limit_text, totals_text};
 
 use crate::parts::mark_in;
-use cics_lanes::{Ending, Report};
+use cics_lanes::Ending;
 use cics_names::NoMemory;
+use cics_search::Report;
 use cics_spelling::{push_number, push_str};
 
 // Returns the words before a number. It is a lower bound if orders were left out, and so is the

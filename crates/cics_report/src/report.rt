@@ -9,10 +9,11 @@ ghost use Rattle.cics_report.specs.Reporting.{every_text, report_text};
 use crate::along::lines_along;
 use crate::counts::{push_heading, push_limit, push_totals};
 use crate::parts::{push_own, push_parts, shared, told_in};
-use cics_lanes::{Ending, Report};
+use cics_lanes::Ending;
 use cics_names::{NoMemory, Record};
 use cics_plans::{Plan, Planned, RefusedLine, ScriptFault, read};
 use cics_script::{Line, LineFault};
+use cics_search::Report;
 use cics_spelling::{push_bare, push_number, push_str};
 use cics_stage::journal::{push_define_fault, push_line_fault, push_refused};
 

@@ -7,9 +7,10 @@ ghost use Rattle.cics_report.specs.Reporting.{title_text, script_at, Puts};
 
 use crate::along::lines_along;
 use crate::counts::{push_count, push_heading};
-use cics_lanes::{Ending, Report};
+use cics_lanes::Ending;
 use cics_names::{NoMemory, Record};
 use cics_plans::{Plan, TaskPlan};
+use cics_search::Report;
 use cics_spelling::{push_number, push_str};
 
 // Appends a line as it stands in the script.

@@ -4,10 +4,10 @@ use Rattle.std.proofs.lemmas.Option.{slice_get_within}
 use Rattle.std.specs.Prelude.{if◌then◌else◌, slice_get}
 use Rattle.cics_lanes.specs.Orders.{Order, after, IsWay, orders}
 use Rattle.cics_lanes.specs.Endings.{Run, Reported, are_same, firsts, run_to, reported_of_both}
-use Rattle.cics_lanes.specs.Reports.{runs}
-use Rattle.cics_lanes.specs.declared.exploring.Report.{Report}
-use Rattle.cics_lanes.proofs.Regrouping.{Each}
-use Rattle.cics_lanes.proofs.Ways.{each_append, each_mapped, each_on, each_filter, each_among, are_ways, all_followed}
+use Rattle.cics_search.specs.Reports.{runs}
+use Rattle.cics_search.specs.declared.exploring.Report.{Report}
+use Rattle.cics_search.proofs.Regrouping.{Each}
+use Rattle.cics_search.proofs.Ways.{each_append, each_mapped, each_on, each_filter, each_among, are_ways, all_followed}
 use Rattle.cics_plans.specs.declared.plans.Plan.{Plan}
 use Rattle.cics_orders.specs.Giving.{State, lanes, initial_state, line_count}
 use Rattle.cics_endings.specs.Telling.{is_deadlocked}

@@ -5,7 +5,7 @@ use Rattle.cics_session.specs.Lines.{all_lines}
 use Rattle.cics_session.specs.Running.{start}
 use Rattle.cics_lanes.specs.Orders.{after}
 use Rattle.cics_lanes.specs.Endings.{Reported}
-use Rattle.cics_lanes.specs.declared.exploring.Report.{Report}
+use Rattle.cics_search.specs.declared.exploring.Report.{Report}
 use Rattle.cics_plans.specs.Taking.{nothing_taken, taken_apart, planned}
 use Rattle.cics_plans.specs.declared.plans.Plan.{Plan}
 use Rattle.cics_plans.specs.declared.plans.Planned.{Planned}

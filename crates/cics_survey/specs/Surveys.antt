@@ -1,8 +1,8 @@
 -- What is returned of the orders of a script.
 use Rattle.std.specs.Prelude.{◌≡◌, ℕ, Bool, Result, Ok, Err}
 use Rattle.cics_lanes.specs.Endings.{Parts}
-use Rattle.cics_lanes.specs.Reports.{IsReport}
-use Rattle.cics_lanes.specs.declared.exploring.Report.{Report}
+use Rattle.cics_search.specs.Reports.{IsReport}
+use Rattle.cics_search.specs.declared.exploring.Report.{Report}
 use Rattle.cics_plans.specs.declared.plans.Plan.{Plan}
 use Rattle.cics_plans.specs.declared.plans.Planned.{Planned}
 use Rattle.cics_plans.specs.declared.plans.ScriptFault.{ScriptFault}

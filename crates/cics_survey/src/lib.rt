@@ -6,7 +6,7 @@ mod running;
 mod surveys;
 mod tellers;
 
-pub use cics_lanes::{Progress, Stand};
+pub use cics_search::{Progress, Stand};
 pub use laws::ending_scripts_lead_there;
 pub use running::{Surveyed, Surveyor};
 pub use surveys::{Survey, survey_script};

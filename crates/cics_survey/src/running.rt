@@ -7,9 +7,9 @@ ghost use Rattle.cics_whole.specs.Reads.{read_failures, write_failures};
 ghost use Rattle.cics_survey.specs.Written.{ending_of, Writes, IsPrinted, Surveys};
 
 use crate::surveys::{Survey, survey_script};
-use cics_lanes::Progress;
 use cics_names::NoMemory;
 use cics_report::{push_fault, push_report, push_script};
+use cics_search::Progress;
 use cics_session::{Orders, RunFault, Sink, Source, write_all};
 use cics_whole::{lines_of, read_script};
 use std::alloc::Global;

@@ -6,10 +6,10 @@ ghost use Rattle.cics_plans.specs.Taking.{nothing_taken, taken_apart, planned};
 ghost use Rattle.cics_survey.specs.Surveys.{IsReportOf, IsSurvey};
 
 use crate::tellers::{Answers, States};
-use cics_lanes::{Progress, Report};
 use cics_names::{NoMemory, Record};
 use cics_orders::{ToldPlan, explore_script};
 use cics_plans::{Plan, Planned, ScriptFault, plan_of};
+use cics_search::{Progress, Report};
 use cics_session::Orders;
 use std::alloc::Global;
 
@@ -40,7 +40,7 @@ fn follow<P: Progress>(
 }
 
 /// Takes a script apart, and follows the orders of its lines through about `wanted.limit` states,
-/// as `cics_lanes::explore` does. `lines` are its lines, each without its line end. `wanted.told`
+/// as `cics_search::explore` does. `lines` are its lines, each without its line end. `wanted.told`
 /// tells endings apart by what tasks were told too. If a line has a fault, returns the number of
 /// the first such line and its fault instead.
 ///

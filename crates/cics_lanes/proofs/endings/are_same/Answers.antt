@@ -1,6 +1,6 @@
 use Rattle.std.proofs.Common.{arith, ◌∙◌, sym}
 use Rattle.std.proofs.lemmas.Bool.{not-true, not-false}
-use Rattle.cics_lanes.proofs.Parts.{same_length, same_differ, same_past, same_end}
+use Rattle.cics_lanes.proofs.SameParts.{same_length, same_differ, same_past, same_end}
 use Rattle.cics_lanes.proofs.endings.are_same.Goals as goal
 
 pub returns-then-parts-others : goal.returns-then-parts-others

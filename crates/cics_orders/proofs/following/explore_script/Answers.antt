@@ -1,7 +1,7 @@
 use Rattle.std.proofs.Common.{◌≡◌, ◌≤◌, ap, ◌∙◌, subst, true, false}
 use Rattle.std.specs.Prelude.{IfOk}
-use Rattle.cics_lanes.specs.Levels.{state_count}
-use Rattle.cics_lanes.specs.Reports.{IsReport}
+use Rattle.cics_search.specs.Levels.{state_count}
+use Rattle.cics_search.specs.Reports.{IsReport}
 use Rattle.cics_plans.specs.declared.plans.Plan.{Plan}
 use Rattle.cics_plans.specs.Proper.{is_proper}
 use Rattle.cics_orders.specs.Giving.{State, lanes, initial_state, line_count}

@@ -1,0 +1,112 @@
+-- A state and a level are followed, entry by entry.
+use Rattle.std.proofs.Common.{◌≡◌, ◌<◌, ℕ, zero, suc, ◌+◌, Bool, true, false, not, cond, Some, None, if◌then◌else◌, List, [], ◌∷◌, ◌++◌, map, length, take, drop, get_or, arith, inl, inr, refl, ap, sym, ◌∙◌, append-nil, append_assoc, subst}
+use Rattle.std.specs.List.{flat_map, slice_get}
+use Rattle.std.proofs.lemmas.List.Sums.{sum_by_more}
+use Rattle.std.proofs.lemmas.Option.{slice_get_within, get_or_from_slice_get}
+use Rattle.std.specs.Str.{bytes_eq}
+use Rattle.std.proofs.lemmas.Bool.{true≢false}
+use Rattle.std.proofs.lemmas.Grind.{flat_map-append}
+use Rattle.std.proofs.lemmas.List.{map-append, take_more}
+use Rattle.cics_names.specs.Keyed.{Bytes}
+use Rattle.cics_lanes.specs.Orders.{Order, Lanes, AreAmong, after}
+use Rattle.cics_lanes.specs.Groups.{added, added_all}
+use Rattle.cics_lanes.specs.States.{led_joined}
+use Rattle.cics_search.specs.Levels.{led_on, live, spread, IsNext}
+use Rattle.cics_lanes.specs.declared.states.Led.{Led}
+use Rattle.cics_search.proofs.Regrouping.{added_all-append}
+
+-- no order moves the start
+pub start_after : {S : Type 0} (lanes : Lanes S) (start : S → S) → ((s : S) (l : ℕ) → start (lanes.given s l) ≡ start s) →
+    (s : S) (o : Order) → start (after lanes s o) ≡ start s
+start_after lanes start stays s [] = refl
+start_after lanes start stays s (l ∷ o) = start_after lanes start stays (lanes.given s l) o ∙ stays s l
+
+-- one value more is added
+pub added_more : {K X : Type 0} (eq : K → K → Bool) (join : X → X → X) (f : ℕ → K × X) (ls : List ℕ) (i : ℕ) (base now next : List (K × X)) (k : K) (x : X) →
+    i < length ls → now ≡ added_all eq join base (map f (take i ls)) → (k, x) ≡ f (get_or ls i 0) → next ≡ added eq join now k x →
+    next ≡ added_all eq join base (map f (take (i + 1) ls))
+added_more eq join f ls i base now next k x short so_far one is =
+    is ∙ ap (λ es. added eq join es k x) so_far
+    ∙ ap (λ e. added eq join (added_all eq join base (map f (take i ls))) e.0 e.1) one
+    ∙ sym (added_all-append eq join base (map f (take i ls)) (f (get_or ls i 0) ∷ []))
+    ∙ ap (added_all eq join base) (sym (map-append f (take i ls) (get_or ls i 0 ∷ [])) ∙ ap (map f) (sym (take_more ls i 0 short)))
+
+-- what the lanes from a place on lead to
+pub lane_next : {X : Type 0} (f : ℕ → X) (ls : List ℕ) (i : ℕ) (x : X) (xs : List X) → x ∷ xs ≡ map f (drop i ls) →
+    (i < length ls) × (x ≡ f (get_or ls i 0)) × (xs ≡ map f (drop (suc i) ls))
+lane_next f [] zero x xs is = absurd cc
+lane_next f [] (suc i) x xs is = absurd cc
+lane_next f (l ∷ ls) zero x xs is = (omega arith, cc, cc)
+lane_next f (l ∷ ls) (suc i) x xs is = let rest = lane_next f ls i x xs is in (omega (arith, rest.0), rest.1, rest.2)
+
+pub lanes_end : {X : Type 0} (f : ℕ → X) (ls : List ℕ) (i : ℕ) → [] ≡ map f (drop i ls) → take i ls ≡ ls
+lanes_end f [] zero is = refl
+lanes_end f [] (suc i) is = refl
+lanes_end f (l ∷ ls) zero is = absurd cc
+lanes_end f (l ∷ ls) (suc i) is = ap (λ ks. l ∷ ks) (lanes_end f ls i is)
+
+-- a state more is counted if a lane may give there
+pub live_more : (es : List (Bytes × Led)) (i : ℕ) (e : Bytes × Led) → slice_get es i ≡ Some e → live (take (i + 1) es) ≡ live (take i es) + cond (not e.1.has_ended) 1 0
+live_more es i e is =
+    sum_by_more (λ f. cond (not f.1.has_ended) 1 0) es i e (slice_get_within es i e is)
+    ∙ ap (λ f. live (take i es) + cond (not f.1.has_ended) 1 0) (get_or_from_slice_get es i e e is)
+
+pub none_past : {X : Type 0} (xs : List X) (i : ℕ) → i < length xs → None ≡ slice_get xs i → ⊥
+none_past [] i short is = omega (arith, short)
+none_past (x ∷ xs) zero short is = absurd cc
+none_past (x ∷ xs) (suc i) short is = none_past xs i (omega (arith, short)) is
+
+-- ---- The entries of a level
+
+-- Some of the entries before `left` are followed, and all if the search is whole.
+pub record IsPart (was_whole is_whole : Bool) (es left some : List (Bytes × Led)) : Type 0 where
+  pub among : (more : List (Bytes × Led)) → AreAmong more left → AreAmong (some ++ more) es
+  pub whole : is_whole ≡ true → (was_whole ≡ true) × (some ++ left ≡ es)
+
+pub part_none : (w : Bool) (es left : List (Bytes × Led)) → left ≡ es → IsPart w w es left []
+part_none w es left is = record { among = λ more fewer. subst (AreAmong more) is fewer; whole = λ all. (all, is) }
+
+-- an entry is followed
+pub part_more : (w v : Bool) (es before left some : List (Bytes × Led)) (e : Bytes × Led) → before ≡ e ∷ left → IsPart w v es before some → IsPart w v es left (some ++ e ∷ [])
+part_more w v es before left some e at part = record {
+  among = λ more is.
+      subst (λ os. AreAmong os es) (sym (append_assoc some (e ∷ []) more))
+      (part.among (e ∷ more) (subst (AreAmong (e ∷ more)) (sym at) (inr (more, refl, is))));
+  whole = λ is. let all = part.whole is in (all.0, append_assoc some (e ∷ []) left ∙ ap (λ os. some ++ os) (sym at) ∙ all.1);
+}
+
+-- an entry is left out
+pub part_less : (w v u : Bool) (es before left some : List (Bytes × Led)) (e : Bytes × Led) → before ≡ e ∷ left → u ≡ false → IsPart w v es before some → IsPart w u es left some
+part_less w v u es before left some e at cut part = record {
+  among = λ more is. part.among more (subst (AreAmong more) (sym at) (inl is));
+  whole = λ is. absurd (true≢false (sym is ∙ cut));
+}
+
+module _ {S : Type 0} (lanes : Lanes S) (breaks : S → ℕ → Bool) (stamp : Bool → S → Bytes) (b : Bool) (s : S) where
+  pub spread_more : (some next now : List (Bytes × Led)) (e : Bytes × Led) → now ≡ added_all bytes_eq led_joined [] (flat_map (spread lanes breaks stamp b s) some) →
+      next ≡ added_all bytes_eq led_joined now (spread lanes breaks stamp b s e) →
+      next ≡ added_all bytes_eq led_joined [] (flat_map (spread lanes breaks stamp b s) (some ++ e ∷ []))
+  spread_more some next now e so_far is =
+      is ∙ ap (λ es. added_all bytes_eq led_joined es (spread lanes breaks stamp b s e)) so_far
+      ∙ sym (added_all-append bytes_eq led_joined [] (flat_map (spread lanes breaks stamp b s) some) (spread lanes breaks stamp b s e))
+      ∙ ap (added_all bytes_eq led_joined [])
+      (ap (λ es. flat_map (spread lanes breaks stamp b s) some ++ es) (sym (append-nil (spread lanes breaks stamp b s e)))
+      ∙ sym (flat_map-append (spread lanes breaks stamp b s) some (e ∷ [])))
+
+  -- an entry where no lane may give stays
+  pub spread_ended : (k : Bytes) (led : Led) → led.has_ended ≡ true → spread lanes breaks stamp b s (k, led) ≡ (k, led) ∷ []
+  spread_ended k led ended = ap (λ c. if c then (k, led) ∷ [] else led_on lanes breaks stamp b s led) ended
+
+  -- the lanes of another one are followed
+  pub spread_led : (k : Bytes) (led : Led) → led.has_ended ≡ false → spread lanes breaks stamp b s (k, led) ≡ led_on lanes breaks stamp b s led
+  spread_led k led ended = ap (λ c. if c then (k, led) ∷ [] else led_on lanes breaks stamp b s led) ended
+
+  -- all entries are followed or left out
+  pub part_end : (w v : Bool) (es left some next : List (Bytes × Led)) → left ≡ [] → IsPart w v es left some →
+      next ≡ added_all bytes_eq led_joined [] (flat_map (spread lanes breaks stamp b s) some) → IsNext lanes breaks stamp b s w v es next
+  part_end w v es left some next none part is = record {
+    some = some;
+    among = subst (λ os. AreAmong os es) (append-nil some) (part.among [] (subst (AreAmong []) (sym none) refl));
+    whole = λ all. let both = part.whole all in (both.0, sym (append-nil some) ∙ ap (λ os. some ++ os) (sym none) ∙ both.1);
+    leads = is;
+  }

@@ -1,0 +1,9 @@
+pub mod Advancing
+pub mod Following
+pub mod Leveling
+pub mod Regrouping
+pub mod Reporting
+mod Rows
+pub mod Sublists
+pub mod Tallying
+pub mod Ways

@@ -1,0 +1,25 @@
+use Rattle.std.proofs.Common.{◌≡◌, ◌∙◌, ap, true, [], ◌∷◌, List}
+use Rattle.std.specs.Str.{bytes_eq}
+use Rattle.cics_names.specs.Keyed.{Bytes}
+use Rattle.cics_lanes.specs.Groups.{added}
+use Rattle.cics_lanes.specs.States.{led_joined, reached}
+use Rattle.cics_search.specs.Levels.{entry}
+use Rattle.cics_lanes.specs.declared.states.Led.{Led}
+use Rattle.cics_search.proofs.Leveling.{first_level}
+use Rattle.cics_search.proofs.exploring.Search.first_level.Goals as goal
+
+-- the start is the only state
+pub returns-clause-level : goal.returns-clause-level
+returns-clause-level g c =
+    let w = g.W.Walk in
+    let s = w.start c.args.walk.now in
+    let b = c.args.self.now.is_serial in
+    let here = c.in_ok-here.ensures ∙ ap (reached w.lanes w.breaks w.stamp b) c.in_ok-restart.ensures in
+    let made : c.led_by-stamp.result ≡ entry w.lanes w.breaks w.stamp b [] 1 s
+    = c.led_by-stamp.ensures ∙ (λ i. ((here i).stamp, record { first = c.new.ensures i; lanes = (here i).lanes; has_ended = (here i).has_ended; count = 1 })) in
+    first_level w.lanes w.breaks w.stamp w.ending b s (w.stamps_tell b c.args.walk.now) true c.add.new.met.entries
+    (c.in_ok-add.ensures ∙ ap (λ (es : List (Bytes × Led)). added bytes_eq led_joined es c.led_by-stamp.result.0 c.led_by-stamp.result.1) c.new-level.ensures.empty
+    ∙ ap (λ (e : Bytes × Led). e ∷ []) made)
+
+pub returns-clause-start : goal.returns-clause-start
+returns-clause-start g c = let w = g.W.Walk in ap w.start c.in_ok-restart.ensures ∙ w.start_is_start c.args.walk.now

@@ -1,0 +1,59 @@
+use Rattle.std.proofs.Common.{◌∙◌, ◌++◌, ◌∷◌, [], Bool, refl, sym, arith, subst}
+use Rattle.std.specs.Str.{bytes_eq}
+use Rattle.cics_names.specs.Keyed.{Bytes}
+use Rattle.cics_lanes.specs.declared.states.Led.{Led}
+use Rattle.cics_lanes.specs.Groups.{added_all}
+use Rattle.cics_lanes.specs.States.{led_joined}
+use Rattle.cics_search.specs.Levels.{spread, IsEntry}
+use Rattle.cics_search.specs.Ahead.{IsKnown}
+use Rattle.cics_search.proofs.Following.{IsPart, part_none, part_more, spread_more}
+use Rattle.cics_search.proofs.Leveling.{level_entries}
+use Rattle.cics_search.proofs.Regrouping.{Each}
+use Rattle.cics_search.proofs.exploring.Search.next.Goals as goal
+
+-- the level's entries are left
+pub loop-stamp-init : goal.loop-stamp-init
+loop-stamp-init g c =
+    let w = g.W.Walk in
+    let t = c.args.walk.now in
+    let s = w.start t in
+    let b = c.args.self.now.is_serial in
+    let gives = c.into_iter-stamp-iterator.ensures.into_iter_gives.0 in
+    record {
+      start = refl;
+      known = c.requires.known;
+      left = subst (Each (IsEntry w.lanes w.breaks w.stamp b s)) (sym gives)
+          (level_entries w.lanes w.breaks w.stamp w.ending b s (w.stamps_tell b t) c.requires.level.0 c.args.self.now.is_whole c.args.level.entries c.requires.level.1);
+      serial = c.thin-thinning.ensures.serial;
+      limit = c.thin-thinning.ensures.limit;
+      met = omega (arith, c.thin-thinning.ensures.met, c.live_count.ensures);
+      within = λ _. c.thin-thinning.ensures.whole;
+      some = [];
+      part = subst (λ (v : Bool). IsPart c.args.self.now.is_whole v c.args.level.entries c.into_iter-stamp-iterator.result []) (sym c.thin-thinning.ensures.whole)
+          (part_none c.args.self.now.is_whole c.args.level.entries c.into_iter-stamp-iterator.result gives);
+      next = c.new-next.ensures.empty;
+    }
+
+-- an entry more is followed
+pub loop-stamp-preserved-then-is_kept : goal.loop-stamp-preserved-then-is_kept
+loop-stamp-preserved-then-is_kept g c =
+    let w = g.W.Walk in
+    let s = w.start c.args.walk.now in
+    let b = c.args.self.now.is_serial in
+    let e : Bytes × Led = (c.in-Some.stamp, c.in-Some.led) in
+    let inv = c.loop-stamp.invariant in
+    let step = c.in_ok-step.ensures in
+    record {
+      start = step.start ∙ inv.start;
+      known = subst (λ t. IsKnown w.lanes w.breaks w.stamp b t c.step.new.known.entries) inv.start
+          (subst (λ (v : Bool). IsKnown w.lanes w.breaks w.stamp v (w.start c.loop-stamp.walk) c.step.new.known.entries) inv.serial step.known);
+      left = (subst (Each (IsEntry w.lanes w.breaks w.stamp b s)) c.in-Some.ensures.steps inv.left).1;
+      serial = inv.serial;
+      limit = inv.limit;
+      met = inv.met;
+      within = inv.within;
+      some = inv.some ++ e ∷ [];
+      part = part_more c.args.self.now.is_whole c.loop-stamp.self.is_whole c.args.level.entries c.loop-stamp.stamp-iterator c.next.new.self inv.some e c.in-Some.ensures.steps inv.part;
+      next = spread_more w.lanes w.breaks w.stamp b s inv.some c.step.new.next.entries c.loop-stamp.next.entries e inv.next
+          (step.next ∙ (λ i. added_all bytes_eq led_joined c.loop-stamp.next.entries (spread w.lanes w.breaks w.stamp (inv.serial i) (inv.start i) e)));
+    }

@@ -1,0 +1,13 @@
+//! Follows every order in which lanes may give their lines, and gathers the endings.
+//!
+//! The words are those of `cics_lanes`. States of one stamp are followed once.
+//!
+//! Read `exploring`, then `ahead` and `progress`.
+#![tactic(auto)]
+
+mod ahead;
+mod exploring;
+mod progress;
+
+pub use exploring::{Report, explore};
+pub use progress::{Progress, Stand};
