@@ -10,45 +10,45 @@ use Rattle.std.proofs.lemmas.List.Folds.{list_any-append}
 use Rattle.cics_names.specs.Keyed.{Bytes, is_same}
 use Rattle.cics_names.specs.KeyedLaws.{is_same-eq}
 use Rattle.cics_names.specs.RisingLaws.{is_same-turned}
-use Rattle.cics_enqueue.specs.Kept.{Owned, finds, has_in, owns, Adds, Drops}
+use Rattle.cics_enqueue.specs.Kept.{Owned, has_in, owns, Adds, Drops}
 use Rattle.cics_history.specs.Holding.{is_other}
 
 module _ (ls ms : Owned) (unit : ℕ) (w : Vec Bytes) (h : (q : ℕ) → lookup (nat_eq q) ms ≡ cond (nat_eq unit q) (Some w) (lookup (nat_eq q) ls)) where
   -- a unit's keys are written, and the others stay
-  pub owns-written : (u : ℕ) (k : Bytes) → owns ms u k ≡ cond (nat_eq unit u) (list_any (finds k) w.items) (owns ls u k)
-  owns-written u k = ap (λ o. has_in o k) (h u) ∙ elim (nat_eq unit u) as (λ b. has_in (cond b (Some w) (lookup (nat_eq u) ls)) k ≡ cond b (list_any (finds k) w.items) (owns ls u k)) [ true ↦ refl | false ↦ refl ]
+  pub owns-written : (u : ℕ) (k : Bytes) → owns ms u k ≡ cond (nat_eq unit u) (list_any (is_same k) w.items) (owns ls u k)
+  owns-written u k = ap (λ o. has_in o k) (h u) ∙ elim (nat_eq unit u) as (λ b. has_in (cond b (Some w) (lookup (nat_eq u) ls)) k ≡ cond b (list_any (is_same k) w.items) (owns ls u k)) [ true ↦ refl | false ↦ refl ]
 
   module _ (v : Vec Bytes) (there : lookup (nat_eq unit) ls ≡ Some v) where
-    own : (k : Bytes) (u : ℕ) → nat_eq unit u ≡ true → owns ls u k ≡ list_any (finds k) v.items
+    own : (k : Bytes) (u : ℕ) → nat_eq unit u ≡ true → owns ls u k ≡ list_any (is_same k) v.items
     own k u t = ap (λ o. has_in o k) (subst (λ x. lookup (nat_eq x) ls ≡ Some v) (eqb-true unit u t) there)
 
     -- a unit's set that is written as it was changes nothing
     pub owns-same : w.items ≡ v.items → (u : ℕ) (k : Bytes) → owns ms u k ≡ owns ls u k
-    owns-same same u k = owns-written u k ∙ elim (nat_eq unit u) as (λ t. nat_eq unit u ≡ t → cond t (list_any (finds k) w.items) (owns ls u k) ≡ owns ls u k) [
-      | true ↦ λ t. ap (list_any (finds k)) same ∙ sym (own k u t)
+    owns-same same u k = owns-written u k ∙ elim (nat_eq unit u) as (λ t. nat_eq unit u ≡ t → cond t (list_any (is_same k) w.items) (owns ls u k) ≡ owns ls u k) [
+      | true ↦ λ t. ap (list_any (is_same k)) same ∙ sym (own k u t)
       | false ↦ λ t. refl
     ] refl
 
   -- a unit, which may have had no list, has one key more
-  pub owns-added : (o : Option (Vec Bytes)) → lookup (nat_eq unit) ls ≡ o → (key : Bytes) → ((k : Bytes) → (if is_same key k then true else has_in o k) ≡ true → list_any (finds k) w.items ≡ true) → Adds unit key ls ms
+  pub owns-added : (o : Option (Vec Bytes)) → lookup (nat_eq unit) ls ≡ o → (key : Bytes) → ((k : Bytes) → (if is_same key k then true else has_in o k) ≡ true → list_any (is_same k) w.items ≡ true) → Adds unit key ls ms
   owns-added o there key more u k = subst (λ b. cond (nat_eq unit u && is_same key k) true (owns ls u k) ≡ true → b ≡ true) (sym (owns-written u k)) (
-      elim (nat_eq unit u) as (λ t. nat_eq unit u ≡ t → cond (t && is_same key k) true (owns ls u k) ≡ true → cond t (list_any (finds k) w.items) (owns ls u k) ≡ true) [
+      elim (nat_eq unit u) as (λ t. nat_eq unit u ≡ t → cond (t && is_same key k) true (owns ls u k) ≡ true → cond t (list_any (is_same k) w.items) (owns ls u k) ≡ true) [
         | true ↦ λ t had. more k (ap (cond (is_same key k) true) (sym (ap (λ o. has_in o k) (subst (λ x. lookup (nat_eq x) ls ≡ o) (eqb-true unit u t) there))) ∙ had)
         | false ↦ λ t had. had
       ] refl)
 
   -- a unit may have lost a key
-  pub owns-dropped : (v : Vec Bytes) → lookup (nat_eq unit) ls ≡ Some v → (key : Bytes) → ((k : Bytes) → is_same key k ≡ false → list_any (finds k) v.items ≡ true → list_any (finds k) w.items ≡ true) → Drops unit key ls ms
+  pub owns-dropped : (v : Vec Bytes) → lookup (nat_eq unit) ls ≡ Some v → (key : Bytes) → ((k : Bytes) → is_same key k ≡ false → list_any (is_same k) v.items ≡ true → list_any (is_same k) w.items ≡ true) → Drops unit key ls ms
   owns-dropped v there key rest u k other = subst (λ b. owns ls u k ≡ true → b ≡ true) (sym (owns-written u k)) (
-      elim (nat_eq unit u) as (λ t. nat_eq unit u ≡ t → (t && is_same key k) ≡ false → owns ls u k ≡ true → cond t (list_any (finds k) w.items) (owns ls u k) ≡ true) [
+      elim (nat_eq unit u) as (λ t. nat_eq unit u ≡ t → (t && is_same key k) ≡ false → owns ls u k ≡ true → cond t (list_any (is_same k) w.items) (owns ls u k) ≡ true) [
         | true ↦ λ t other had. rest k other (sym (own v there k u t) ∙ had)
         | false ↦ λ t other had. had
       ] refl other)
 
 -- a list with one more key at its end has this and those that it had
-pub has_pushed : (xs ys : List Bytes) (key : Bytes) → ys ≡ xs ++ key ∷ [] → (k : Bytes) → (if is_same key k then true else list_any (finds k) xs) ≡ true → list_any (finds k) ys ≡ true
-has_pushed xs ys key pushed k = subst (λ b. cond b true (list_any (finds k) xs) ≡ true → list_any (finds k) ys ≡ true) (is_same-turned k key) (λ had.
-    ap (list_any (finds k)) pushed ∙ list_any-append (finds k) xs (key ∷ []) ∙ by (list_any (finds k) xs) (finds k key) had)
+pub has_pushed : (xs ys : List Bytes) (key : Bytes) → ys ≡ xs ++ key ∷ [] → (k : Bytes) → (if is_same key k then true else list_any (is_same k) xs) ≡ true → list_any (is_same k) ys ≡ true
+has_pushed xs ys key pushed k = subst (λ b. cond b true (list_any (is_same k) xs) ≡ true → list_any (is_same k) ys ≡ true) (is_same-turned k key) (λ had.
+    ap (list_any (is_same k)) pushed ∙ list_any-append (is_same k) xs (key ∷ []) ∙ by (list_any (is_same k) xs) (is_same k key) had)
   where
     by : (a b : Bool) → cond b true a ≡ true → (a || (b || false)) ≡ true
     by true b had = refl
@@ -56,8 +56,8 @@ has_pushed xs ys key pushed k = subst (λ b. cond b true (list_any (finds k) xs)
     by false false had = cc
 
 -- a list without its last key has all others that it had
-pub has_popped : (xs ys : List Bytes) (key : Bytes) → xs ≡ ys ++ key ∷ [] → (k : Bytes) → is_same key k ≡ false → list_any (finds k) xs ≡ true → list_any (finds k) ys ≡ true
-has_popped xs ys key popped k other had = by (list_any (finds k) ys) (finds k key) (is_same-turned k key ∙ other) (sym (list_any-append (finds k) ys (key ∷ [])) ∙ sym (ap (list_any (finds k)) popped) ∙ had)
+pub has_popped : (xs ys : List Bytes) (key : Bytes) → xs ≡ ys ++ key ∷ [] → (k : Bytes) → is_same key k ≡ false → list_any (is_same k) xs ≡ true → list_any (is_same k) ys ≡ true
+has_popped xs ys key popped k other had = by (list_any (is_same k) ys) (is_same k key) (is_same-turned k key ∙ other) (sym (list_any-append (is_same k) ys (key ∷ [])) ∙ sym (ap (list_any (is_same k)) popped) ∙ had)
   where
     by : (a b : Bool) → b ≡ false → (a || (b || false)) ≡ true → a ≡ true
     by true b e had = refl
@@ -66,8 +66,8 @@ has_popped xs ys key popped k other had = by (list_any (finds k) ys) (finds k ke
 
 -- if the last key was removed, and it is this one, all others are there
 pub has_dropped : (xs ys : List Bytes) (o : Option Bytes) → xs ≡ ys ++ option_to_list o → (l : Bytes) → slice_get xs (length xs - 1) ≡ Some l → (key : Bytes) → is_same l key ≡ true →
-    (k : Bytes) → is_same key k ≡ false → list_any (finds k) xs ≡ true → list_any (finds k) ys ≡ true
-has_dropped xs ys None popped l last key same k other had = ap (list_any (finds k)) (sym (popped ∙ append-nil ys)) ∙ had
+    (k : Bytes) → is_same key k ≡ false → list_any (is_same k) xs ≡ true → list_any (is_same k) ys ≡ true
+has_dropped xs ys None popped l last key same k other had = ap (list_any (is_same k)) (sym (popped ∙ append-nil ys)) ∙ had
 has_dropped xs ys (Some x) popped l last key same k other had =
     let there : Some x ≡ Some l = sym (at_end ys) ∙ (λ i. slice_get (sym popped i) (length (sym popped i) - 1)) ∙ last in
     let one : x ≡ l = cc in

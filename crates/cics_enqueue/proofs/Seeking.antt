@@ -10,7 +10,7 @@ use Rattle.std.specs.Ordering.{nat_cmp, is_lt, is_le, is_gt, ordering_then, orde
 use Rattle.std.specs.Cmp.{nat_cmp_total, tied_itself}
 use Rattle.std.specs.FinMap.{nat_cmp-IsAntisymmetric}
 use Rattle.std.proofs.lemmas.Bool.{cases_Bool, le-ltb, eqb-true, eq-eqb, and_parts, and_from}
-use Rattle.cics_names.specs.Keyed.{Bytes, bytes_cmp, is_below}
+use Rattle.cics_names.specs.Keyed.{Bytes, bytes_cmp, is_below, is_same}
 use Rattle.cics_names.specs.KeyedLaws.{is_same-eq}
 use Rattle.cics_enqueue.specs.declared.enqueues.Holding.{Holding}
 use Rattle.cics_history.specs.declared.resources.Resource.{Resource}
@@ -18,7 +18,7 @@ use Rattle.cics_history.specs.declared.resources.Resource.TheVariants.{FileKey, 
 use Rattle.cics_enqueue.specs.Borrowed.{named}
 use Rattle.cics_enqueue.specs.declared.borrowed.Kind.{Kind}
 use Rattle.cics_enqueue.specs.declared.borrowed.Kind.TheVariants.{FileKey as KeyAt, FilePrefix as PrefixAt, TsQueue as TsQueueOf, TdRead as ReadingEndOf, TdWrite as WritingEndOf, User as UserAt}
-use Rattle.cics_enqueue.specs.Kept.{key_cmp, Entries, Owned, IsKept, owns, is_units, AreKeys, table_of, seen, bytes_and_unit, finds, first_entry, is_others_under, others_unit, first_cover, lesser_shown}
+use Rattle.cics_enqueue.specs.Kept.{Entries, Owned, IsKept, owns, is_units, AreKeys, table_of, seen, bytes_and_unit, first_entry, is_others_under, others_unit, first_cover, lesser_shown}
 use Rattle.cics_history.specs.Resources.{bytes_of}
 use Rattle.cics_history.specs.Holding.{is_other}
 use Rattle.cics_ksds.specs.Prefixes.{has_prefix}
@@ -87,12 +87,12 @@ abbrev pub Rises : Entries → Type 0
 Rises [] = Unit {0}
 Rises (e ∷ es) = Above e.0 es × Rises es
 
-pub rises_sorted : (es : Entries) → IsStrictlySortedBy key_cmp (keys_of es) → Rises es
+pub rises_sorted : (es : Entries) → IsStrictlySortedBy bytes_cmp (keys_of es) → Rises es
 unfolding IsStrictlySortedBy
 rises_sorted [] h = tt
 rises_sorted (e ∷ es) h = (above es h.0, rises_sorted es h.1)
   where
-    above : (fs : Entries) → AllByRecursion (λ y. key_cmp e.0 y ≡ Less) (keys_of fs) → Above e.0 fs
+    above : (fs : Entries) → AllByRecursion (λ y. bytes_cmp e.0 y ≡ Less) (keys_of fs) → Above e.0 fs
     above [] g = tt
     above (f ∷ fs) g = (g.0, above fs g.1)
 
@@ -145,17 +145,17 @@ module _ (b first rest : Bytes) (kind : ℕ) (is : first ≡ kind ∷ rest) (oth
   above_zero : nat_cmp kind 0 ≡ Greater
   above_zero = ap (λ t. cond t Less (cond (kind == 0) Equal Greater)) (le-ltb kind 0 (omega arith)) ∙ ap (λ t. cond t Equal Greater) other
 
-  apart : (k : Bytes) → is_gt (bytes_cmp first k) ≡ false → finds (0 ∷ b) k ≡ false
-  apart k below = elim (cases_Bool (finds (0 ∷ b) k)) [
+  apart : (k : Bytes) → is_gt (bytes_cmp first k) ≡ false → is_same (0 ∷ b) k ≡ false
+  apart k below = elim (cases_Bool (is_same (0 ∷ b) k)) [
     | inl y ↦
         let greater : is_gt (bytes_cmp first k) ≡ true = (λ i. is_gt (bytes_cmp (is i) (sym (is_same-eq (0 ∷ b) k y) i))) ∙ ap (λ o. is_gt (ordering_then o (bytes_cmp rest b))) above_zero in
         let wrong : true ≡ false = sym greater ∙ below in cc
     | inr n ↦ n
   ]
 
-  pub none_of_kind : (es : Entries) → All (λ k. is_gt (bytes_cmp first k) ≡ false) (keys_of es) → lookup (finds (0 ∷ b)) es ≡ None
+  pub none_of_kind : (es : Entries) → All (λ k. is_gt (bytes_cmp first k) ≡ false) (keys_of es) → lookup (is_same (0 ∷ b)) es ≡ None
   none_of_kind [] least = refl
-  none_of_kind (e ∷ es) least = ap (λ t. cond t (Some e.1) (lookup (finds (0 ∷ b)) es)) (apart e.0 (least 0 e.0 (omega arith))) ∙ none_of_kind es (λ k d lt. least (suc k) d (omega (arith, lt)))
+  none_of_kind (e ∷ es) least = ap (λ t. cond t (Some e.1) (lookup (is_same (0 ∷ b)) es)) (apart e.0 (least 0 e.0 (omega arith))) ∙ none_of_kind es (λ k d lt. least (suc k) d (omega (arith, lt)))
 
 -- the first element
 pub headed : (xs : Bytes) (x : ℕ) → slice_get xs 0 ≡ Some x → (rest : Bytes) × (xs ≡ x ∷ rest)
@@ -213,8 +213,8 @@ least_under-shown f p asker es sound key prefix is_key is_prefix =
     ∙ lesser-shown (first_entry (is_others_under key asker) es) (first_entry (is_others_under prefix asker) es) (first_entry-sound _ es sound) (first_entry-sound _ es sound)
 
 -- another unit's holding of a resource
-pub other_than-table_of : (r : Resource) (key : Bytes) → key ≡ resource_key r → (asker : Option ℕ) (es : Entries) → AreKeys es → other_than asker (holder_of r (table_of es)) ≡ others_unit asker (lookup (finds key) es)
-other_than-table_of r key is asker es sound = ap (other_than asker) (holder_of-table_of r key is es (lookup (finds key) es) sound refl) ∙ step (lookup (finds key) es)
+pub other_than-table_of : (r : Resource) (key : Bytes) → key ≡ resource_key r → (asker : Option ℕ) (es : Entries) → AreKeys es → other_than asker (holder_of r (table_of es)) ≡ others_unit asker (lookup (is_same key) es)
+other_than-table_of r key is asker es sound = ap (other_than asker) (holder_of-table_of r key is es (lookup (is_same key) es) sound refl) ∙ step (lookup (is_same key) es)
   where
     step : (o : Option Holding) → other_than asker (option_map (λ h. h.unit) o) ≡ others_unit asker o
     step None = refl
@@ -222,9 +222,9 @@ other_than-table_of r key is asker es sound = ap (other_than asker) (holder_of-t
 
 -- if no other unit owns a key, none owns a resource
 pub alone-table_of : (es : Entries) (own : Owned) (asker : Option ℕ) → IsKept es own → ((u : ℕ) (k : Bytes) → is_other asker u ≡ true → owns own u k ≡ false) → (s : Resource) → other_than asker (holder_of s (table_of es)) ≡ None
-alone-table_of es own asker kept alone s = other_than-table_of s (resource_key s) refl asker es kept.keys ∙ step (lookup (finds (resource_key s)) es) refl
+alone-table_of es own asker kept alone s = other_than-table_of s (resource_key s) refl asker es kept.keys ∙ step (lookup (is_same (resource_key s)) es) refl
   where
-    step : (o : Option Holding) → lookup (finds (resource_key s)) es ≡ o → others_unit asker o ≡ None
+    step : (o : Option Holding) → lookup (is_same (resource_key s)) es ≡ o → others_unit asker o ≡ None
     step None at = refl
     step (Some h) at = elim (is_other asker h.unit) as (λ b. is_other asker h.unit ≡ b → (if b then Some h.unit else None) ≡ None) [
       | true ↦ λ other.
@@ -238,15 +238,15 @@ pub shorter-table_of : (f : Bytes) (asker : Option ℕ) (es : Entries) → AreKe
 shorter-table_of f asker es sound [] p = refl
 shorter-table_of f asker es sound (x ∷ rest) p =
     (λ i. first_of (other_than-table_of (FilePrefix f (bytes_of p)) (0 ∷ length f ∷ (f ++ p)) refl asker es sound i) (shorter-table_of f asker es sound rest (p ++ x ∷ []) i))
-    ∙ ap (λ k. first_of (others_unit asker (lookup (finds (0 ∷ length f ∷ (f ++ p))) es)) (first_cover asker es (0 ∷ length f ∷ k) rest)) (sym (append_assoc f p (x ∷ [])))
+    ∙ ap (λ k. first_of (others_unit asker (lookup (is_same (0 ∷ length f ∷ (f ++ p))) es)) (first_cover asker es (0 ∷ length f ∷ k) rest)) (sym (append_assoc f p (x ∷ [])))
 
 -- if no prefix is owned, no shorter one is
-pub first_cover-none : (asker : Option ℕ) (es : Entries) → ((b : Bytes) → lookup (finds (0 ∷ b)) es ≡ None) → (rest b : Bytes) → first_cover asker es (0 ∷ b) rest ≡ None
+pub first_cover-none : (asker : Option ℕ) (es : Entries) → ((b : Bytes) → lookup (is_same (0 ∷ b)) es ≡ None) → (rest b : Bytes) → first_cover asker es (0 ∷ b) rest ≡ None
 first_cover-none asker es none [] b = refl
 first_cover-none asker es none (x ∷ rest) b = (λ i. first_of (others_unit asker (none b i)) (first_cover asker es (0 ∷ b ++ x ∷ []) rest)) ∙ first_cover-none asker es none rest (b ++ x ∷ [])
 
 -- if no prefix is owned, none conflicts with a key or a longer prefix
-pub shorter-none : (f b : Bytes) (asker : Option ℕ) (es : Entries) → AreKeys es → ((b : Bytes) → lookup (finds (0 ∷ b)) es ≡ None) → holder_of_shorter f [] b asker (table_of es) ≡ None
+pub shorter-none : (f b : Bytes) (asker : Option ℕ) (es : Entries) → AreKeys es → ((b : Bytes) → lookup (is_same (0 ∷ b)) es ≡ None) → holder_of_shorter f [] b asker (table_of es) ≡ None
 shorter-none f b asker es sound none = shorter-table_of f asker es sound b [] ∙ first_cover-none asker es none b (length f ∷ (f ++ []))
 
 -- one that is there is the first

@@ -36,14 +36,10 @@ abbrev pub AreKeys : Entries → Type 0
 AreKeys [] = Unit {0}
 AreKeys (e ∷ es) = (resource_key (resource_of e.0) ≡ e.0) × AreKeys es
 
--- whether a key has these bytes
-abbrev pub finds : Bytes → Bytes → Bool
-finds key k = is_same key k
-
 -- whether a list has a key
 abbrev pub has_in : Option (Vec Bytes) → Bytes → Bool
 has_in None k = false
-has_in (Some keys) k = list_any (finds k) keys.items
+has_in (Some keys) k = list_any (is_same k) keys.items
 
 -- whether a key is among those that a unit acquired
 abbrev pub owns : Owned → ℕ → Bytes → Bool
@@ -87,25 +83,21 @@ abbrev pub is_units : ℕ → Option Holding → Bool
 is_units u None = false
 is_units u (Some h) = h.unit == u
 
--- how keys are ordered
-abbrev pub key_cmp : Bytes → Bytes → Ordering
-key_cmp k l = bytes_cmp k l
-
 -- the entries with a new one in order, and what they say of each key then
 abbrev pub PutsNew : Bytes → Holding → Entries → Entries → Type 0
-PutsNew key h es fs = (fs ≡ insert_entry key_cmp es key h) × ((k : Bytes) → lookup (finds k) fs ≡ (if finds key k then Some h else lookup (finds k) es))
+PutsNew key h es fs = (fs ≡ insert_entry bytes_cmp es key h) × ((k : Bytes) → lookup (is_same k) fs ≡ (if is_same key k then Some h else lookup (is_same k) es))
 
 -- the keys that a unit owns are in its list
 abbrev pub AreOwned : Entries → Owned → Type 0
-AreOwned es owned = (u : ℕ) (k : Bytes) → is_units u (lookup (finds k) es) ≡ true → owns owned u k ≡ true
+AreOwned es owned = (u : ℕ) (k : Bytes) → is_units u (lookup (is_same k) es) ≡ true → owns owned u k ≡ true
 
 -- the entries without a key, if it is this unit's
 abbrev pub without_own : ℕ → Bytes → Entries → Entries
-without_own u key es = if is_units u (lookup (finds key) es) then remove_entry (finds key) es else es
+without_own u key es = if is_units u (lookup (is_same key) es) then remove_entry (is_same key) es else es
 
 -- what the entries say of each key after that
 abbrev pub Frees : ℕ → Bytes → Entries → Entries → Type 0
-Frees u key es fs = (k : Bytes) → lookup (finds k) fs ≡ (if is_units u (lookup (finds key) es) && finds key k then None else lookup (finds k) es)
+Frees u key es fs = (k : Bytes) → lookup (is_same k) fs ≡ (if is_units u (lookup (is_same key) es) && is_same key k then None else lookup (is_same k) es)
 
 -- the entries and the keys of the units are one table
 pub record IsKept (es : Entries) (own : Owned) : Type 0 where
@@ -141,7 +133,7 @@ others_unit asker (Some h) = if is_other asker h.unit then Some h.unit else None
 -- the unit of the first entry, not the asker's, whose bytes are key and a proper front of the rest
 abbrev pub first_cover : Option ℕ → Entries → Bytes → Bytes → Option ℕ
 first_cover asker es key [] = None
-first_cover asker es key (x ∷ rest) = first_of (others_unit asker (lookup (finds key) es)) (first_cover asker es (key ++ x ∷ []) rest)
+first_cover asker es key (x ∷ rest) = first_of (others_unit asker (lookup (is_same key) es)) (first_cover asker es (key ++ x ∷ []) rest)
 
 -- the smaller of two in byte order, without their kinds
 abbrev pub lesser_shown : Option (Bytes × ℕ) → Option (Bytes × ℕ) → Option (Bytes × ℕ)

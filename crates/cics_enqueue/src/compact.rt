@@ -6,7 +6,7 @@
 ghost use Rattle.std.specs.Prelude.{◌≡◌, ◌≤◌, ◌+◌, ◌∷◌, ◌++◌, OnOk, [], length, option_map};
 ghost use Rattle.std.specs.Option.{option_copied};
 ghost use Rattle.std.specs.Map.{lookup};
-ghost use Rattle.cics_enqueue.specs.Kept.{finds};
+ghost use Rattle.cics_names.specs.Keyed.{is_same};
 ghost use Rattle.cics_enqueue.specs.Table.{resource_key};
 ghost use Rattle.cics_enqueue.specs.Values.{value_in};
 
@@ -156,9 +156,9 @@ pub(crate) fn set_resource(key: &mut Key, resource: &ResourceRef<'_>) -> Result<
 {
     match &resource.kind {
         Kind::FileKey(file, bytes) => set_file(key, KEY, file, bytes),
-        Kind::TsQueue(queue) => key.set_short(&ts_bytes(queue)),
-        Kind::TdRead(queue) => key.set_short(&td_bytes(TD_READ, queue)),
-        Kind::TdWrite(queue) => key.set_short(&td_bytes(TD_WRITE, queue)),
+        Kind::TsQueue(queue) => key.set(&ts_bytes(queue), &[]),
+        Kind::TdRead(queue) => key.set(&td_bytes(TD_READ, queue), &[]),
+        Kind::TdWrite(queue) => key.set(&td_bytes(TD_WRITE, queue), &[]),
         Kind::User(value) => set_value(key, value),
         Kind::FilePrefix(file, bytes) => set_file(key, PREFIX, file, bytes),
     }
@@ -167,7 +167,7 @@ pub(crate) fn set_resource(key: &mut Key, resource: &ResourceRef<'_>) -> Result<
 // Returns the holding of a table key, found by going through the whole table. It is used if memory
 // for a `Key` is refused. Cost: O(resources).
 fn find_among<'t>(table: &'t BTreeMap<Key, Holding>, bytes: &[u8]) -> Option<&'t Holding>
-    ensures { option_copied result ≡ lookup (finds bytes.now) table.now.entries }
+    ensures { option_copied result ≡ lookup (is_same bytes.now) table.now.entries }
 {
     for (key, holding) in table {
         if bytes == key.as_slice() {
@@ -183,7 +183,7 @@ fn find_resource<'t>(
     table: &'t BTreeMap<Key, Holding>,
     resource: &ResourceRef<'_>,
 ) -> Option<&'t Holding>
-    ensures { option_copied result ≡ lookup (finds (resource_key resource.now)) table.now.entries }
+    ensures { option_copied result ≡ lookup (is_same (resource_key resource.now)) table.now.entries }
 {
     find_among(table, compact(resource).as_slice())
 }
@@ -195,7 +195,7 @@ pub(crate) fn held_under<'t>(
     bytes: &[u8],
 ) -> Option<&'t Holding>
     requires most { length bytes.now ≤ 265 }
-    ensures { option_copied result ≡ lookup (finds bytes.now) table.now.entries }
+    ensures { option_copied result ≡ lookup (is_same bytes.now) table.now.entries }
 {
     if table.is_empty() {
         return None;
@@ -212,7 +212,7 @@ pub(crate) fn held<'t>(
     key: &mut Key,
     resource: &ResourceRef<'_>,
 ) -> Option<&'t Holding>
-    ensures { option_copied result ≡ lookup (finds (resource_key resource.now)) table.now.entries }
+    ensures { option_copied result ≡ lookup (is_same (resource_key resource.now)) table.now.entries }
 {
     if table.is_empty() {
         return None;

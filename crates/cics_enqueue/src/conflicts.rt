@@ -5,8 +5,8 @@
 ghost use Rattle.std.specs.Prelude.{◌≡◌, ◌≤◌, ◌∷◌, ◌++◌, [], length, drop, None, true};
 ghost use Rattle.std.specs.Prelude.{if◌then◌else◌, option_map};
 ghost use Rattle.std.specs.Bool.{OnFalse};
-ghost use Rattle.cics_names.specs.Keyed.{Bytes, is_below};
-ghost use Rattle.cics_enqueue.specs.Kept.{finds, first_shorter, first_shown, least_shown};
+ghost use Rattle.cics_names.specs.Keyed.{Bytes, is_below, is_same};
+ghost use Rattle.cics_enqueue.specs.Kept.{first_shorter, first_shown, least_shown};
 ghost use Rattle.cics_enqueue.specs.Kept.{others_unit};
 ghost use Rattle.std.specs.Map.{lookup};
 ghost use Rattle.std.specs.Option.{option_copied};
@@ -59,7 +59,7 @@ fn set_bound(bound: &mut Key, start: &[u8])
 
 // Returns false only if no prefix of keys is owned. Its table key would come before all others.
 pub(crate) fn has_prefixes(table: &BTreeMap<Key, Holding>) -> bool
-    ensures { OnFalse result ((b : Bytes) → lookup (finds (0 ∷ b)) table.now.entries ≡ None) }
+    ensures { OnFalse result ((b : Bytes) → lookup (is_same (0 ∷ b)) table.now.entries ≡ None) }
 {
     match table.first_key_value() {
         Some((key, _)) => match key.as_slice().first() {
@@ -104,7 +104,7 @@ impl<'t> Search<'t> {
     fn other_holder(&self, bound: &mut Key, bytes: &[u8]) -> Option<UnitId>
         requires most { length bytes.now ≤ 265 }
         ensures { result ≡ others_unit self.now.asker
-            (lookup (finds bytes.now) self.now.table.now.entries) }
+            (lookup (is_same bytes.now) self.now.table.now.entries) }
     {
         other_unit(held_under(self.table, bound, bytes), &self.asker)
     }
@@ -182,9 +182,9 @@ impl<'t> Search<'t> {
             (first_shorter self.now.asker self.now.table.now.entries file key.now)
             (first_of
             (others_unit self.now.asker
-            (lookup (finds (1 ∷ length file ∷ (file ++ key.now))) self.now.table.now.entries))
+            (lookup (is_same (1 ∷ length file ∷ (file ++ key.now))) self.now.table.now.entries))
             (others_unit self.now.asker
-            (lookup (finds (0 ∷ length file ∷ (file ++ key.now))) self.now.table.now.entries))) }
+            (lookup (is_same (0 ∷ length file ∷ (file ++ key.now))) self.now.table.now.entries))) }
     {
         let held_key = held(self.table, bound, &ResourceRef::record(file, key));
         let holder = other_unit(held_key, &self.asker);

@@ -6,12 +6,12 @@ ghost use Rattle.std.specs.Prelude.{◌≡◌, ◌≤◌, IfNone, IfSome, length
 ghost use Rattle.std.specs.Prelude.{if◌then◌else◌, IsTrue, true, false, ◌↔◌, OnOk, OnErr, IfErr};
 ghost use Rattle.std.specs.Prelude.{IfOk, List, T, None, Some, ℕ, is_some, not, option_map, ◌++◌};
 ghost use Rattle.cics_enqueue.specs.Kept.{count_after, is_held_full, without_own, Frees, seen};
-ghost use Rattle.cics_enqueue.specs.Kept.{finds, key_cmp, PutsNew, IsKept, table_of};
+ghost use Rattle.cics_enqueue.specs.Kept.{PutsNew, IsKept, table_of};
 ghost use Rattle.std.specs.Map.{lookup};
 ghost use Rattle.std.specs.Option.{unwrap_or};
 ghost use Rattle.std.specs.BTreeMap.{btree_map_len, insert_entry};
 ghost use Rattle.std.specs.Global.{Vec};
-ghost use Rattle.cics_names.specs.Keyed.{Bytes};
+ghost use Rattle.cics_names.specs.Keyed.{Bytes, bytes_cmp, is_same};
 ghost use Rattle.cics_history.specs.Resources.{bytes_of, is_user};
 ghost use Rattle.cics_enqueue.specs.Table.{holder_of, holder_over, held_with_prefix};
 ghost use Rattle.cics_enqueue.specs.Table.{IsFreeFor, IsFreeBut, HoldsLeast, is_full};
@@ -123,13 +123,13 @@ fn or_put(
     holding: Holding,
 ) -> Result<Holding, NoMemory>
     ensures value { IfOk result (λ h. h
-        ≡ unwrap_or (lookup (finds key) table.old.entries) holding) }
+        ≡ unwrap_or (lookup (is_same key) table.old.entries) holding) }
     ensures entries { IfOk result (λ h. table.new.entries
-        ≡ insert_entry key_cmp table.old.entries key h) }
-    ensures each { IfOk result (λ h. (k : Bytes) → lookup (finds k) table.new.entries
-        ≡ (if finds key k then Some h else lookup (finds k) table.old.entries)) }
+        ≡ insert_entry bytes_cmp table.old.entries key h) }
+    ensures each { IfOk result (λ h. (k : Bytes) → lookup (is_same k) table.new.entries
+        ≡ (if is_same key k then Some h else lookup (is_same k) table.old.entries)) }
     ensures len { OnOk result (btree_map_len table.new ≡ btree_map_len table.old
-        + (if is_some (lookup (finds key) table.old.entries) then 0 else 1)) }
+        + (if is_some (lookup (is_same key) table.old.entries) then 0 else 1)) }
     ensures err { OnErr result (table.new.entries ≡ table.old.entries) }
 {
     Ok(*table.entry(key)?.or_insert(holding))
@@ -141,7 +141,7 @@ fn put_first(
     key: Key,
     holding: Holding,
 ) -> Result<Option<Holding>, NoMemory>
-    ensures held { IfOk result (λ held. held ≡ lookup (finds key) table.old.entries) }
+    ensures held { IfOk result (λ held. held ≡ lookup (is_same key) table.old.entries) }
     ensures kept { IfOk result (λ held. IfSome held (λ _. table.new.entries ≡ table.old.entries)) }
     ensures put { IfOk result (λ held. IfNone held
         (PutsNew key holding table.old.entries table.new.entries)) }
@@ -179,7 +179,7 @@ fn lessen(table: &mut BTreeMap<Key, Holding>, key: &Key, unit: UnitId) -> bool
     ensures given { (own : List (ℕ × Vec Bytes)) → IsKept table.old.entries own →
         table_of table.new.entries
         ≡ given_back (table_of table.old.entries) (resource_of key.now) unit }
-    ensures freed { result ≡ true → lookup (finds key.now) table.new.entries ≡ None }
+    ensures freed { result ≡ true → lookup (is_same key.now) table.new.entries ≡ None }
 {
     let Some(holding) = table.get(key) else {
         return false;
@@ -224,7 +224,8 @@ impl Enqueues {
         unit
     }
 
-    /// Appends the stamp of the values that a unit owns by ENQ, in their order, each with its count.
+    /// Appends the stamp of the values that a unit owns by ENQ, in their order, each with its
+    /// count.
     ///
     /// Errors: `NoMemory`. Cost: O(owned resources).
     pub fn stamp_values(&self, unit: UnitId, out: &mut Vec<u8>) -> Result<(), NoMemory>
@@ -388,7 +389,7 @@ impl Enqueues {
     /// that conflicts with it. Returns whether it was free: if so, `let_go` undoes the call. If
     /// not, the unit owned it already, and nothing changes.
     ///
-    /// Errors: `NoMemory`.
+    /// Errors: `NoMemory`, also if the unit owns the resource already.
     pub fn hold(&mut self, resource: &ResourceRef<'_>, unit: UnitId) -> Result<bool, NoMemory>
         requires plain { is_user resource.now ≡ false }
         requires free { IsFreeFor self.old resource.now unit }

@@ -5,7 +5,7 @@ ghost use Rattle.std.specs.Prelude.{OnOk, OnErr};
 ghost use Rattle.std.specs.List.{list_any};
 ghost use Rattle.std.specs.Bool.{OnTrue};
 ghost use Rattle.cics_names.specs.Keyed.{Bytes, is_same};
-ghost use Rattle.cics_enqueue.specs.Kept.{finds, owns, own_count, OwnsSame, Adds, Drops};
+ghost use Rattle.cics_enqueue.specs.Kept.{owns, own_count, OwnsSame, Adds, Drops};
 ghost use Rattle.cics_history.specs.Holding.{is_other};
 
 use crate::conflicts::is_another;
@@ -53,8 +53,8 @@ pub(crate) fn add(owned: &mut Owned, alloc: Global, unit: UnitId, key: &Key) -> 
 // Removes a key if it is the last of these.
 fn drop_last(keys: &mut Vec<Key>, key: &Key)
     ensures { (k : Bytes) → is_same key.now k ≡ false →
-        list_any (finds k) keys.old.items ≡ true →
-        list_any (finds k) keys.new.items ≡ true }
+        list_any (is_same k) keys.old.items ≡ true →
+        list_any (is_same k) keys.new.items ≡ true }
 {
     let is_last = match keys.last() {
         Some(last) => last == key,

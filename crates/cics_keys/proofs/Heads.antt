@@ -51,8 +51,8 @@ next k l a b rest is = by (nat_cmp (first_or_zero k) (first_or_zero l)) (ranks (
     by Equal first is = by_rest k l first (rest is)
     by Greater first is = cc
 
--- a key is less if its padded bytes and the number behind them are less; a lesser number tells of a
--- shorter key that the padded bytes have whole
+-- a key is less if its padded bytes with the number behind them are less. A lesser number is that
+-- of a shorter key, all of whose bytes are among the padded ones
 less : (n : ℕ) (k l : Bytes) (s t : ℕ) → (s < t → (length k ≤ n) × (length k < length l)) → bytes_cmp (padded n k ++ s ∷ []) (padded n l ++ t ∷ []) ≡ Less → bytes_cmp k l ≡ Less
 less zero k l s t shorter is = by (nat_cmp s t) (ranks s t) is
   where
@@ -108,7 +108,7 @@ apart h b m x y =
       | false ↦ λ p e. leb-false (length k) 23 p
     ] refl
 
--- behind heads that are one what is outside them decides
+-- if heads are equal, the bytes outside them decide
 pub heads_level : (h i l m : Bytes) → AreParts h l → AreParts i m → bytes_cmp h i ≡ Equal → bytes_cmp l m ≡ bytes_cmp (bytes_of h l) (bytes_of i m)
 heads_level h i l m x y tied = subst (λ j. AreParts j m → bytes_cmp l m ≡ bytes_cmp (bytes_of h l) (bytes_of j m)) (same_bytes h i tied) (by l m x) y
   where

@@ -64,7 +64,7 @@ decided n k l x y differ = by (nat_cmp (filled n 0 k) (filled n 0 l)) refl (rank
     by Greater is more = sym (turned k l (below n 0 l k y x (ap (λ o. ordering_then o (bytes_cmp (drop n l) (drop n k))) (sym (nat_cmp_is (filled n 0 l) (filled n 0 k) Less more)))))
 
 -- behind first bytes that are one number what differs decides
-pub behind_decided : (n : ℕ) (k l : Bytes) → AreBytes n k → AreBytes n l → filled n 0 k ≡ filled n 0 l → (o : Ordering) → o ≡ bytes_cmp (drop n k) (drop n l) → (o ≡ Equal → ⊥) → o ≡ bytes_cmp k l
+behind_decided : (n : ℕ) (k l : Bytes) → AreBytes n k → AreBytes n l → filled n 0 k ≡ filled n 0 l → (o : Ordering) → o ≡ bytes_cmp (drop n k) (drop n l) → (o ≡ Equal → ⊥) → o ≡ bytes_cmp k l
 behind_decided n k l x y same Less is differ = sym (below n 0 k l x y (ap (λ o. ordering_then o (bytes_cmp (drop n k) (drop n l))) (sym (nat_cmp_is (filled n 0 k) (filled n 0 l) Equal same)) ∙ sym is))
 behind_decided n k l x y same Equal is differ = absurd (differ refl)
 behind_decided n k l x y same Greater is differ =
@@ -72,7 +72,7 @@ behind_decided n k l x y same Greater is differ =
     ∙ nat_list_cmp_total.antisymm (drop n l) (drop n k) ∙ ap ordering_reverse (sym is))))
 
 -- of keys whose first bytes are one number, and that have no more, the shorter is less
-pub by_length : (n a : ℕ) (k l : Bytes) → AreBytes n k → AreBytes n l → filled n a k ≡ filled n a l → bytes_cmp (drop n k) (drop n l) ≡ nat_cmp (length (drop n k)) (length (drop n l)) → bytes_cmp k l ≡ nat_cmp (length k) (length l)
+by_length : (n a : ℕ) (k l : Bytes) → AreBytes n k → AreBytes n l → filled n a k ≡ filled n a l → bytes_cmp (drop n k) (drop n l) ≡ nat_cmp (length (drop n k)) (length (drop n l)) → bytes_cmp k l ≡ nat_cmp (length k) (length l)
 by_length zero a k l x y same rest = rest
 by_length (suc n) a [] [] x y same rest = sym (sym (nat_cmp_is 0 0 Equal refl))
 by_length (suc n) a [] (v ∷ l) x y same rest = nat_cmp_is 0 (length (v ∷ l)) Less (omega arith)

@@ -12,7 +12,7 @@ use std::marker::Model;
 /// The most bytes of a table key: two, a file's name of eight and a key of 255.
 pub const MOST: usize = 265;
 
-// How many bytes a key has in its head at most.
+// The most bytes of a key that its head has.
 const SHORT: usize = 23;
 
 // How many bytes a key head has.
@@ -64,10 +64,11 @@ fn head_of(front: &[u8], rest: &[u8]) -> [u8; HEAD]
     head
 }
 
-/// A table key: the bytes of a resource. Up to 23 bytes are in the key itself and take no memory.
+/// A table key: the bytes of a resource. Up to 23 bytes are in the key itself, so a copy of such a
+/// key takes no memory. `set` makes room for 265 bytes, however few it is given.
 ///
-/// Heads tell nearly all keys apart. In a tree the head is in the node, and what is in `long` is
-/// elsewhere.
+/// Heads tell nearly all keys apart. In a tree the head is in the node. The bytes of a key of more
+/// than 23 are elsewhere.
 pub struct Key {
     // The first 23 bytes, zeros for those that aren't there, and how many bytes there are, 24 for
     // more than 23. That number tells a key from one with zeros behind its bytes.
@@ -97,8 +98,8 @@ impl Model for Key {
     ghost invariant = { λ k. AreParts k.head k.long.items };
 }
 
-// Empties bytes, makes room in them for any key, and fills them with two parts if these are more
-// than a head has. Leaves them empty if memory is refused.
+// Empties bytes and makes room in them for any key. Appends two parts if together they have more
+// than 23 bytes. If memory is refused, the bytes stay empty.
 fn refill(bytes: &mut Vec<u8>, front: &[u8], rest: &[u8]) -> Result<(), NoMemory>
     requires most { length front.now + length rest.now ≤ 265 }
     ensures filled { OnOk result (bytes.new.items ≡ long_of (front.now ++ rest.now)) }
@@ -135,7 +136,9 @@ impl Key {
         }
     }
 
-    /// Returns a key of the same bytes. It takes no memory for at most 23.
+    /// Returns a key of the same bytes. It takes no memory if there are at most 23.
+    ///
+    /// Errors: `NoMemory`.
     pub fn copy(&self, alloc: Global) -> Result<Key, NoMemory>
         ensures { IfOk result (λ copy. copy ≡ self.now) }
     {
@@ -145,16 +148,9 @@ impl Key {
         })
     }
 
-    /// Makes it the key of these few bytes, or of none if memory is refused.
-    pub fn set_short<const N: usize>(&mut self, bytes: &[u8; N]) -> Result<(), NoMemory>
-        requires most { length bytes.now ≤ 265 }
-        ensures set { OnOk result (self.new ≡ bytes.now) }
-        ensures err { OnErr result (self.new ≡ []) }
-    {
-        self.set(bytes, &[])
-    }
-
-    /// Makes it the key of two parts, `front` and `rest`, or of no bytes if memory is refused.
+    /// Makes it the key of `front` and `rest`, one behind the other. Makes room for 265 bytes first.
+    ///
+    /// Errors: `NoMemory`. Then it is the key of no bytes.
     pub fn set(&mut self, front: &[u8], rest: &[u8]) -> Result<(), NoMemory>
         requires most { length front.now + length rest.now ≤ 265 }
         ensures set { OnOk result (self.new ≡ front.now ++ rest.now) }

@@ -127,7 +127,7 @@ module _ (d : FileDef) (prefix k : Bytes) (from_prefix : is_from prefix false k 
 under_from : (prefix : Bytes) (records : Map Bytes) → under prefix (from prefix false records) ≡ under prefix records
 under_from prefix records = filter_within (λ e. has_prefix prefix e.0) (λ e. is_from prefix false e.0) (λ e has. prefix_from prefix e.0 has) records
 
--- from where the keys from the prefix on begin, all records under it are left
+-- from the first key that isn't below the prefix on, all records under it are left
 pub start_left : (d : FileDef) (areas : List (List (List Place))) (prefix : Bytes) (at : Position) →
     ((j : ℕ) → j < index_of areas at → j < length (places_in areas) → is_from prefix false (key_at d (places_in areas) j) ≡ false) → ((j : ℕ) → index_of areas at ≤ j → j < length (places_in areas) → is_from prefix false (key_at d (places_in areas) j) ≡ true) →
     left_at d areas prefix (Some at) ≡ under prefix (value_of d (places_in areas)).records
@@ -162,7 +162,7 @@ module _ (d : FileDef) (areas : List (List (List Place))) (prefix : Bytes) (at :
   above j behind in_range = after_at d (places_in areas) (key_of d r) true i are.rising at_key j (omega (arith, behind)) in_range
 
   -- behind it are the records above its key
-  pub records_above : from (key_of d r) true (value_of d (places_in areas)).records ≡ (value_of d (drop (i + 1) (places_in areas))).records
+  records_above : from (key_of d r) true (value_of d (places_in areas)).records ≡ (value_of d (drop (i + 1) (places_in areas))).records
   records_above = from_start d (key_of d r) true (places_in areas) (i + 1) (λ j below in_range. elim (same_or_below j i below) [
     | inl less ↦ before_at d (places_in areas) (key_of d r) true i are.rising at_key j less
     | inr same ↦ here_at d (places_in areas) (key_of d r) true i are.rising at_key j same

@@ -210,7 +210,8 @@ abbrev pub IsPrevious : List (List (List Place)) → Position → Option Positio
 IsPrevious areas at (Some previous) = record { there : IsThere areas previous; place : previous.place < length (interval_at areas previous); same : suc (index_of areas previous) ≡ index_of areas at }
 IsPrevious areas at None = index_of areas at ≡ 0
 
--- the position's slot has a record whose key begins with the prefix
+-- the position's slot has a record whose key begins with the prefix; its interval has at most 16
+-- slots
 pub record IsRecordUnder (d : FileDef) (areas : List (List (List Place))) (prefix : Bytes) (at : Position) : Type 0 where
   pub there : IsThere areas at
   pub place : at.place < length (interval_at areas at)

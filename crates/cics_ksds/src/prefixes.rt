@@ -18,9 +18,9 @@ use crate::ranges::{behind, start_of};
 use cics_names::{Items, NoMemory, Record};
 use std::alloc::Global;
 
-/// Returns where the first record under the prefix is, from a position on. No key from there on is
-/// below the prefix. It looks at most at one slot beyond the prefix, and at one of an interval
-/// without records.
+/// Returns the position of the first record under the prefix, from `at` on. No key from there on may
+/// be below the prefix. Looks at no more than one slot beyond the prefix, and at one slot of each
+/// interval without records.
 fn first_under(
     definition: FileDef,
     places: &Dataset,
@@ -50,7 +50,7 @@ fn first_under(
     None
 }
 
-/// Returns where the next record under the prefix is, behind one that is.
+/// Returns the position of the record under the prefix that follows the one at `at`.
 fn next_under(
     definition: FileDef,
     places: &Dataset,
@@ -84,7 +84,7 @@ fn count_under(definition: FileDef, places: &Dataset, prefix: &[u8]) -> u64
     number
 }
 
-/// Images of the keys that begin with the prefix, each of its key alone.
+/// Returns images of the keys that begin with the prefix, each of its key alone.
 fn images_under(
     alloc: Global,
     definition: FileDef,
@@ -145,8 +145,7 @@ impl File {
 
     /// Returns how many records have keys that begin with the prefix. It takes no memory.
     ///
-    /// Cost: one look-up, and one pass over the slots under the prefix. That takes one step over an
-    /// interval without records.
+    /// Cost: O(log slots + slots under the prefix). An interval without records counts as one slot.
     pub fn count_prefix(&self, prefix: &[u8]) -> u64
         ensures { result ≡ length (under prefix.now self.now.records) }
     {
@@ -159,11 +158,12 @@ impl File {
     /// all records, with more than a key has none. If the number is 0, DELETE is answered NOTFND,
     /// and nothing changes.
     ///
-    /// Cost: one look-up, one more for each record that it removes, and one pass over the slots
-    /// under the prefix. That takes one step over an interval without records.
+    /// With `keep` the slots stay, empty, and it returns the images that undo it.
     ///
-    /// With `keep` the slots stay, empty, and it returns the images that undo it. Only then is
-    /// memory requested, for the images and for the keys. The only error is `NoMemory`.
+    /// Errors: `NoMemory`, with `keep` alone: for the images and the keys.
+    ///
+    /// Cost: O(removed records * log slots + slots under the prefix). An interval without records
+    /// counts as one slot.
     pub fn delete_prefix(&mut self, prefix: &[u8], keep: bool) -> Result<Removed, NoMemory>
         ensures number { IfOk result (λ removed. removed.number
             ≡ length (under prefix.now self.old.records)) }

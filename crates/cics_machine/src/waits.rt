@@ -24,12 +24,12 @@ struct Wait {
     since: u64,
 }
 
-/// A waiting command. It is boxed: to add and to remove waits moves many of them.
+/// A waiting command. Boxed, since a wait that begins or ends moves others in the tree.
 pub struct Suspended {
     wait: Box<Wait>,
 }
 
-// By hand: so each place that drops a wait is one call, not a drop of each field.
+// By hand: so each place that drops a wait is one call, not a drop of the box and its fields.
 impl Drop for Suspended {
     fn drop(self) {
         let Suspended { wait: _wait } = self;

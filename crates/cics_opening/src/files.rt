@@ -26,6 +26,7 @@ impl Named<File> {
     {
         let mut files = Named::new(self.alloc);
         for (name, original) in &self.rows {
+            // No file is replaced: names differ. The result is dropped by a call, proved once.
             drop(files.insert(*name, original.copy()?)?);
         }
         Ok(files)

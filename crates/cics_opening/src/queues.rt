@@ -156,6 +156,7 @@ impl Queues {
     {
         let mut queues = Queues::new(self.alloc);
         for (name, original) in &self.rows {
+            // No queue is replaced: names differ. The result is dropped by a call, proved once.
             drop(queues.insert(*name, original.copy()?)?);
         }
         Ok(queues)

@@ -11,7 +11,17 @@ use Rattle.cics_script.specs.declared.literals.Encoding.TheVariants.{AsWritten, 
 use Rattle.cics_script.specs.declared.literals.Notation.{Notation}
 use Rattle.cics_script.specs.declared.literals.Notation.TheVariants.{Quoted, Hexadecimal}
 use Rattle.cics_script.specs.Tokens.{Text, with_byte, characters_from, is_quote, text_in}
-use Rattle.cics_script.specs.Literals.{said, encoded, encoded_text, recorded, is_plain, with_front, coded}
+use Rattle.cics_script.specs.Literals.{said, encoded, encoded_text, recorded, is_plain}
+
+-- a text with several bytes more at its start; none if there is none
+abbrev pub with_front : List ℕ → Text → Text
+with_front front None = None
+with_front front (Some t) = Some (front ++ t.0, t.1)
+
+-- a text whose bytes are in an encoding; what follows it stays
+abbrev pub coded : Encoding → Text → Text
+coded encoding None = None
+coded encoding (Some t) = Some (encoded_text encoding t.0, t.1)
 
 -- a byte behind the front
 with_front-byte : (front : List ℕ) (byte : ℕ) (t : Text) → with_front (front ++ byte ∷ []) t ≡ with_front front (with_byte byte t)
@@ -70,7 +80,7 @@ with_front-cons : (c : ℕ) (front : List ℕ) (t : Text) → with_front (c ∷ 
 with_front-cons c front None = refl
 with_front-cons c front (Some t) = refl
 
-pub characters-plain : (bytes : List ℕ) → characters_from false bytes ≡ with_front (take (prefix_len is_plain bytes) bytes) (characters_from false (drop (prefix_len is_plain bytes) bytes))
+characters-plain : (bytes : List ℕ) → characters_from false bytes ≡ with_front (take (prefix_len is_plain bytes) bytes) (characters_from false (drop (prefix_len is_plain bytes) bytes))
 characters-plain [] = refl
 characters-plain (c ∷ bytes) =
     elim (cases_Bool (is_quote c)) [
@@ -119,13 +129,9 @@ pub rest-run : (notation : Notation) (front bytes behind : List ℕ) → text_in
     → option_map (λ t. t.1) (text_in notation behind) ≡ option_map (λ t. t.1) (text_in notation bytes)
 rest-run notation front bytes behind step = sym (rest-with_front front (text_in notation behind)) ∙ ap (option_map (λ t. t.1)) (sym step)
 
--- bytes put behind others, then others over them
-pub put-over : (f : ℕ → ℕ) (front bytes items text : List ℕ) (start n : ℕ) → start ≡ length front → items ≡ front ++ bytes
-    → text ≡ take start items ++ map f bytes → n ≡ length items → take n (text ++ drop (length text) items) ≡ front ++ map f bytes
-put-over f front bytes items text start n from here put count =
-    let before : take start items ≡ front = ap (λ i. take i items) from ∙ ap (take (length front)) here ∙ take_at front bytes _ refl in
-    let whole : text ≡ front ++ map f bytes = put ∙ ap (λ x. x ++ map f bytes) before in
-    let size : length text ≡ length items =
-    ap length whole ∙ length-append front (map f bytes) ∙ ap (λ k. length front + k) (length-map bytes f)
-    ∙ sym (ap length here ∙ length-append front bytes) in
-    ap (λ k. take k (text ++ drop (length text) items)) (count ∙ sym size) ∙ take_at text (drop (length text) items) _ refl ∙ whole
+-- all bytes are replaced
+pub put-whole : (f : ℕ → ℕ) (bytes items text : List ℕ) (n : ℕ) → items ≡ bytes → text ≡ map f bytes → n ≡ length items
+    → take n (text ++ drop (length text) items) ≡ map f bytes
+put-whole f bytes items text n here put count =
+    let size : length text ≡ length items = ap length put ∙ length-map bytes f ∙ sym (ap length here) in
+    ap (λ k. take k (text ++ drop (length text) items)) (count ∙ sym size) ∙ take_at text (drop (length text) items) _ refl ∙ put

@@ -1,4 +1,4 @@
--- What a literal says, one byte or two digits further, if it is known how many bytes it takes.
+-- Copying a literal that takes a known number of bytes, one character or two digits at a time.
 use Rattle.std.proofs.Common.{◌≡◌, ◌<◌, ◌≤◌, ℕ, suc, Bool, true, false, List, [], ◌∷◌, ◌++◌, ◌+◌, ◌-◌, ◌*◌, ◌/◌, length, take, drop, refl, ap, sym, ◌∙◌, arith, Option, Some, None, append-nil, get_or, set, subst, length-drop, length-append, inl, inr}
 use Rattle.std.specs.Prelude.{option_map, is_some, not, cond, ◌&&◌, nat_le, MatchOption}
 use Rattle.std.specs.Int.{from_bool}
@@ -13,9 +13,9 @@ use Rattle.cics_script.specs.declared.literals.Encoding.{Encoding}
 use Rattle.cics_script.specs.declared.literals.Notation.{Notation}
 use Rattle.cics_script.specs.declared.literals.Notation.TheVariants.{Quoted, Hexadecimal}
 use Rattle.cics_script.specs.Tokens.{Text, with_byte, with_pair, characters_from, digit_pairs, hex_value, is_digit, is_quote, text_in}
-use Rattle.cics_script.specs.Literals.{said, encoded, encoded_text, with_front, coded, Takes}
+use Rattle.cics_script.specs.Literals.{said, encoded, encoded_text, Takes}
 use Rattle.cics_script.proofs.Tables.{eqb-eq}
-use Rattle.cics_script.proofs.Copies.{copied-more, copied-all, rest-with_byte, rest-with_front}
+use Rattle.cics_script.proofs.Copies.{with_front, coded, copied-more, copied-all, rest-with_byte, rest-with_front}
 
 -- what follows a text
 abbrev pub behind : Text → Option (List ℕ)
@@ -39,7 +39,7 @@ end-of : (t : Text) (n all : ℕ) → option_map (λ t. n + length t.1) t ≡ So
 end-of None n all e = cc
 end-of (Some t) n all e = record { rest = t.1; ends = refl; size = cc }
 
--- what is left of a literal that is copied so far is what is left of it
+-- what follows the rest of a literal follows the literal
 coded-behind : (encoding : Encoding) (t : Text) → behind (coded encoding t) ≡ behind t
 coded-behind encoding None = refl
 coded-behind encoding (Some t) = refl
@@ -108,7 +108,7 @@ characters-end true (c ∷ bytes) rest left size =
       | inr other ↦ rw other refl
     ]
 
--- a byte over a text, counted unless it is the first of two quotes
+-- a byte is written over a text, and counted unless it is the first of two quotes
 put-one : (text : List ℕ) (count more value : ℕ) (is_first : Bool) → count < length text → more ≡ from_bool (not is_first)
     → take (count + more) (set text count value) ≡ take count text ++ cond is_first [] (value ∷ [])
 put-one text count more value true short e = let none : count + more ≡ count = omega (arith, e) in rw none (take-set text count value ∙ sym (append-nil _))
@@ -145,7 +145,7 @@ characters-put encoding front bytes n i odd takes at so_far =
     let left = still-left encoding front end.rest (characters_from false bytes) (characters_from odd (drop i bytes)) so_far end.ends in
     copied-end encoding front end.rest _ _ so_far left (characters-end odd (drop i bytes) end.rest left (omega (arith, size, at, end.size)))
 
--- digits, by whether they are any
+-- if two digits, or what stands for them, begin a text, what follows the text is the same
 pair-left : (high low : Option ℕ) (t : Text) (rest : List ℕ) → behind (with_pair high low t) ≡ Some rest → behind t ≡ Some rest
 pair-left None low t rest e = cc
 pair-left (Some high) None t rest e = cc
@@ -168,7 +168,7 @@ digits-take (c ∷ d ∷ bytes) rest e =
     two-more : (pairs n k : ℕ) → n ≡ 2 * pairs + 1 + k → suc (suc n) ≡ 2 * suc pairs + 1 + k
     two-more pairs n k e = omega (arith, e)
 
--- a value that is read for a digit
+-- the value read for a byte: that of the digit, or at least 16
 abbrev pub IsRead : ℕ → ℕ → Type 0
 IsRead c value = MatchOption (hex_value c) (16 ≤ value) (λ v. (value ≡ v) × (v < 16))
 

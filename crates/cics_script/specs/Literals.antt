@@ -29,16 +29,6 @@ abbrev pub encoded_text : Encoding → List ℕ → List ℕ
 encoded_text AsWritten text = text
 encoded_text Ebcdic text = map ebcdic text
 
--- a text with several bytes more at its start; none if there is none
-abbrev pub with_front : List ℕ → Text → Text
-with_front front None = None
-with_front front (Some t) = Some (front ++ t.0, t.1)
-
--- a text whose bytes are in an encoding; what follows it stays
-abbrev pub coded : Encoding → Text → Text
-coded encoding None = None
-coded encoding (Some t) = Some (encoded_text encoding t.0, t.1)
-
 -- the record that a literal says: the codes of its characters, or its bytes
 abbrev pub recorded : Notation → List ℕ → List ℕ
 recorded Quoted text = encoded_text Ebcdic text
@@ -51,7 +41,7 @@ Begins read bytes (End rest) = (read bytes ≡ Some ([], rest.now)) × (suc (len
 Begins read bytes (Byte byte rest) = (read bytes ≡ with_byte byte (read rest.now)) × (length rest.now < length bytes)
 Begins read bytes Bad = read bytes ≡ None
 
--- a literal takes the first n bytes, its last quote included, and the others follow it
+-- a literal takes n bytes, its last quote included: what follows it is as long as all the others
 pub record Takes (notation : Notation) (bytes : List ℕ) (n : ℕ) : Type 0 where
   pub some : 0 < n
   pub within : n ≤ length bytes

@@ -78,7 +78,7 @@ static DIGITS: [u8; 256] = [
     16, 16, 16, 16, 16, 16, 16, 16, 16, 16, 16, 16, 16, 16,
 ];
 
-// Returns the value of a hexadecimal digit, or 16 for any other byte.
+// Returns the value of a hexadecimal digit, or at least 16 for any other byte.
 fn digit_or_16(byte: u8) -> u8
     ensures { MatchOption (hex_value byte) (16 ≤ result)
         (λ value. (result ≡ value) × (value < 16)) }
@@ -230,13 +230,13 @@ fn encoded_byte(encoding: Encoding, byte: u8) -> u8
     }
 }
 
-// Replaces the end of a text, from `start` on, by the EBCDIC codes of as many characters.
-fn put_codes(text: &mut [u8], start: usize, plain: &[u8])
-    requires { start + length plain.now ≡ length text.old }
-    ensures { text.new ≡ take start text.old ++ encoded_text Encoding.Ebcdic plain.now }
+// Replaces a text by the EBCDIC codes of as many characters.
+fn put_codes(text: &mut [u8], plain: &[u8])
+    requires { length plain.now ≡ length text.old }
+    ensures { text.new ≡ encoded_text Encoding.Ebcdic plain.now }
 {
     for (i, byte) in plain.iter().enumerate() {
-        text[start + i] = encoded_byte(Encoding::Ebcdic, *byte);
+        text[i] = encoded_byte(Encoding::Ebcdic, *byte);
     }
 }
 
@@ -250,32 +250,22 @@ fn short_record(alloc: Global, plain: &[u8]) -> Result<Record, NoMemory>
 {
     let mut room = [0; SHORT];
     let codes = &mut room[..plain.len()];
-    put_codes(codes, 0, plain);
+    put_codes(codes, plain);
     Record::from_slice(alloc, codes)
-}
-
-// Appends bytes, as they are or by their EBCDIC codes.
-fn push_plain(text: &mut Vec<u8>, encoding: Encoding, plain: &[u8]) -> Result<(), AllocError>
-    ensures { OnOk result (text.new.items ≡ text.old.items ++ encoded_text encoding plain.now) }
-{
-    let start = text.len();
-    text.extend_from_slice(plain)?;
-    match encoding {
-        Encoding::AsWritten => Ok(()),
-        Encoding::Ebcdic => {
-            put_codes(text, start, plain);
-            Ok(())
-        }
-    }
 }
 
 // Returns a copy of plain characters.
 fn copy_plain(alloc: Global, encoding: Encoding, plain: &[u8]) -> Result<Vec<u8>, AllocError>
     ensures { IfOk result (λ text. text.items ≡ encoded_text encoding plain.now) }
 {
-    let mut text = Vec::new(alloc);
-    push_plain(&mut text, encoding, plain)?;
-    Ok(text)
+    let mut text = Vec::from_slice(alloc, plain)?;
+    match encoding {
+        Encoding::AsWritten => Ok(text),
+        Encoding::Ebcdic => {
+            put_codes(&mut text, plain);
+            Ok(text)
+        }
+    }
 }
 
 // Returns whether every byte is a hexadecimal digit. No early end, as in `are_plain`.
@@ -289,11 +279,11 @@ fn are_digits(bytes: &[u8]) -> bool
     all
 }
 
-// How many hexadecimal digits are looked up at once.
+// How many hexadecimal digits are tested at once.
 const DIGITS_AT_ONCE: usize = 16;
 
-// Returns what follows the pieces of a literal that are passed at once: its plain characters, or a
-// run of its digits. If there are none, returns all bytes.
+// Passes the first plain characters of a quoted literal, or 16 digits of a hexadecimal one, and
+// returns the rest. If it doesn't begin so, returns all bytes.
 fn behind_run(notation: Notation, bytes: &[u8]) -> &[u8]
     ensures rest { option_map (λ t. t.1) (text_in notation result.now)
         ≡ option_map (λ t. t.1) (text_in notation bytes.now) }
@@ -325,9 +315,9 @@ fn behind_pieces(notation: Notation, bytes: &[u8]) -> Option<&[u8]>
     }
 }
 
-// Writes what a quoted literal says over a text as long as the literal, and returns how many
-// characters it says. The first of two quotes is written too, and the second over it: no branch
-// predictor foresees where quotes stand.
+// Writes what a quoted literal says into a text that has a byte for each of the literal's bytes.
+// Returns how many characters that is. Writes the first of two quotes too, and the second in its
+// place: no branch predictor foresees where quotes stand.
 fn put_characters(text: &mut [u8], encoding: Encoding, bytes: &[u8]) -> usize
     requires { Takes Notation.Quoted bytes.now (length text.old) }
     ensures { take result text.new
@@ -343,7 +333,7 @@ fn put_characters(text: &mut [u8], encoding: Encoding, bytes: &[u8]) -> usize
     count
 }
 
-// Writes the bytes that a literal's digits make over a text.
+// Fills a text with the bytes that a literal's digits make, two digits for each.
 fn put_bytes(text: &mut [u8], encoding: Encoding, digits: &[u8])
     requires { Takes Notation.Hexadecimal digits.now (2 * length text.old + 1) }
     ensures { text.new ≡ encoded_text encoding (said (text_in Notation.Hexadecimal digits.now)) }
@@ -424,6 +414,7 @@ impl<'a> Literal<'a> {
                 Ok(text)
             }
             Notation::Hexadecimal => {
+                // Two digits for each byte, and the last quote.
                 let mut text = vec![in alloc; 0; self.len / 2]?;
                 put_bytes(&mut text, encoding, self.behind_quote);
                 Ok(text)

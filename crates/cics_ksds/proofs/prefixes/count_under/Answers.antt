@@ -11,7 +11,7 @@ loop-next-init c = record {
   few = c.first_under-next.ensures.few;
 }
 
--- behind the record that is counted one less is left
+-- once a record is counted, one less is left
 one_less : (c : After-next_under-next) → length (left_at c.args.definition c.args.places.now c.args.prefix.now c.loop-next.next) ≡ suc (length (left_at c.args.definition c.args.places.now c.args.prefix.now c.next_under-next.result))
 one_less c =
     let found = found_at c.args.definition c.args.places.now c.args.prefix.now c.loop-next.next c.in-Some.at c.in-Some.is c.loop-next.invariant.found in

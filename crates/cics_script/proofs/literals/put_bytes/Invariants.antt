@@ -1,6 +1,6 @@
 use Rattle.std.proofs.Common.{◌≡◌, ◌*◌, length, take, drop}
 use Rattle.cics_script.specs.Tokens.{digit_pairs}
-use Rattle.cics_script.specs.Literals.{with_front, coded}
+use Rattle.cics_script.proofs.Copies.{with_front, coded}
 use Rattle.cics_script.proofs.literals.put_bytes.Given as goal
 
 abbrev pub invariant-loop-i : goal.invariant-loop-i

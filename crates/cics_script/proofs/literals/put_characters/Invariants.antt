@@ -1,6 +1,6 @@
 use Rattle.std.proofs.Common.{◌≡◌, ◌≤◌, false, length, take, drop}
 use Rattle.cics_script.specs.Tokens.{characters_from}
-use Rattle.cics_script.specs.Literals.{with_front, coded}
+use Rattle.cics_script.proofs.Copies.{with_front, coded}
 use Rattle.cics_script.proofs.literals.put_characters.Given as goal
 
 abbrev pub invariant-loop-i : goal.invariant-loop-i
