@@ -5,7 +5,6 @@ use Rattle.std.specs.List.{list_any}
 use Rattle.std.specs.Global.{Vec}
 use Rattle.std.specs.Map.{lookup, remove_entry}
 use Rattle.std.specs.BTreeMap.{insert_entry}
-use Rattle.std.specs.declared.cmp.Ordering.{Ordering}
 use Rattle.cics_names.specs.Keyed.{Bytes, bytes_cmp, is_same, is_below}
 use Rattle.cics_enqueue.specs.declared.enqueues.Holding.{Holding}
 use Rattle.cics_history.specs.Resources.{most_count}

@@ -183,7 +183,8 @@ fn find_resource<'t>(
     table: &'t BTreeMap<Key, Holding>,
     resource: &ResourceRef<'_>,
 ) -> Option<&'t Holding>
-    ensures { option_copied result ≡ lookup (is_same (resource_key resource.now)) table.now.entries }
+    ensures { option_copied result
+        ≡ lookup (is_same (resource_key resource.now)) table.now.entries }
 {
     find_among(table, compact(resource).as_slice())
 }
@@ -212,7 +213,8 @@ pub(crate) fn held<'t>(
     key: &mut Key,
     resource: &ResourceRef<'_>,
 ) -> Option<&'t Holding>
-    ensures { option_copied result ≡ lookup (is_same (resource_key resource.now)) table.now.entries }
+    ensures { option_copied result
+        ≡ lookup (is_same (resource_key resource.now)) table.now.entries }
 {
     if table.is_empty() {
         return None;

@@ -148,7 +148,8 @@ impl Key {
         })
     }
 
-    /// Makes it the key of `front` and `rest`, one behind the other. Makes room for 265 bytes first.
+    /// Makes it the key of `front` and `rest`, one behind the other. Makes room for 265 bytes
+    /// first.
     ///
     /// Errors: `NoMemory`. Then it is the key of no bytes.
     pub fn set(&mut self, front: &[u8], rest: &[u8]) -> Result<(), NoMemory>

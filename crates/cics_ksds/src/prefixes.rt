@@ -18,9 +18,9 @@ use crate::ranges::{behind, start_of};
 use cics_names::{Items, NoMemory, Record};
 use std::alloc::Global;
 
-/// Returns the position of the first record under the prefix, from `at` on. No key from there on may
-/// be below the prefix. Looks at no more than one slot beyond the prefix, and at one slot of each
-/// interval without records.
+/// Returns the position of the first record under the prefix, from `at` on. No key from there on
+/// may be below the prefix. Looks at no more than one slot beyond the prefix, and at one slot of
+/// each interval without records.
 fn first_under(
     definition: FileDef,
     places: &Dataset,

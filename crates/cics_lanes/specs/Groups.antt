@@ -2,7 +2,7 @@
 use Rattle.std.specs.Prelude.{Bool, if◌then◌else◌, List, [], ◌∷◌}
 
 module _ {K X : Type 0} (eq : K → K → Bool) (join : X → X → X) where
-  -- the entries after a value more
+  -- the entries with one more value
   abbrev pub added : List (K × X) → K → X → List (K × X)
   added [] k x = (k, x) ∷ []
   added (e ∷ es) k x = if eq k e.0 then (e.0, join e.1 x) ∷ es else e ∷ added es k x

@@ -12,7 +12,7 @@ use std::alloc::Global;
 use std::hash::{Hash, Hasher};
 use std::marker::Model;
 
-/// An ending, with its first order and how many orders lead to it.
+/// An ending, with the first order that was followed to it, and how many were.
 #[derive(Drop)]
 pub struct Ending {
     order: Items<usize>,
@@ -35,7 +35,8 @@ impl Model for Ending {
 }
 
 impl Ending {
-    /// Returns its first order: for each line that is given, the lane that gives it.
+    /// Returns the first order that was followed to it: for each line that is given, the lane that
+    /// gives it.
     pub fn order(&self) -> &[usize]
         ensures { result.now ≡ self.now.order }
     {
@@ -49,14 +50,15 @@ impl Ending {
         self.parts.as_slice()
     }
 
-    /// Returns how many orders lead to it; `u128::MAX` is that many or more.
+    /// Returns how many orders that lead to it were followed; `u128::MAX` is that many or more.
     pub fn orders(&self) -> u128
         ensures { result ≡ self.now.orders }
     {
         self.orders
     }
 
-    /// Returns how many serial orders lead to it; `u128::MAX` is that many or more.
+    /// Returns how many serial orders that lead to it were followed; `u128::MAX` is that many or
+    /// more.
     pub fn serial(&self) -> u128
         ensures { result ≡ self.now.serial }
     {

@@ -23,10 +23,11 @@ pub trait Walk {
     /// Whether the order that led to a state is serial.
     ghost serial: { Self → Bool };
 
-    /// Whether a lane that may give must not, if the order is to become a serial one.
+    /// Whether a lane breaks a serial order: if it gives next, the order does not become a serial
+    /// one.
     ghost breaks: { Self → ℕ → Bool };
 
-    /// The stamp of a state: states of one stamp go on alike. If true, serial orders do too.
+    /// The stamp of a state: states of one stamp go on alike. With `true` serial orders do too.
     ghost stamp: { Bool → Self → List ℕ };
 
     /// The most lines of an order.
@@ -55,7 +56,7 @@ pub trait Walk {
     /// The empty order is serial.
     ghost serial_starts: { (s : Self) → serial (start s) ≡ true };
 
-    /// A lane that doesn't break it leaves an order serial or not.
+    /// After a lane that does not break it, an order is serial exactly if it was before.
     ghost keeps_serial: { (s : Self) (o : Order) (l : ℕ) → IsWay lanes (start s) o →
         IsOneOf l (lanes.givers (after lanes (start s) o) 0) →
         breaks (after lanes (start s) o) l ≡ false →
@@ -94,7 +95,8 @@ pub trait Walk {
     fn parts(&self) -> Result<Items<Record>, NoMemory>
         ensures { IfOk result (λ parts. parts ≡ ending self.now) };
 
-    /// Returns whether a lane that may give must not, if the order is to become a serial one.
+    /// Returns whether a lane breaks a serial order: if it gives next, the order does not become a
+    /// serial one.
     fn breaks_serial(&self, lane: usize) -> bool
         ensures { result ≡ breaks self.now lane };
 

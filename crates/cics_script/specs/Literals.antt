@@ -1,5 +1,5 @@
 -- What a literal says, and the record of it.
-use Rattle.std.specs.Prelude.{◌≡◌, ◌<◌, ◌≤◌, ◌+◌, ◌&&◌, ℕ, suc, Bool, not, List, [], ◌++◌, map, length, option_map, Some, None, unwrap_or, is_some}
+use Rattle.std.specs.Prelude.{◌≡◌, ◌<◌, ◌≤◌, ◌+◌, ◌&&◌, ℕ, suc, Bool, not, List, [], map, length, option_map, Some, None, unwrap_or, is_some}
 use Rattle.cics_names.specs.Ebcdic.{code_of}
 use Rattle.cics_names.specs.Names.{blank}
 use Rattle.cics_script.specs.Tokens.{Text, with_byte, is_quote, text_in}

@@ -1,4 +1,5 @@
 pub mod Advancing
+pub mod Bounds
 pub mod Following
 pub mod Leveling
 pub mod Regrouping

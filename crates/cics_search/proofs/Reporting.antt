@@ -17,6 +17,7 @@ use Rattle.cics_search.proofs.Regrouping.{AreLaws, Each, Leads, merged, regroupe
 use Rattle.cics_search.proofs.Ways.{each_all, each_among, are_ways, all_followed, serial_followed, filter_map_both}
 use Rattle.cics_search.proofs.Leveling.{kept_sums, kept_swap, led_laws, are_entries, same_there}
 use Rattle.cics_search.proofs.Tallying.{run_tells, all_told, whole_report}
+use Rattle.cics_search.proofs.Bounds.{shown, bounds}
 
 tally_laws : AreLaws are_same tally_joined
 tally_laws = record {
@@ -86,12 +87,16 @@ module _ {S : Type 0} (lanes : Lanes S) (breaks : S → ℕ → Bool) (stamp : B
       (told_level false all.orders (level_ways false n w es all) [])
       ∙ ap (map ending_of) (told_level true some.orders (level_ways true n v fs some) (added_all are_same tally_joined [] (map (run_tells false) (runs lanes ending serial s all.orders))))
       ∙ all_told (runs lanes ending serial s all.orders) (runs lanes ending serial s some.orders) in
+      let among = subst (AreAmong all.orders) every all.among in
+      let serially = subst (AreAmong some.orders) (sym serials) some.among in
       record {
         followed = all.orders;
         serially = some.orders;
-        among = subst (AreAmong all.orders) every all.among;
-        serially_among = subst (AreAmong some.orders) (sym serials) some.among;
+        among = among;
+        serially_among = serially;
         endings = reported;
+        shown = shown lanes ending serial s n all.orders some.orders among serially endings reported;
+        bounds = bounds lanes ending serial s n all.orders some.orders among serially endings reported;
         is_whole = λ at. all.whole at ∙ every;
         has_all_serial = λ at. some.whole at ∙ sym serials;
         whole = λ at too.

@@ -66,7 +66,7 @@ firsts-append (x ∷ rs) r =
 count_more : (p : Run → Bool) (rs : List Run) (r : Run) → count_by p (rs ++ r ∷ []) ≡ count_by p rs + cond (p r) 1 0
 count_more p rs r = sum_by-append (λ x. cond (p x) 1 0) rs (r ∷ []) ∙ omega arith
 
-count_first : (p : Run → Bool) (r : Run) (rs : List Run) → count_by p (r ∷ rs) ≡ cond (p r) 1 0 + count_by p rs
+pub count_first : (p : Run → Bool) (r : Run) (rs : List Run) → count_by p (r ∷ rs) ≡ cond (p r) 1 0 + count_by p rs
 count_first p r rs = sum_by-append (λ x. cond (p x) 1 0) (r ∷ []) rs ∙ omega arith
 
 -- ---- Endings of runs
@@ -306,7 +306,7 @@ firsts_same (u ∷ us) rs all =
 abbrev one_if : Bool → ℕ
 one_if b = cond b 1 0
 
-count_filter : (p q : Run → Bool) (rs : List Run) → count_by p (filter q rs) ≡ count_by (λ s. p s && q s) rs
+pub count_filter : (p q : Run → Bool) (rs : List Run) → count_by p (filter q rs) ≡ count_by (λ s. p s && q s) rs
 count_filter p q [] = refl
 count_filter p q (r ∷ rs) = by (count_filter p q rs) (q r) (p r) refl refl
   where
@@ -330,7 +330,7 @@ count_filter p q (r ∷ rs) = by (count_filter p q rs) (q r) (p r) refl refl
         let none : one_if (p r && q r) ≡ 0 = neither c is at in
         omega (arith, left, right, none, rest)
 
-count_fewer : (p q : Run → Bool) (rs : List Run) → count_by (λ s. p s && q s) rs ≤ count_by p rs
+pub count_fewer : (p q : Run → Bool) (rs : List Run) → count_by (λ s. p s && q s) rs ≤ count_by p rs
 count_fewer p q [] = omega arith
 count_fewer p q (r ∷ rs) = by (count_fewer p q rs) (p r) (q r) refl refl
   where

@@ -47,12 +47,12 @@ struct Search {
     alloc: Global,
     // Whether it follows serial orders alone.
     is_serial: bool,
-    // How many states in which a lane may give its levels may have, before it follows only some of
-    // each.
+    // How many states in which a lane may give it follows all of. Beyond these it follows only some
+    // of each level.
     limit: u64,
     // How many of each level it follows then.
     share: u64,
-    // How many states its levels so far had in which a lane may give.
+    // How many such states its levels so far had.
     met: u64,
     // Whether it has left out no state.
     is_whole: bool,
@@ -60,13 +60,14 @@ struct Search {
     stand: Stand,
 }
 
-// Which of a level's states are followed in which a lane may give. The others always are.
+// Which states of a level are followed. Those in which no lane may give always are.
 #[derive(Clone, Copy)]
 struct Thinning {
-    // Whether only some are.
+    // Whether only some of the others are.
     is_over: bool,
-    // How many are followed then, and how many there are.
+    // How many of them are followed then.
     share: u64,
+    // How many of them there are.
     count: usize,
 }
 
@@ -306,8 +307,8 @@ impl Search {
         Ok(())
     }
 
-    // Follows orders of so many lines from the start of a walk, and counts them for the endings that
-    // they lead to. Returns whether it left out no state.
+    // Follows orders of so many lines from the start of a walk, and counts them for the endings to
+    // which they lead. Returns whether it left out no state.
     fn count_orders<W: Walk, P: Progress>(
         mut self,
         walk: &mut W,
@@ -346,7 +347,8 @@ impl Search {
 /// Errors: `NoMemory`.
 ///
 /// Cost: at most O(states * lanes * lines) lines that are given, O(states * lanes) restarts, and as
-/// many stamps. A state that a walk reached ahead takes no restart.
+/// many stamps. A state that a walk reached ahead takes no restart. A state in which no lane may
+/// give is hashed again for each later level.
 pub fn explore<W: Walk, P: Progress>(
     alloc: Global,
     walk: &mut W,
