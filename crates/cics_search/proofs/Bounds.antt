@@ -1,5 +1,5 @@
 -- What a report says of orders if only some are followed.
-use Rattle.std.proofs.Common.{◌≡◌, ◌≤◌, ℕ, ◌+◌, Bool, ◌&&◌, List, [], ◌∷◌, ◌++◌, map, not, All, inl, inr, refl, ap, sym, ◌∙◌, arith, cond, subst}
+use Rattle.std.proofs.Common.{◌≡◌, ◌≤◌, ℕ, Bool, List, [], ◌∷◌, ◌++◌, map, length, not, All, inl, inr, refl, ap, sym, arith, subst}
 use Rattle.std.specs.List.{count_by, filter}
 use Rattle.cics_lanes.specs.Orders.{Order, Lanes, after, orders, AreAmong}
 use Rattle.cics_lanes.specs.Endings.{Parts, Run, Reported, are_same, firsts, run_to, reported_of_both, report_of_both}
@@ -41,6 +41,10 @@ all_each : {X : Type 0} (P : X → Type 0) (xs : List X) → Each P xs → All P
 all_each P xs each = λ k d short. each_at P xs k d each short
 
 -- ---- The report
+
+pub some_reported : (rs ss : List Run) (es : List Reported) → es ≡ report_of_both rs ss → 1 ≤ length rs → 1 ≤ length es
+some_reported [] ss es is any = absurd (omega (arith, any))
+some_reported (r ∷ rs) ss es is any = subst (λ (ts : List Reported). 1 ≤ length ts) (sym is) (omega arith)
 
 module _ {S : Type 0} (lanes : Lanes S) (ending : S → Parts) (serial : S → Bool) (s : S) (n : ℕ) (os ps : List Order)
     (among : AreAmong os (orders lanes n s)) (serially : AreAmong ps (serial_of lanes serial s (orders lanes n s))) where

@@ -1,7 +1,8 @@
 -- A state and a level are followed, entry by entry.
-use Rattle.std.proofs.Common.{◌≡◌, ◌<◌, ℕ, zero, suc, ◌+◌, Bool, true, false, not, cond, Some, None, if◌then◌else◌, List, [], ◌∷◌, ◌++◌, map, length, take, drop, get_or, arith, inl, inr, refl, ap, sym, ◌∙◌, append-nil, append_assoc, subst}
+use Rattle.std.proofs.Common.{◌≡◌, ◌<◌, ◌≤◌, ◌⊎◌, ℕ, zero, suc, ◌+◌, ◌^◌, min, Bool, true, false, not, cond, Some, None, if◌then◌else◌, List, [], ◌∷◌, ◌++◌, map, length, take, drop, get_or, arith, inl, inr, refl, ap, sym, ◌∙◌, append-nil, append_assoc, subst}
 use Rattle.std.specs.List.{flat_map, slice_get}
-use Rattle.std.proofs.lemmas.List.Sums.{sum_by_more}
+use Rattle.std.specs.Int.{from_bool}
+use Rattle.std.proofs.lemmas.List.Sums.{sum_by_more, sum_by-append}
 use Rattle.std.proofs.lemmas.Option.{slice_get_within, get_or_from_slice_get}
 use Rattle.std.specs.Str.{bytes_eq}
 use Rattle.std.proofs.lemmas.Bool.{true≢false}
@@ -58,6 +59,35 @@ none_past (x ∷ xs) (suc i) short is = none_past xs i (omega (arith, short)) is
 
 -- ---- The entries of a level
 
+-- an entry more is passed: those passed in which a lane may give, and those left, are all
+live_first : (e : Bytes × Led) (es : List (Bytes × Led)) → live (e ∷ es) ≡ cond (not e.1.has_ended) 1 0 + live es
+live_first e es = sum_by-append (λ f. cond (not f.1.has_ended) 1 0) (e ∷ []) es ∙ omega arith
+
+pub one_counted : (at more now count : ℕ) (before left : List (Bytes × Led)) (e : Bytes × Led) → before ≡ e ∷ left → at + live before ≡ count → count < 2 ^ 64 →
+    more ≡ from_bool (not e.1.has_ended) → now ≡ min (at + more) 18446744073709551615 → now + live left ≡ count
+one_counted at more now count before left e is sum few made next = by (not e.1.has_ended) refl
+  where
+    size : live before ≡ cond (not e.1.has_ended) 1 0 + live left
+    size = ap live is ∙ live_first e left
+
+    by : (c : Bool) → not e.1.has_ended ≡ c → now + live left ≡ count
+    by true at_e =
+        let one : more ≡ 1 = made ∙ ap from_bool at_e in
+        let first : live before ≡ 1 + live left = size ∙ ap (λ c. cond c 1 0 + live left) at_e in
+        omega (arith, sum, few, one, first, next)
+    by false at_e =
+        let none : more ≡ 0 = made ∙ ap from_bool at_e in
+        let first : live before ≡ 0 + live left = size ∙ ap (λ c. cond c 1 0 + live left) at_e in
+        omega (arith, sum, few, none, first, next)
+
+-- an entry that isn't the last in which a lane may give isn't the last
+pub one_left : (at count : ℕ) (before left : List (Bytes × Led)) (e : Bytes × Led) → before ≡ e ∷ left → at + live before ≡ count → not e.1.has_ended ≡ true →
+    (at + 1 ≡ count → ⊥) → 1 ≤ length left
+one_left at count before [] e is sum may other =
+    let size : live before ≡ 1 = ap live is ∙ live_first e [] ∙ ap (λ c. cond c 1 0 + live []) may in
+    absurd (other (omega (arith, sum, size)))
+one_left at count before (x ∷ left) e is sum may other = omega arith
+
 -- Some of the entries before `left` are followed, and all if the search is whole.
 pub record IsPart (was_whole is_whole : Bool) (es left some : List (Bytes × Led)) : Type 0 where
   pub among : (more : List (Bytes × Led)) → AreAmong more left → AreAmong (some ++ more) es
@@ -103,10 +133,16 @@ module _ {S : Type 0} (lanes : Lanes S) (breaks : S → ℕ → Bool) (stamp : B
 
   -- all entries are followed or left out
   pub part_end : (w v : Bool) (es left some next : List (Bytes × Led)) → left ≡ [] → IsPart w v es left some →
+      (1 ≤ length es → (1 ≤ length some) ⊎ (1 ≤ length left)) →
       next ≡ added_all bytes_eq led_joined [] (flat_map (spread lanes breaks stamp b s) some) → IsNext lanes breaks stamp b s w v es next
-  part_end w v es left some next none part is = record {
+  part_end w v es left some next none part kept is = record {
     some = some;
     among = subst (λ os. AreAmong os es) (append-nil some) (part.among [] (subst (AreAmong []) (sym none) refl));
     whole = λ all. let both = part.whole all in (both.0, sym (append-nil some) ∙ ap (λ os. some ++ os) (sym none) ∙ both.1);
+    kept = λ any. by (kept any);
     leads = is;
   }
+    where
+      by : (1 ≤ length some) ⊎ (1 ≤ length left) → 1 ≤ length some
+      by (inl there) = there
+      by (inr more) = let none_left : length left ≡ 0 = ap length none in absurd (omega (arith, more, none_left))

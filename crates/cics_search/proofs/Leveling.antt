@@ -1,5 +1,5 @@
 -- A level is the grouping of the orders that are followed, and the next one is what it leads to.
-use Rattle.std.proofs.Common.{◌≤◌, ◌≡◌, ℕ, suc, ◌+◌, Bool, true, false, not, if◌then◌else◌, List, [], ◌∷◌, ◌++◌, map, inr, refl, ap, sym, ◌∙◌, arith, subst}
+use Rattle.std.proofs.Common.{◌≤◌, ◌≡◌, ℕ, suc, ◌+◌, Bool, true, false, not, if◌then◌else◌, List, [], ◌∷◌, ◌++◌, map, length, length-append, inr, refl, ap, sym, ◌∙◌, arith, subst}
 use Rattle.std.specs.List.{flat_map, filter}
 use Rattle.std.specs.Str.{bytes_eq}
 use Rattle.std.proofs.lemmas.List.{map-append}
@@ -8,7 +8,7 @@ use Rattle.std.proofs.lemmas.Slice.Eq.{bytes_eq-Decides}
 use Rattle.cics_names.specs.Keyed.{Bytes}
 use Rattle.cics_lanes.specs.Orders.{Order, Lanes, IsOneOf, IsWay, AreStampedAlike, after, AreAmong}
 use Rattle.cics_lanes.specs.Endings.{Parts, kept_number}
-use Rattle.cics_lanes.specs.Groups.{added_all}
+use Rattle.cics_lanes.specs.Groups.{added, added_all}
 use Rattle.cics_search.specs.Levels.{followed, entry, spread, level, live, IsEntry, IsLevel, IsNext, state_count}
 use Rattle.cics_lanes.specs.States.{lanes_of, is_none_left, led_joined}
 use Rattle.cics_lanes.specs.declared.states.Led.{Led}
@@ -33,7 +33,7 @@ led_laws = record {
 module _ {S : Type 0} (lanes : Lanes S) (breaks : S → ℕ → Bool) (stamp : Bool → S → Bytes) (ending : S → Parts) (b : Bool) (s : S)
     (tell : (o p : Order) → IsWay lanes s o → IsWay lanes s p → stamp b (after lanes s o) ≡ stamp b (after lanes s p) →
     AreStampedAlike lanes ending breaks (stamp b) b (after lanes s o) (after lanes s p)) where
-  entry_of : Order → Bytes × Led
+  abbrev entry_of : Order → Bytes × Led
   entry_of o = entry lanes breaks stamp b o 1 (after lanes s o)
 
   pub are_entries : (os : List Order) → Each (IsWay lanes s) os → Each (IsEntry lanes breaks stamp b s) (map (λ o. entry lanes breaks stamp b o 1 (after lanes s o)) os)
@@ -157,15 +157,49 @@ module _ {S : Type 0} (lanes : Lanes S) (breaks : S → ℕ → Bool) (stamp : B
       (map (λ o. entry lanes breaks stamp b o 1 (after lanes s o)) is.orders) [] tt (are_entries is.orders ways))
 
   pub first_level : (w : Bool) (es : List (Bytes × Led)) → es ≡ entry lanes breaks stamp b [] 1 s ∷ [] → IsLevel lanes breaks stamp b s 0 w es
-  first_level w es is = record { orders = [] ∷ []; among = inr ([], refl, refl); groups = is; whole = λ _. refl }
+  first_level w es is = record { orders = [] ∷ []; among = inr ([], refl, refl); groups = is; whole = λ _. refl; some = λ _. omega arith }
+
+  -- ---- A level isn't empty
+
+  added_size : (t : List (Bytes × Led)) (k : Bytes) (x : Led) → 1 ≤ length (added bytes_eq led_joined t k x)
+  added_size [] k x = omega arith
+  added_size (e ∷ t) k x = by (bytes_eq k e.0)
+    where
+      by : (c : Bool) → 1 ≤ length (if c then (e.0, led_joined e.1 x) ∷ t else e ∷ added bytes_eq led_joined t k x)
+      by true = omega arith
+      by false = omega arith
+
+  all_size : (t es : List (Bytes × Led)) → 1 ≤ length t → 1 ≤ length (added_all bytes_eq led_joined t es)
+  all_size t [] any = any
+  all_size t (e ∷ es) any = all_size (added bytes_eq led_joined t e.0 e.1) es (added_size t e.0 e.1)
+
+  some_states : (os : List Order) → 1 ≤ length os → 1 ≤ length (level lanes breaks stamp b s os)
+  some_states [] any = absurd (omega (arith, any))
+  some_states (o ∷ os) any = all_size (entry_of o ∷ []) (map entry_of os) (omega arith)
+
+  some_orders : (os : List Order) → 1 ≤ length (level lanes breaks stamp b s os) → 1 ≤ length os
+  some_orders [] any = any
+  some_orders (o ∷ os) any = omega arith
+
+  one_longer : b ≡ false → (o : Order) → 1 ≤ length (longer lanes breaks b s o)
+  one_longer plain o = by (lanes.givers (after lanes s o) 0) refl
+    where
+      by : (ls : List ℕ) → lanes.givers (after lanes s o) 0 ≡ ls → 1 ≤ length (longer lanes breaks b s o)
+      by [] at = rw at (omega arith)
+      by (l ∷ ls) at = rw (plain, at) (omega arith)
+
+  some_longer : b ≡ false → (os : List Order) → 1 ≤ length os → 1 ≤ length (flat_map (longer lanes breaks b s) os)
+  some_longer plain [] any = absurd (omega (arith, any))
+  some_longer plain (o ∷ os) any = omega (arith, length-append (longer lanes breaks b s o) (flat_map (longer lanes breaks b s) os), one_longer plain o)
 
   -- the entries that are followed of a level, and the next one
   pub level_on : (n : ℕ) (w v : Bool) (es next : List (Bytes × Led)) → IsLevel lanes breaks stamp b s n w es → IsNext lanes breaks stamp b s w v es next → IsLevel lanes breaks stamp b s (suc n) v next
   level_on n w v es next is on = by v refl
     where
       -- the next level of some of the orders
-      of_some : (os : List Order) → AreAmong os is.orders → on.some ≡ level lanes breaks stamp b s os → (v ≡ true → os ≡ followed lanes breaks b n s) → IsLevel lanes breaks stamp b s (suc n) v next
-      of_some os less groups all =
+      of_some : (os : List Order) → AreAmong os is.orders → on.some ≡ level lanes breaks stamp b s os → (v ≡ true → os ≡ followed lanes breaks b n s) → (b ≡ false → 1 ≤ length os) →
+          IsLevel lanes breaks stamp b s (suc n) v next
+      of_some os less groups all any =
           let fewer = among_trans os is.orders (followed lanes breaks b n s) less is.among in
           record {
             orders = flat_map (longer lanes breaks b s) os;
@@ -174,15 +208,17 @@ module _ {S : Type 0} (lanes : Lanes S) (breaks : S → ℕ → Bool) (stamp : B
             groups = on.leads ∙ ap (λ es. added_all bytes_eq led_joined [] (flat_map (spread lanes breaks stamp b s) es)) groups
                 ∙ next_level os (each_among (IsWay lanes s) os (followed lanes breaks b n s) fewer (are_ways lanes breaks b n s));
             whole = λ at. ap (flat_map (longer lanes breaks b s)) (all at) ∙ grows lanes breaks b n s;
+            some = λ plain. some_longer plain os (any plain);
           }
 
       by : (c : Bool) → v ≡ c → IsLevel lanes breaks stamp b s (suc n) v next
-      by true at = of_some is.orders (among_all is.orders) ((on.whole at).1 ∙ is.groups) (λ _. is.whole (on.whole at).0)
+      by true at = of_some is.orders (among_all is.orders) ((on.whole at).1 ∙ is.groups) (λ _. is.whole (on.whole at).0) is.some
       by false at =
           let found = some_groups bytes_eq led_joined led_laws (map (λ o. entry lanes breaks stamp b o 1 (after lanes s o)) is.orders) on.some (subst (AreAmong on.some) is.groups on.among) in
-          of_some (filter (λ o. found.0 (stamp b (after lanes s o))) is.orders) (among_filter (λ o. found.0 (stamp b (after lanes s o))) is.orders)
-          (found.1 ∙ ap (added_all bytes_eq led_joined []) (filter_map_both (λ o. entry lanes breaks stamp b o 1 (after lanes s o)) (λ e. found.0 e.0) is.orders))
-          (λ so. absurd (true≢false (sym so ∙ at)))
+          let os = filter (λ o. found.0 (stamp b (after lanes s o))) is.orders in
+          let groups : on.some ≡ level lanes breaks stamp b s os = found.1 ∙ ap (added_all bytes_eq led_joined []) (filter_map_both (λ o. entry lanes breaks stamp b o 1 (after lanes s o)) (λ e. found.0 e.0) is.orders) in
+          of_some os (among_filter (λ o. found.0 (stamp b (after lanes s o))) is.orders) groups (λ so. absurd (true≢false (sym so ∙ at)))
+          (λ plain. some_orders os (subst (λ (ts : List (Bytes × Led)). 1 ≤ length ts) groups (on.kept (subst (λ (ts : List (Bytes × Led)). 1 ≤ length ts) (sym is.groups) (some_states is.orders (is.some plain))))))
 
 -- as long as the levels have no more states in which a lane may give than the limit, the search is whole
 pub level_met : {S : Type 0} (lanes : Lanes S) (breaks : S → ℕ → Bool) (stamp : Bool → S → Bytes) (b : Bool) (s : S) (n limit met more : ℕ) (w v : Bool) (es next : List (Bytes × Led)) →

@@ -7,4 +7,5 @@ pub mod Reporting
 mod Rows
 pub mod Sublists
 pub mod Tallying
+pub mod Thinned
 pub mod Ways

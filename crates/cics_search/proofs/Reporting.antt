@@ -1,5 +1,5 @@
 -- The report of what two searches told.
-use Rattle.std.proofs.Common.{◌≡◌, ℕ, Bool, true, false, List, [], ◌∷◌, map, All, refl, ap, sym, ◌∙◌, subst}
+use Rattle.std.proofs.Common.{◌≡◌, ◌≤◌, ℕ, Bool, true, false, List, [], ◌∷◌, map, length, All, refl, ap, sym, ◌∙◌, arith, subst}
 use Rattle.std.specs.List.{flat_map}
 use Rattle.std.specs.Str.{bytes_eq}
 use Rattle.cics_names.specs.Keyed.{Bytes}
@@ -17,7 +17,7 @@ use Rattle.cics_search.proofs.Regrouping.{AreLaws, Each, Leads, merged, regroupe
 use Rattle.cics_search.proofs.Ways.{each_all, each_among, are_ways, all_followed, serial_followed, filter_map_both}
 use Rattle.cics_search.proofs.Leveling.{kept_sums, kept_swap, led_laws, are_entries, same_there}
 use Rattle.cics_search.proofs.Tallying.{run_tells, all_told, whole_report}
-use Rattle.cics_search.proofs.Bounds.{shown, bounds}
+use Rattle.cics_search.proofs.Bounds.{shown, bounds, some_reported}
 
 tally_laws : AreLaws are_same tally_joined
 tally_laws = record {
@@ -64,6 +64,10 @@ module _ {S : Type 0} (lanes : Lanes S) (breaks : S → ℕ → Bool) (stamp : B
   level_ways : (b : Bool) (n : ℕ) (w : Bool) (es : List (Bytes × Led)) (is : IsLevel lanes breaks stamp b s n w es) → Each (IsWay lanes s) is.orders
   level_ways b n w es is = each_among (IsWay lanes s) is.orders (followed lanes breaks b n s) is.among (are_ways lanes breaks b n s)
 
+  some_runs : (os : List Order) → 1 ≤ length os → 1 ≤ length (runs lanes ending serial s os)
+  some_runs [] any = any
+  some_runs (o ∷ os) any = omega arith
+
   -- what two searches told is the report
   pub searched : (n : ℕ) (w v : Bool) (es fs : List (Bytes × Led)) (endings : List Reported) →
       serial s ≡ true → All (λ o. lanes.givers (after lanes s o) 0 ≡ []) (orders lanes n s) →
@@ -95,6 +99,7 @@ module _ {S : Type 0} (lanes : Lanes S) (breaks : S → ℕ → Bool) (stamp : B
         among = among;
         serially_among = serially;
         endings = reported;
+        some = some_reported (runs lanes ending serial s all.orders) (runs lanes ending serial s some.orders) endings reported (some_runs all.orders (all.some refl));
         shown = shown lanes ending serial s n all.orders some.orders among serially endings reported;
         bounds = bounds lanes ending serial s n all.orders some.orders among serially endings reported;
         is_whole = λ at. all.whole at ∙ every;

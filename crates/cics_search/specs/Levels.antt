@@ -1,5 +1,5 @@
 -- The levels of a search: the states after orders of so many lines, states of one stamp once.
-use Rattle.std.specs.Prelude.{◌≡◌, ℕ, zero, suc, ◌+◌, Bool, true, false, not, if◌then◌else◌, List, [], ◌∷◌, ◌++◌, map}
+use Rattle.std.specs.Prelude.{◌≡◌, ◌≤◌, ℕ, zero, suc, ◌+◌, Bool, true, false, not, if◌then◌else◌, List, [], ◌∷◌, ◌++◌, map, length}
 use Rattle.std.specs.List.{count_by, flat_map}
 use Rattle.cics_names.specs.Keyed.{Bytes}
 use Rattle.cics_lanes.specs.Orders.{Order, Lanes, IsWay, after, led_by, AreAmong}
@@ -43,12 +43,13 @@ level lanes breaks stamp b s os =
     added_all bytes_eq led_joined [] (map (λ o. entry lanes breaks stamp b o 1 (after lanes s o)) os)
 
 -- A level that is searched: some of the orders to be followed lead to its states, and all if the
--- search is whole.
+-- search is whole. One does at least, unless only serial orders are followed.
 pub record IsLevel {S : Type 0} (lanes : Lanes S) (breaks : S → ℕ → Bool) (stamp : Bool → S → Bytes) (b : Bool) (s : S) (n : ℕ) (is_whole : Bool) (es : List (Bytes × Led)) : Type 0 where
   pub orders : List Order
   pub among : AreAmong orders (followed lanes breaks b n s)
   pub groups : es ≡ level lanes breaks stamp b s orders
   pub whole : is_whole ≡ true → orders ≡ followed lanes breaks b n s
+  pub some : b ≡ false → 1 ≤ length orders
 
 -- how many states of a level have a lane that may give
 abbrev pub live : List (Bytes × Led) → ℕ
@@ -59,11 +60,12 @@ abbrev pub state_count : {S : Type 0} → Lanes S → (S → ℕ → Bool) → (
 state_count lanes breaks stamp b s zero = 0
 state_count lanes breaks stamp b s (suc n) = state_count lanes breaks stamp b s n + live (level lanes breaks stamp b s (followed lanes breaks b n s))
 
--- Some entries of a level are followed, and all if the search is whole after it.
+-- Some entries of a level are followed, one at least, and all if the search is whole after it.
 pub record IsNext {S : Type 0} (lanes : Lanes S) (breaks : S → ℕ → Bool) (stamp : Bool → S → Bytes) (b : Bool) (s : S) (was_whole is_whole : Bool) (es next : List (Bytes × Led)) : Type 0 where
   pub some : List (Bytes × Led)
   pub among : AreAmong some es
   pub whole : is_whole ≡ true → (was_whole ≡ true) × (some ≡ es)
+  pub kept : 1 ≤ length es → 1 ≤ length some
   pub leads : next ≡ added_all bytes_eq led_joined [] (flat_map (spread lanes breaks stamp b s) some)
 
 -- what an entry tells: the parts of its ending, and how many orders or serial orders lead there

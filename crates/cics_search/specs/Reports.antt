@@ -1,5 +1,5 @@
 -- What is reported of the orders of a state.
-use Rattle.std.specs.Prelude.{◌≡◌, ◌≤◌, ℕ, Bool, true, ◌&&◌, List, [], ◌∷◌, map, filter, All}
+use Rattle.std.specs.Prelude.{◌≡◌, ◌≤◌, ℕ, Bool, true, ◌&&◌, List, [], ◌∷◌, map, filter, length, All}
 use Rattle.std.specs.List.{count_by}
 use Rattle.cics_lanes.specs.Orders.{Order, Lanes, after, orders, AreAmong}
 use Rattle.cics_lanes.specs.Endings.{Parts, Run, Reported, are_same, run_to, report, report_of_both}
@@ -23,14 +23,15 @@ pub record IsBounded (rs : List Run) (e : Reported) : Type 0 where
   pub serial : e.serial ≤ count_by (λ r. are_same r.ending e.ending && r.is_serial) rs
 
 -- A report. Some orders are followed, and some serial ones, which are counted by themselves. The
--- endings are those of all these: each order that is shown leads to its ending, and numbers are
--- lower bounds. If all were followed, it is the report of all orders.
+-- endings are those of all these, one at least: each order that is shown leads to its ending, and
+-- numbers are lower bounds. If all were followed, it is the report of all orders.
 pub record IsReport {S : Type 0} (lanes : Lanes S) (ending : S → Parts) (serial : S → Bool) (most : ℕ) (s : S) (r : Report) : Type 0 where
   pub followed : List Order
   pub serially : List Order
   pub among : AreAmong followed (orders lanes most s)
   pub serially_among : AreAmong serially (serial_of lanes serial s (orders lanes most s))
   pub endings : r.endings ≡ report_of_both (runs lanes ending serial s followed) (runs lanes ending serial s serially)
+  pub some : 1 ≤ length r.endings
   pub shown : All (IsShown (runs lanes ending serial s (orders lanes most s))) r.endings
   pub bounds : All (IsBounded (runs lanes ending serial s (orders lanes most s))) r.endings
   pub is_whole : r.is_whole ≡ true → followed ≡ orders lanes most s

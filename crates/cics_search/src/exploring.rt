@@ -74,7 +74,8 @@ struct Thinning {
 impl Thinning {
     // Returns whether the state of an index is followed.
     fn keeps(&self, at: usize) -> bool
-        ensures { self.now.is_over ≡ false → result ≡ true }
+        ensures all { self.now.is_over ≡ false → result ≡ true }
+        ensures last { at + 1 ≡ self.now.count → 1 ≤ self.now.share → result ≡ true }
     {
         !self.is_over || is_kept(at, self.share, self.count)
     }
@@ -82,7 +83,9 @@ impl Thinning {
 
 // Returns whether the state of an index is followed, if `most` of `count` are: they are spread
 // evenly.
-fn is_kept(at: usize, most: u64, count: usize) -> bool {
+fn is_kept(at: usize, most: u64, count: usize) -> bool
+    ensures last { at + 1 ≡ count → 1 ≤ most → result ≡ true }
+{
     let (at, most, count) = (at as u128, u128::from(most), (count as u128).max(1));
     at * most / count != (at + 1) * most / count
 }
@@ -122,6 +125,7 @@ impl Search {
     fn new(alloc: Global, is_serial: bool, limit: u64, lines: usize) -> Search
         ensures serial { result.is_serial ≡ is_serial }
         ensures limit { result.limit ≡ limit }
+        ensures share { 1 ≤ result.share }
         ensures met { result.met ≡ 0 }
         ensures whole { result.is_whole ≡ true }
     {
@@ -144,6 +148,9 @@ impl Search {
     // Counts so many states in which a lane may give. Returns which of them are followed.
     fn thin(&mut self, count: usize) -> Thinning
         ensures over { result.is_over ≡ true → self.old.limit < self.old.met + count }
+        ensures share { result.share ≡ self.old.share }
+        ensures count { result.count ≡ count }
+        ensures stays { self.new.share ≡ self.old.share }
         ensures met { self.new.met ≤ self.old.met + count }
         ensures limit { self.new.limit ≡ self.old.limit }
         ensures serial { self.new.is_serial ≡ self.old.is_serial }
@@ -221,6 +228,7 @@ impl Search {
     ) -> Result<Level, NoMemory>
         requires level { (n : ℕ) × IsLevel W.lanes W.breaks W.stamp self.old.is_serial
             (W.start walk.old) n self.old.is_whole level.entries }
+        requires share { 1 ≤ self.old.share }
         requires known { IsKnown W.lanes W.breaks W.stamp self.old.is_serial (W.start walk.old)
             known.old.entries }
         ensures known { OnOk result (IsKnown W.lanes W.breaks W.stamp self.old.is_serial
@@ -230,6 +238,7 @@ impl Search {
         ensures start { OnOk result (W.start walk.new ≡ W.start walk.old) }
         ensures serial { OnOk result (self.new.is_serial ≡ self.old.is_serial) }
         ensures limit { OnOk result (self.new.limit ≡ self.old.limit) }
+        ensures share { OnOk result (self.new.share ≡ self.old.share) }
         ensures met { OnOk result (self.new.met ≤ self.old.met + live level.entries) }
         ensures within { OnOk result (self.old.met + live level.entries ≤ self.old.limit →
             self.new.is_whole ≡ self.old.is_whole) }
@@ -275,6 +284,7 @@ impl Search {
         lines: usize,
         progress: &mut P,
     ) -> Result<Level, NoMemory>
+        requires share { 1 ≤ self.old.share }
         requires met { self.old.met ≡ 0 }
         requires whole { self.old.is_whole ≡ true }
         ensures level { IfOk result (λ level. IsLevel W.lanes W.breaks W.stamp self.old.is_serial
@@ -316,6 +326,7 @@ impl Search {
         met: &mut Met,
         progress: &mut P,
     ) -> Result<bool, NoMemory>
+        requires share { 1 ≤ self.share }
         requires met { self.met ≡ 0 }
         requires whole { self.is_whole ≡ true }
         ensures told { IfOk result (λ is_whole. (es : List (List ℕ × Led)) ×

@@ -1,4 +1,4 @@
-use Rattle.std.proofs.Common.{◌≡◌, ◌∙◌, map}
+use Rattle.std.proofs.Common.{◌∙◌, map}
 use Rattle.cics_lanes.specs.Endings.{are_same}
 use Rattle.cics_lanes.specs.Groups.{added_all}
 use Rattle.cics_lanes.specs.Tallies.{tally_joined}

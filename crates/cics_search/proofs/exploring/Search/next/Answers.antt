@@ -1,15 +1,18 @@
-use Rattle.std.proofs.Common.{◌∙◌, ◌++◌, ◌∷◌, [], Bool, refl, sym, arith, subst}
+use Rattle.std.proofs.Common.{◌≡◌, ◌∙◌, ◌≤◌, ◌++◌, ◌∷◌, not, false, [], List, length, inl, inr, ap, zero-add, Bool, refl, sym, arith, subst}
 use Rattle.std.specs.Str.{bytes_eq}
+use Rattle.std.proofs.lemmas.List.{length_push}
+use Rattle.std.proofs.lemmas.Bool.{true≢false}
 use Rattle.cics_names.specs.Keyed.{Bytes}
 use Rattle.cics_lanes.specs.declared.states.Led.{Led}
 use Rattle.cics_lanes.specs.Groups.{added_all}
 use Rattle.cics_lanes.specs.States.{led_joined}
-use Rattle.cics_search.specs.Levels.{spread, IsEntry}
+use Rattle.cics_search.specs.Levels.{live, spread, IsEntry}
 use Rattle.cics_search.specs.Ahead.{IsKnown}
-use Rattle.cics_search.proofs.Following.{IsPart, part_none, part_more, spread_more}
+use Rattle.cics_search.proofs.Following.{IsPart, part_none, part_more, part_less, one_counted, one_left, spread_more}
 use Rattle.cics_search.proofs.Leveling.{level_entries}
 use Rattle.cics_search.proofs.Regrouping.{Each}
 use Rattle.cics_search.proofs.exploring.Search.next.Goals as goal
+use Rattle.cics_search.proofs.exploring.Search.next.Goals.{then-not-may_go_on, else-not-may_go_on}
 
 -- the level's entries are left
 pub loop-stamp-init : goal.loop-stamp-init
@@ -26,6 +29,9 @@ loop-stamp-init g c =
           (level_entries w.lanes w.breaks w.stamp w.ending b s (w.stamps_tell b t) c.requires.level.0 c.args.self.now.is_whole c.args.level.entries c.requires.level.1);
       serial = c.thin-thinning.ensures.serial;
       limit = c.thin-thinning.ensures.limit;
+      share = c.thin-thinning.ensures.stays;
+      sum = zero-add (live c.into_iter-stamp-iterator.result) ∙ ap live gives ∙ sym (c.thin-thinning.ensures.count ∙ c.live_count.ensures);
+      kept = λ any. inr (subst (λ (es : List (Bytes × Led)). 1 ≤ length es) (sym gives) any);
       met = omega (arith, c.thin-thinning.ensures.met, c.live_count.ensures);
       within = λ _. c.thin-thinning.ensures.whole;
       some = [];
@@ -50,6 +56,10 @@ loop-stamp-preserved-then-is_kept g c =
       left = (subst (Each (IsEntry w.lanes w.breaks w.stamp b s)) c.in-Some.ensures.steps inv.left).1;
       serial = inv.serial;
       limit = inv.limit;
+      share = inv.share;
+      sum = one_counted c.loop-stamp.at c.from.result c.saturating_add-at.result c.thin-thinning.result.count c.loop-stamp.stamp-iterator c.next.new.self e c.in-Some.ensures.steps inv.sum
+          (omega (arith, c.thin-thinning.ensures.count, c.live_count.type_inv)) c.from.ensures c.saturating_add-at.ensures;
+      kept = λ any. inl (omega (arith, length_push inv.some e));
       met = inv.met;
       within = inv.within;
       some = inv.some ++ e ∷ [];
@@ -57,3 +67,37 @@ loop-stamp-preserved-then-is_kept g c =
       next = spread_more w.lanes w.breaks w.stamp b s inv.some c.step.new.next.entries c.loop-stamp.next.entries e inv.next
           (step.next ∙ (λ i. added_all bytes_eq led_joined c.loop-stamp.next.entries (spread w.lanes w.breaks w.stamp (inv.serial i) (inv.start i) e)));
     }
+
+-- an entry more is left out: it isn't the last in which a lane may give
+pub loop-stamp-preserved : goal.loop-stamp-preserved
+loop-stamp-preserved g c =
+    let w = g.W.Walk in
+    let s = w.start c.args.walk.now in
+    let b = c.args.self.now.is_serial in
+    let e : Bytes × Led = (c.in-Some.stamp, c.in-Some.led) in
+    let inv = c.loop-stamp.invariant in
+    let count = c.thin-thinning.result.count in
+    elim c.if-not-may_go_on.branch [
+      | then-not-may_go_on w ↦ absurd (true≢false (ap not (sym w.if-not-may_go_on.true) ∙ sym w.is_kept-is ∙ c.if-is_kept.false))
+      | else-not-may_go_on l ↦
+          let cut : l.keeps-is_kept.result ≡ false = sym l.is_kept-is ∙ c.if-is_kept.false in
+          let share : 1 ≤ c.thin-thinning.result.share = omega (arith, c.thin-thinning.ensures.share, c.requires.share) in
+          let more = one_left c.loop-stamp.at count c.loop-stamp.stamp-iterator c.next.new.self e c.in-Some.ensures.steps inv.sum l.if-not-may_go_on.false
+          (λ last. true≢false (sym (l.keeps-is_kept.ensures.last last share) ∙ cut)) in
+          record {
+            some = inv.some;
+            start = inv.start;
+            known = inv.known;
+            left = (subst (Each (IsEntry w.lanes w.breaks w.stamp b s)) c.in-Some.ensures.steps inv.left).1;
+            serial = inv.serial;
+            limit = inv.limit;
+            met = inv.met;
+            share = inv.share;
+            sum = one_counted c.loop-stamp.at c.from.result c.saturating_add-at.result count c.loop-stamp.stamp-iterator c.next.new.self e c.in-Some.ensures.steps inv.sum
+                (omega (arith, c.thin-thinning.ensures.count, c.live_count.type_inv)) c.from.ensures c.saturating_add-at.ensures;
+            kept = λ any. inr more;
+            within = λ all. absurd (true≢false (sym (l.keeps-is_kept.ensures.all all) ∙ cut));
+            part = part_less c.args.self.now.is_whole c.loop-stamp.self.is_whole false c.args.level.entries c.loop-stamp.stamp-iterator c.next.new.self inv.some e c.in-Some.ensures.steps refl inv.part;
+            next = inv.next;
+          }
+    ]

@@ -1,4 +1,4 @@
-use Rattle.std.proofs.Common.{◌≡◌, ◌≤◌, ◌+◌, false, List, []}
+use Rattle.std.proofs.Common.{◌≡◌, ◌≤◌, ◌+◌, ◌⊎◌, false, List, [], length}
 use Rattle.std.specs.List.{flat_map}
 use Rattle.std.specs.Str.{bytes_eq}
 use Rattle.cics_names.specs.Keyed.{Bytes}
@@ -17,14 +17,17 @@ invariant-loop-stamp g l =
     let w = g.W.Walk in
     let s = w.start l.fn.walk in
     record {
+      some : List (Bytes × Led);
       start : w.start l.walk ≡ s;
       known : IsKnown w.lanes w.breaks w.stamp l.fn.self.is_serial s l.known.entries;
       left : Each (IsEntry w.lanes w.breaks w.stamp l.fn.self.is_serial s) l.stamp-iterator;
       serial : l.self.is_serial ≡ l.fn.self.is_serial;
       limit : l.self.limit ≡ l.fn.self.limit;
       met : l.self.met ≤ l.fn.self.met + live l.fn.level.entries;
+      share : l.self.share ≡ l.fn.self.share;
+      sum : l.at + live l.stamp-iterator ≡ l.thinning.count;
+      kept : 1 ≤ length l.fn.level.entries → (1 ≤ length some) ⊎ (1 ≤ length l.stamp-iterator);
       within : l.thinning.is_over ≡ false → l.self.is_whole ≡ l.fn.self.is_whole;
-      some : List (Bytes × Led);
       part : IsPart l.fn.self.is_whole l.self.is_whole l.fn.level.entries l.stamp-iterator some;
       next : l.next.entries ≡ added_all bytes_eq led_joined [] (flat_map (spread w.lanes w.breaks w.stamp l.fn.self.is_serial s) some);
     }

@@ -17,6 +17,7 @@ loop-init g c =
       known = known_none w.lanes w.breaks w.stamp w.ending b s (w.stamps_tell b t) c.new-known.result.entries c.new-known.ensures.empty;
       serial = refl;
       limit = refl;
+      share = refl;
       met = λ whole. omega (arith, c.requires.met);
       within = λ fits. c.requires.whole;
       level = subst (λ (v : Bool). IsLevel w.lanes w.breaks w.stamp b s 0 v c.in_ok-level.level.entries) (sym c.requires.whole) c.in_ok-level.ensures.level;
@@ -43,6 +44,7 @@ loop-preserved g c =
           (subst (λ (v : Bool). IsKnown w.lanes w.breaks w.stamp v (w.start c.loop.walk) c.next.new.known.entries) inv.serial step.known);
       serial = step.serial ∙ inv.serial;
       limit = step.limit ∙ inv.limit;
+      share = step.share ∙ inv.share;
       met = λ whole. subst (λ (n : ℕ). c.next.new.self.met ≤ state_count w.lanes w.breaks w.stamp b s n) one (more.0 whole);
       within = λ fits. more.1 (subst (λ (n : ℕ). state_count w.lanes w.breaks w.stamp b s n ≤ c.args.self.now.limit) (sym one) fits);
       level = subst (λ (n : ℕ). IsLevel w.lanes w.breaks w.stamp b s n c.next.new.self.is_whole c.in_ok-level-2.level.entries) one

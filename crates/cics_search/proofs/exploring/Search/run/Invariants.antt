@@ -13,6 +13,7 @@ invariant-loop g l =
       known : IsKnown w.lanes w.breaks w.stamp l.fn.self.is_serial s l.known.entries;
       serial : l.self.is_serial ≡ l.fn.self.is_serial;
       limit : l.self.limit ≡ l.fn.self.limit;
+      share : l.self.share ≡ l.fn.self.share;
       met : l.self.is_whole ≡ true → l.self.met ≤ state_count w.lanes w.breaks w.stamp l.fn.self.is_serial s l.counter;
       within : state_count w.lanes w.breaks w.stamp l.fn.self.is_serial s l.counter ≤ l.fn.self.limit → l.self.is_whole ≡ true;
       level : IsLevel w.lanes w.breaks w.stamp l.fn.self.is_serial s l.counter l.self.is_whole l.level.entries;
