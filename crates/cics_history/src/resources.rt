@@ -1,7 +1,7 @@
 //! Resources, and the units that own them.
 
 ghost use Rattle.std.specs.Prelude.{◌≡◌, ◌≤◌, length};
-ghost use Rattle.cics_history.specs.Resources.{is_user, bytes_of};
+ghost use Rattle.cics_history.specs.Resources.{bytes_of};
 ghost use Rattle.cics_history.specs.declared.resources.Resource.TheVariants.{FileKey, FilePrefix};
 ghost use Rattle.cics_history.specs.declared.resources.Resource.TheVariants.{User};
 

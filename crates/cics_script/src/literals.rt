@@ -5,8 +5,8 @@
 //! no quote.
 
 ghost use Rattle.std.specs.Char.{is_ascii_hexdigit};
-ghost use Rattle.std.specs.Prelude.{◌≡◌, ◌≤◌, ◌<◌, ◌+◌, ◌-◌, ◌*◌, true, ◌++◌, IfOk, IfSome};
-ghost use Rattle.std.specs.Prelude.{MatchOption, OnOk, length, option_map, take};
+ghost use Rattle.std.specs.Prelude.{◌≡◌, ◌≤◌, ◌<◌, ◌+◌, ◌-◌, ◌*◌, true, IfOk, IfSome};
+ghost use Rattle.std.specs.Prelude.{MatchOption, length, option_map, take};
 ghost use Rattle.std.specs.List.{list_all, prefix_len};
 ghost use Rattle.cics_script.specs.Tokens.{is_quote, hex_value, text_in};
 ghost use Rattle.cics_script.specs.Literals.{Begins, Takes, is_plain, said, encoded, encoded_text};

@@ -1,6 +1,6 @@
 //! Reads the options of a line, from left to right, into a list.
 
-ghost use Rattle.std.specs.Prelude.{◌≡◌, ◌<◌, ◌≤◌, ℕ, true, List, [], ◌∷◌, ◌++◌};
+ghost use Rattle.std.specs.Prelude.{◌≡◌, ◌<◌, ◌≤◌, List, [], ◌∷◌, ◌++◌};
 ghost use Rattle.std.specs.Prelude.{Option, Some, None, Ok, Err, IfSome, IfOk, IfErr, length};
 ghost use Rattle.std.specs.Result.{result_map_both};
 ghost use Rattle.std.specs.List.{list_any};
