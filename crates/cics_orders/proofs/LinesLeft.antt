@@ -3,7 +3,7 @@
 use Rattle.std.proofs.Common.{◌≡◌, ◌<◌, ◌≤◌, ℕ, zero, suc, ◌+◌, Bool, true, false, not, ◌||◌, ◌&&◌, ◌-◌, List, [], ◌∷◌, length, map, drop, get_or, Option, None, Some, option_map, option_and_then, slice_get, nat_le, Result, refl, ap, sym, ◌∙◌, arith}
 use Rattle.std.proofs.lemmas.List.{drop_more}
 use Rattle.std.proofs.lemmas.Option.{slice_get-map, slice_get_read, slice_get_within, get_or_from_slice_get}
-use Rattle.std.proofs.lemmas.Bool.{leb-true, leb-false}
+use Rattle.std.proofs.lemmas.Bool.{and_right, or_parts, leb-true, leb-false}
 use Rattle.std.specs.Prelude.{if◌then◌else◌}
 use Rattle.cics_script.specs.Lines.{line}
 use Rattle.cics_script.specs.declared.lines.Line.{Line}
@@ -14,14 +14,10 @@ use Rattle.cics_orders.specs.Giving.{State, may_give}
 use Rattle.cics_orders.specs.Turns.{is_shutdown, has_shutdown, lines_to_shutdown, may_go_on, turn_goes_on}
 use Rattle.cics_orders.specs.declared.lanes.Lane.{Lane}
 
-neither : (a b : Bool) → a || b ≡ false → (a ≡ false) × (b ≡ false)
-neither true b is = cc
-neither false b is = (refl, is)
-
 none_behind : (n : ℕ) (lines : List NumberedLine) → has_shutdown lines ≡ false → has_shutdown (drop n lines) ≡ false
 none_behind zero lines none = none
 none_behind (suc n) [] none = none
-none_behind (suc n) (next ∷ lines) none = none_behind n lines (neither (is_shutdown (line next.1)) (has_shutdown lines) none).1
+none_behind (suc n) (next ∷ lines) none = none_behind n lines (or_parts (is_shutdown (line next.1)) (has_shutdown lines) none).1
 
 -- without one there is none to come to
 pub none_there : (lines : List NumberedLine) → has_shutdown lines ≡ false → lines_to_shutdown lines ≡ 0
@@ -100,27 +96,23 @@ count_said i count r lines said all within is = by (slice_get lines i) refl (sym
 
 -- ---- What a turn that goes on is
 
-never : (b : Bool) → b && false ≡ false
-never true = refl
-never false = refl
-
 -- no task has given
 pub none_gave : (s : State) → s.last ≡ None → turn_goes_on s ≡ false
 none_gave s last =
-    ap (λ o. is_proper s.plan && may_go_on s (option_and_then (slice_get s.lanes) o) (slice_get s.lanes (length s.lanes - 1))) last ∙ never (is_proper s.plan)
+    ap (λ o. is_proper s.plan && may_go_on s (option_and_then (slice_get s.lanes) o) (slice_get s.lanes (length s.lanes - 1))) last ∙ and_right (is_proper s.plan) false refl
 
 -- there is no such lane
 pub none_there_gave : (s : State) (k : ℕ) → s.last ≡ Some k → slice_get s.lanes k ≡ None → turn_goes_on s ≡ false
 none_there_gave s k last none =
     ap (λ o. is_proper s.plan && may_go_on s (option_and_then (slice_get s.lanes) o) (slice_get s.lanes (length s.lanes - 1))) last
-    ∙ ap (λ o. is_proper s.plan && may_go_on s o (slice_get s.lanes (length s.lanes - 1))) none ∙ never (is_proper s.plan)
+    ∙ ap (λ o. is_proper s.plan && may_go_on s o (slice_get s.lanes (length s.lanes - 1))) none ∙ and_right (is_proper s.plan) false refl
 
 -- there is no lane of the clock
 pub no_clock : (s : State) (k : ℕ) (x : Lane) → s.last ≡ Some k → slice_get s.lanes k ≡ Some x → slice_get s.lanes (length s.lanes - 1) ≡ None → turn_goes_on s ≡ false
 no_clock s k x last at none =
     ap (λ o. is_proper s.plan && may_go_on s (option_and_then (slice_get s.lanes) o) (slice_get s.lanes (length s.lanes - 1))) last
     ∙ ap (λ o. is_proper s.plan && may_go_on s o (slice_get s.lanes (length s.lanes - 1))) at
-    ∙ ap (λ o. is_proper s.plan && may_go_on s (Some x) o) none ∙ never (is_proper s.plan)
+    ∙ ap (λ o. is_proper s.plan && may_go_on s (Some x) o) none ∙ and_right (is_proper s.plan) false refl
 
 pub both_there : (s : State) (k : ℕ) (x clock : Lane) (b : Bool) → is_proper s.plan ≡ true → s.last ≡ Some k → slice_get s.lanes k ≡ Some x →
     slice_get s.lanes (length s.lanes - 1) ≡ Some clock → not (has_shutdown (drop clock.given s.plan.clock)) ≡ b → turn_goes_on s ≡ (x.is_in_turn && may_give s.machine x && b)

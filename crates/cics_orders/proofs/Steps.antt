@@ -12,7 +12,7 @@ use Rattle.cics_script.specs.Lines.{line}
 use Rattle.cics_script.specs.declared.lines.Line.{Line}
 use Rattle.cics_script.specs.declared.faults.LineFault.{LineFault}
 use Rattle.cics_plans.specs.Taking.{NumberedLine}
-use Rattle.cics_orders.specs.Giving.{Happens, IsAnswered, State, after_line, drained, ends_turn, counted, given_line, given_by, given, next_says}
+use Rattle.cics_orders.specs.Giving.{Happens, IsAnswered, State, after_line, drained, ends_turn, counted, given_line, given_by, given}
 use Rattle.cics_orders.specs.declared.lanes.Lane.{Lane}
 
 -- ---- Events
@@ -38,6 +38,10 @@ module _ {X : Type 0} (wants : Bool) (old : RegionValue) (step : Stepped (Result
   happened r (Ok o) is all told = subst (λ t. Happens old.machine step t new.machine) (sym told) (by_answer r is all)
 
 -- ---- A line is given
+
+-- what the next line of a lane says, if it has one left
+abbrev pub next_says : List Lane → ℕ → Option (Result Line LineFault)
+next_says lanes l = option_map (λ next. line next.1) (option_and_then (λ lane. slice_get lane.lines lane.given) (slice_get lanes l))
 
 -- what the next line of a lane says is among what its lines say
 pub said_next : (xs : List Lane) (l : ℕ) (lane : Lane) (said : List (Result Line LineFault)) → slice_get xs l ≡ Some lane → said ≡ map (λ (n : NumberedLine). line n.1) lane.lines →

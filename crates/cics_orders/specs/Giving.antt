@@ -1,5 +1,5 @@
 -- How lanes give their lines to a region: which may give, and the state after a line.
-use Rattle.std.specs.Prelude.{◌≡◌, ◌<◌, ℕ, zero, suc, ◌+◌, Bool, true, false, ◌&&◌, ◌||◌, not, ◌==◌, if◌then◌else◌, List, [], ◌∷◌, ◌++◌, map, length, Option, Some, None, option_map, option_and_then, is_none, is_some, Result, Ok, Err, slice_get, slice_set}
+use Rattle.std.specs.Prelude.{◌≡◌, ◌<◌, ℕ, zero, suc, ◌+◌, Bool, true, false, ◌&&◌, ◌||◌, not, ◌==◌, if◌then◌else◌, List, [], ◌∷◌, ◌++◌, map, length, Option, Some, None, is_none, is_some, Result, Ok, Err, slice_get, slice_set}
 use Rattle.std.specs.List.{fold}
 use Rattle.cics_names.specs.Keyed.{Bytes, is_same}
 use Rattle.cics_names.specs.declared.commands.Command.{Command}
@@ -214,10 +214,6 @@ counted s l lane ends = record s {
 -- the lane of a number is there and has a line left
 abbrev pub IsGivable : List Lane → ℕ → Type 0
 IsGivable lanes l = (lane : Lane) × (slice_get lanes l ≡ Some lane) × (lane.given < length lane.lines)
-
--- what the next line of a lane says, if it has one left
-abbrev pub next_says : List Lane → ℕ → Option (Result Line LineFault)
-next_says lanes l = option_map (λ next. line next.1) (option_and_then (λ lane. slice_get lane.lines lane.given) (slice_get lanes l))
 
 -- a lane gives a line, and the region drains
 abbrev pub given_line : State → ℕ → Lane → Option NumberedLine → State

@@ -1,5 +1,6 @@
 -- States that are the same go on alike: each line leads to states that are the same again.
-use Rattle.std.proofs.Common.{◌≡◌, ℕ, zero, suc, ◌+◌, Bool, true, false, not, ◌&&◌, ◌||◌, List, ◌++◌, map, length, Option, None, Some, option_map, Result, Ok, Err, refl, ap, sym, ◌∙◌, subst}
+use Rattle.std.proofs.Common.{◌≡◌, ℕ, zero, suc, Bool, true, false, not, ◌&&◌, ◌||◌, List, ◌++◌, map, length, Option, None, Some, option_map, Result, Ok, Err, refl, ap, sym, ◌∙◌, subst}
+use Rattle.std.proofs.lemmas.Option.{slice_get-map}
 use Rattle.std.specs.Prelude.{if◌then◌else◌, is_some, slice_get}
 use Rattle.cics_names.specs.Keyed.{Bytes}
 use Rattle.cics_machine.specs.Machine.{Machine}
@@ -18,12 +19,12 @@ use Rattle.cics_script.specs.declared.lines.Line.{Line}
 use Rattle.cics_script.specs.declared.lines.Line.TheVariants as says
 use Rattle.cics_script.specs.declared.faults.LineFault.{LineFault}
 use Rattle.cics_plans.specs.Taking.{NumberedLine}
-use Rattle.cics_orders.specs.Giving.{State, hearing, shut, issuing, timing, shutting, left_by, after_line, late, resumed, drain_step, told_by, drained_once, after_step, drained_within, drained, givers, ends_turn, is_lane, counted, given_line, given_by, given, lanes}
+use Rattle.cics_orders.specs.Giving.{State, hearing, shut, issuing, timing, shutting, left_by, after_line, late, resumed, drain_step, told_by, drained_once, after_step, drained_within, drained, givers, ends_turn, is_lane, counted, given_line, given_by, given}
 use Rattle.cics_orders.specs.declared.lanes.Lane.{Lane}
 use Rattle.cics_names.specs.Stamps.{number_stamp, flag_stamp, option_stamp, list_stamp}
 use Rattle.cics_orders.specs.Stamps.{seen, last_seen, lane_stamp, state_stamp}
 use Rattle.cics_orders.specs.Same.{SameState}
-use Rattle.cics_orders.specs.Seen.{get_mapped, hearing_same, shut_same, given_same, giving_same}
+use Rattle.cics_orders.specs.Seen.{hearing_same, shut_same, given_same, giving_same}
 
 -- ---- One step of draining
 
@@ -177,7 +178,7 @@ module _ (told serial : Bool) where
   unfolding given
   given_alike s t l same =
       by (slice_get s.lanes l) (slice_get t.lanes l)
-      (sym (get_mapped (seen told serial) s.lanes l) ∙ ap (λ xs. slice_get xs l) same.lanes ∙ get_mapped (seen told serial) t.lanes l)
+      (sym (slice_get-map (seen told serial) s.lanes l) ∙ ap (λ xs. slice_get xs l) same.lanes ∙ slice_get-map (seen told serial) t.lanes l)
     where
       by : (o p : Option Lane) → option_map (seen told serial) o ≡ option_map (seen told serial) p → Same (given_by s l o) (given_by t l p)
       by None None one = same

@@ -1,6 +1,6 @@
 -- What is seen of lanes after a step, by what was seen of them before it.
-use Rattle.std.proofs.Common.{◌≡◌, ℕ, zero, suc, ◌+◌, ◌-◌, Bool, true, false, not, ◌&&◌, List, [], ◌∷◌, ◌++◌, map, length, drop, Option, None, Some, option_map, refl, ap, sym, ◌∙◌, arith, length-append}
-use Rattle.std.proofs.lemmas.List.{drop-map}
+use Rattle.std.proofs.Common.{◌≡◌, ℕ, suc, ◌+◌, ◌-◌, Bool, true, false, not, ◌&&◌, List, [], ◌∷◌, ◌++◌, map, length, drop, Option, None, Some, option_map, refl, ap, sym, ◌∙◌, arith, length-append}
+use Rattle.std.proofs.lemmas.List.{drop-map, map-set}
 use Rattle.std.specs.Prelude.{if◌then◌else◌, is_none, is_some, slice_get, slice_set}
 use Rattle.cics_names.specs.Keyed.{Bytes}
 use Rattle.cics_machine.specs.Machine.{Machine}
@@ -23,16 +23,6 @@ last_more (y ∷ ys) x =
     ap (slice_get (y ∷ (ys ++ x ∷ []))) last ∙ last_more ys x
 
 module _ {X : Type 0} (f : X → X) where
-  pub get_mapped : (xs : List X) (l : ℕ) → slice_get (map f xs) l ≡ option_map f (slice_get xs l)
-  get_mapped [] l = refl
-  get_mapped (x ∷ xs) zero = refl
-  get_mapped (x ∷ xs) (suc l) = get_mapped xs l
-
-  pub set_mapped : (xs : List X) (l : ℕ) (y : X) → map f (slice_set xs l y) ≡ slice_set (map f xs) l (f y)
-  set_mapped [] l y = refl
-  set_mapped (x ∷ xs) zero y = refl
-  set_mapped (x ∷ xs) (suc l) y = ap (λ ys. f x ∷ ys) (set_mapped xs l y)
-
   numbered_mapped : (may : X → Bool) → ((x : X) → may (f x) ≡ may x) → (xs : List X) (l : ℕ) → numbered may l (map f xs) ≡ numbered may l xs
   numbered_mapped may same [] l = refl
   numbered_mapped may same (x ∷ xs) l =
@@ -102,7 +92,7 @@ module _ (told serial : Bool) where
   pub given_same : (xs ys : List Lane) (l : ℕ) (x y : Lane) (ends : Bool) → sees xs ≡ sees ys → seen told serial x ≡ seen told serial y →
       sees (slice_set xs l (with_given x ends)) ≡ sees (slice_set ys l (with_given y ends))
   given_same xs ys l x y ends same one =
-      set_mapped (seen told serial) xs l (with_given x ends) ∙ (λ i. slice_set (same i) l (given_seen ends (one i))) ∙ sym (set_mapped (seen told serial) ys l (with_given y ends))
+      map-set (seen told serial) xs l (with_given x ends) ∙ (λ i. slice_set (same i) l (given_seen ends (one i))) ∙ sym (map-set (seen told serial) ys l (with_given y ends))
 
 -- ---- Which lanes may give
 

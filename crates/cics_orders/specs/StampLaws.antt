@@ -2,6 +2,7 @@
 -- again, and the endings are told the same.
 use Rattle.std.proofs.Common.{◌≡◌, ℕ, ◌-◌, Bool, true, false, not, ◌&&◌, ◌||◌, List, [], map, length, drop, Option, None, Some, option_map, refl, ap, sym, ◌∙◌}
 use Rattle.std.proofs.lemmas.List.{length-map}
+use Rattle.std.proofs.lemmas.Option.{slice_get-map}
 use Rattle.std.specs.Prelude.{All, if◌then◌else◌, is_some, slice_get, option_and_then}
 use Rattle.cics_future.proofs.Stamped.{alike_stamps}
 use Rattle.cics_lanes.specs.Orders.{Order, after, orders, IsWay, AreStampedAlike}
@@ -12,7 +13,7 @@ use Rattle.cics_orders.specs.Giving.{State, is_lane, givers, given, lanes, initi
 use Rattle.cics_orders.specs.OrderLaws.{most_ends, plan_stays}
 use Rattle.cics_orders.specs.Same.{SameState}
 use Rattle.cics_orders.specs.SameSteps.{given_alike, givers_alike, stamps_alike}
-use Rattle.cics_orders.specs.Seen.{get_mapped, may_same}
+use Rattle.cics_orders.specs.Seen.{may_same}
 use Rattle.cics_orders.specs.SplitStates.{same_after}
 use Rattle.cics_orders.specs.Stamps.{seen, state_stamp}
 use Rattle.cics_orders.specs.Turns.{has_shutdown, may_go_on, turn_goes_on, lane_breaks, breaks}
@@ -73,17 +74,12 @@ module _ (told : Bool) (s t : State) (same : SameState told true s t) where
   go_too (Some x) None = refl
   go_too (Some x) (Some y) = λ i. x.is_in_turn && may_same s.machine t.machine same.machine.alike.waiting x i && not (has_shutdown (drop y.given (same.plan i).clock))
 
-  go_seen_too : (o p : Option Lane) → may_go_on t (option_map see o) (option_map see p) ≡ may_go_on t o p
-  go_seen_too None p = refl
-  go_seen_too (Some x) None = refl
-  go_seen_too (Some x) (Some y) = refl
-
   then_seen : (xs : List Lane) (last : Option ℕ) → option_map see (option_and_then (slice_get xs) last) ≡ option_and_then (slice_get (map see xs)) last
   then_seen xs None = refl
-  then_seen xs (Some l) = sym (get_mapped see xs l)
+  then_seen xs (Some l) = sym (slice_get-map see xs l)
 
   last_seen_at : (xs : List Lane) → option_map see (slice_get xs (length xs - 1)) ≡ slice_get (map see xs) (length (map see xs) - 1)
-  last_seen_at xs = sym (get_mapped see xs (length xs - 1)) ∙ ap (λ k. slice_get (map see xs) (k - 1)) (sym (length-map xs see))
+  last_seen_at xs = sym (slice_get-map see xs (length xs - 1)) ∙ ap (λ k. slice_get (map see xs) (k - 1)) (sym (length-map xs see))
 
   turns_same : turn_goes_on s ≡ turn_goes_on t
   turns_same =
@@ -106,7 +102,7 @@ module _ (told : Bool) (s t : State) (same : SameState told true s t) where
   breaks_same : (l : ℕ) → breaks s l ≡ breaks t l
   unfolding breaks
   breaks_same l =
-      lane_breaks_same l (slice_get s.lanes l) (slice_get t.lanes l) (sym (get_mapped see s.lanes l) ∙ ap (λ xs. slice_get xs l) same.lanes ∙ get_mapped see t.lanes l)
+      lane_breaks_same l (slice_get s.lanes l) (slice_get t.lanes l) (sym (slice_get-map see s.lanes l) ∙ ap (λ xs. slice_get xs l) same.lanes ∙ slice_get-map see t.lanes l)
 
 -- ---- States of one stamp
 
