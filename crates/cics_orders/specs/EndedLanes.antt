@@ -10,7 +10,6 @@ use Rattle.cics_machine.specs.Machine.{Machine, Task, Suspended, task_at, is_wai
 use Rattle.cics_machine.specs.Steps.{Stepped, new_task, attach_refusal, with_new_task, refused_or, issued_by, checked, by_op}
 use Rattle.cics_machine.specs.Checks.{fault_of}
 use Rattle.cics_machine.specs.Blockers.{waiting_command}
-use Rattle.cics_machine.specs.Waits.{wait_of}
 use Rattle.cics_machine.specs.Shutdown.{all_ended, shut_down}
 use Rattle.cics_machine.specs.Waking.{may_go_on, first_free, went_on, woken_first, is_late, first_late, expired_task, expired, clock_refusal}
 use Rattle.cics_machine.specs.declared.outcomes.Outcome.{Outcome}
@@ -30,7 +29,8 @@ use Rattle.cics_plans.specs.declared.plans.TaskPlan.{TaskPlan}
 use Rattle.cics_orders.specs.Giving.{State, is_of, is_last, told_more, with_told, hearing, shut, issuing, timing, shutting, attaching, left_by, after_line, late, resumed, drain_step, told_by, drained_once, after_step, drained_within, drained, with_given, counted, ends_turn, given_line, given_by, given, lanes, opened, unless_refused, with_task, task_lane, fresh_lane, initial_state}
 use Rattle.cics_orders.specs.declared.lanes.Lane.{Lane}
 use Rattle.cics_orders.specs.Ended.{ended_task, ended_lane, Agrees, IsAccepted, AcceptsReady}
-use Rattle.cics_orders.specs.Ways.{attaches_wait}
+use Rattle.cics_orders.specs.GivenLanes.{of_given}
+use Rattle.cics_orders.specs.Ways.{attaches_wait, none_waits}
 use Rattle.cics_orders.specs.EndedTasks.{ended_put, still_waits, Tells, itself, abends, tells, tells_checked}
 
 -- ---- Lanes of a label
@@ -56,13 +56,6 @@ shut_labels (Some k) x y = refl
 
 of_shut : (x : Lane) (y : Bytes) → is_of (shut x) y ≡ is_of x y
 of_shut x y = shut_labels x.label x y
-
-given_labels : (l : Option Bytes) (x : Lane) (ends : Bool) (y : Bytes) → is_of (record (with_given x ends) { label = l }) y ≡ is_of (record x { label = l }) y
-given_labels None x ends y = refl
-given_labels (Some k) x ends y = refl
-
-of_given : (x : Lane) (ends : Bool) (y : Bytes) → is_of (with_given x ends) y ≡ is_of x y
-of_given x ends y = given_labels x.label x ends y
 
 -- ---- A task is told
 
@@ -495,16 +488,6 @@ start_fits p = record {
 }
 
 -- ---- Whoever is ready is not refused
-
--- a task without a waiting command doesn't wait
-pub none_waits : (ws : List Suspended) (label : Bytes) → is_none (option_map (λ w. w.command) (wait_of ws label)) ≡ true → is_waiting ws label ≡ false
-none_waits [] label none = refl
-none_waits (w ∷ ws) label none = by (none_waits ws label) (is_same w.label label) none
-  where
-    by : (is_none (option_map (λ w. w.command) (wait_of ws label)) ≡ true → is_waiting ws label ≡ false) → (b : Bool) →
-        is_none (option_map (λ w. w.command) (if b then Some w else wait_of ws label)) ≡ true → (if b then true else is_waiting ws label) ≡ false
-    by rest true none = cc
-    by rest false none = rest none
 
 -- there is such a task, and it has not ended
 task_there : (o : Option Task) → option_map (λ t. t.has_ended) o ≡ Some false → (t : Task) × (o ≡ Some t) × (t.has_ended ≡ false)

@@ -1,12 +1,12 @@
 -- Lanes keep their labels and lines, and tell which command each gave last.
-use Rattle.std.proofs.Common.{◌≡◌, ℕ, zero, suc, ◌+◌, ◌-◌, Bool, true, false, not, ◌&&◌, List, [], ◌∷◌, ◌++◌, map, Option, None, Some, Result, refl, ap, sym, ◌∙◌, subst, arith}
+use Rattle.std.proofs.Common.{◌≡◌, ℕ, zero, suc, ◌+◌, ◌-◌, Bool, true, false, not, List, [], ◌∷◌, ◌++◌, map, Option, None, Some, Result, refl, ap, sym, ◌∙◌, subst, arith}
+use Rattle.std.proofs.lemmas.Bool.{and_parts, not-true}
 use Rattle.std.specs.Prelude.{if◌then◌else◌, slice_get, slice_set, option_and_then}
 use Rattle.std.specs.List.{list_all}
 use Rattle.cics_names.specs.Keyed.{Bytes, is_same}
 use Rattle.cics_names.specs.KeyedLaws.{is_same-self, is_same-eq}
 use Rattle.cics_machine.specs.Machine.{Suspended, is_waiting}
 use Rattle.cics_machine.specs.declared.outcomes.Outcome.{Outcome}
-use Rattle.cics_machine.specs.declared.outcomes.Outcome.TheVariants.{Replied, Waiting, Abended, Ended}
 use Rattle.cics_script.specs.Lines.{line}
 use Rattle.cics_script.specs.declared.lines.Line.{Line}
 use Rattle.cics_script.specs.declared.faults.LineFault.{LineFault}
@@ -15,7 +15,8 @@ use Rattle.cics_plans.specs.Proper.{is_command_of, is_timing, has_own_lines, are
 use Rattle.cics_plans.proofs.Proper.{has_first, proper_parts}
 use Rattle.cics_plans.specs.declared.plans.Plan.{Plan}
 use Rattle.cics_plans.specs.declared.plans.TaskPlan.{TaskPlan}
-use Rattle.cics_orders.specs.Giving.{is_of, told_more, with_told, hearing, shut, with_given, fresh_lane, task_lane, initial_lanes}
+use Rattle.cics_orders.specs.Giving.{is_of, hearing, shut, with_given, fresh_lane, task_lane, initial_lanes}
+use Rattle.cics_orders.specs.Gists.{Gist, gist, gists_hearing, gists_shut}
 use Rattle.cics_orders.specs.declared.lanes.Lane.{Lane}
 use Rattle.cics_orders.specs.Stamps.{seen}
 use Rattle.cics_orders.specs.GivenWaits.{said, last_command, command_of, AreGiven}
@@ -25,9 +26,13 @@ use Rattle.cics_orders.specs.Seen.{of_seen}
 abbrev pub frame : Lane → Lane
 frame x = fresh_lane x.label x.lines
 
+-- the core of a lane of this gist
+abbrev core_of : Gist → Lane
+core_of g = record { label = g.label; lines = g.lines; given = g.given; told = []; has_ended = false; is_in_turn = false }
+
 -- a lane without what its task was told
 abbrev pub core : Lane → Lane
-core x = record x { told = []; has_ended = false; is_in_turn = false }
+core x = core_of (gist x)
 
 -- ---- Whose lane it is
 
@@ -49,30 +54,26 @@ given_labels : (l : Option Bytes) (x : Lane) (ends : Bool) (y : Bytes) → is_of
 given_labels None x ends y = refl
 given_labels (Some k) x ends y = refl
 
-of_given : (x : Lane) (ends : Bool) (y : Bytes) → is_of (with_given x ends) y ≡ is_of x y
+pub of_given : (x : Lane) (ends : Bool) (y : Bytes) → is_of (with_given x ends) y ≡ is_of x y
 of_given x ends y = given_labels x.label x ends y
 
 -- ---- Hearing and the shutdown
 
-core_told : (xs : List Lane) (label : Bytes) (o : Outcome) → map core (with_told xs label o) ≡ map core xs
-core_told [] label o = refl
-core_told (x ∷ xs) label o = by (core_told xs label o) (is_of x label)
-  where
-    by : map core (with_told xs label o) ≡ map core xs → (b : Bool) → map core (if b then told_more x o ∷ xs else x ∷ with_told xs label o) ≡ core x ∷ map core xs
-    by rest true = refl
-    by rest false = ap (λ ys. core x ∷ ys) rest
+cores : (xs : List Lane) → map core xs ≡ map core_of (map gist xs)
+cores [] = refl
+cores (x ∷ xs) = ap (λ ys. core x ∷ ys) (cores xs)
+
+-- lanes with the same gists have the same cores
+pub gist_cores : (xs ys : List Lane) → map gist xs ≡ map gist ys → map core xs ≡ map core ys
+gist_cores xs ys same = cores xs ∙ ap (map core_of) same ∙ sym (cores ys)
 
 -- an outcome leaves the cores of lanes as they are
 pub core_hearing : (xs : List Lane) (label : Bytes) (o : Outcome) → map core (hearing xs label o) ≡ map core xs
-core_hearing xs label (Replied reply) = core_told xs label (Replied reply)
-core_hearing xs label (Waiting holder) = refl
-core_hearing xs label (Abended code reply) = core_told xs label (Abended code reply)
-core_hearing xs label Ended = core_told xs label Ended
+core_hearing xs label o = gist_cores (hearing xs label o) xs (gists_hearing xs label o)
 
 -- so does a shutdown
 pub core_shut : (xs : List Lane) → map core (map shut xs) ≡ map core xs
-core_shut [] = refl
-core_shut (x ∷ xs) = ap (λ ys. core x ∷ ys) (core_shut xs)
+core_shut xs = gist_cores (map shut xs) xs (gists_shut xs)
 
 -- lanes with one core gave the same
 commands_core : (xs : List Lane) (label : Bytes) → command_of (map core xs) label ≡ command_of xs label
@@ -212,19 +213,10 @@ waits_given xs l x ends at (w ∷ ws) idle (first, all) =
 
 -- ---- The start
 
-both_true : (a b : Bool) → (a && b) ≡ true → (a ≡ true) × (b ≡ true)
-both_true true true is = (refl, refl)
-both_true true false is = cc
-both_true false b is = cc
-
-all_at : {X : Type 0} (test : X → Bool) (xs : List X) (k : ℕ) (x : X) → list_all test xs ≡ true → slice_get xs k ≡ Some x → test x ≡ true
+pub all_at : {X : Type 0} (test : X → Bool) (xs : List X) (k : ℕ) (x : X) → list_all test xs ≡ true → slice_get xs k ≡ Some x → test x ≡ true
 all_at test [] k x all at = cc
-all_at test (y ∷ ys) zero x all at = let same : y ≡ x = cc in ap test (sym same) ∙ (both_true (test y) (list_all test ys) all).0
-all_at test (y ∷ ys) (suc k) x all at = all_at test ys k x (both_true (test y) (list_all test ys) all).1 at
-
-not_true : (b : Bool) → not b ≡ true → b ≡ false
-not_true true is = cc
-not_true false is = refl
+all_at test (y ∷ ys) zero x all at = let same : y ≡ x = cc in ap test (sym same) ∙ (and_parts (test y) (list_all test ys) all).0
+all_at test (y ∷ ys) (suc k) x all at = all_at test ys k x (and_parts (test y) (list_all test ys) all).1 at
 
 module _ (clock : List NumberedLine) where
   abbrev all_lanes : List TaskPlan → List Lane
@@ -241,14 +233,14 @@ module _ (clock : List NumberedLine) where
   apart_tasks : (ts : List TaskPlan) → are_distinct ts ≡ true → AreApart (all_lanes ts)
   apart_tasks [] distinct = (λ label own. tt, tt)
   apart_tasks (t ∷ ts) distinct =
-      let parts = both_true (not (has_task ts t.label)) (are_distinct ts) distinct in
-      let none : has_task ts t.label ≡ false = not_true (has_task ts t.label) parts.0 in
+      let parts = and_parts (not (has_task ts t.label)) (are_distinct ts) distinct in
+      let none : has_task ts t.label ≡ false = not-true (has_task ts t.label) parts.0 in
       (λ label own. none_have ts label (ap (has_task ts) (sym (is_same-eq t.label label own)) ∙ none), apart_tasks ts parts.1)
 
   right_tasks : (ts : List TaskPlan) → list_all has_own_lines ts ≡ true → list_all (λ next. is_timing (line next.1)) clock ≡ true → AreRight (all_lanes ts)
   right_tasks [] own times = (λ k next at. all_at (λ next. is_timing (line next.1)) clock k next times at, tt)
   right_tasks (t ∷ ts) own times =
-      let parts = both_true (has_own_lines t) (list_all has_own_lines ts) own in
+      let parts = and_parts (has_own_lines t) (list_all has_own_lines ts) own in
       (λ k next at. all_at (λ next. is_command_of t.label (line next.1)) t.lines k next parts.0 at, right_tasks ts parts.1 times)
 
 -- the first lanes of a proper plan have different labels

@@ -1,7 +1,9 @@
 -- Serial orders: what a line leaves as it is, and a task that is left within a turn, which gives in
 -- the end.
 use Rattle.std.proofs.Common.{◌≡◌, ℕ, zero, suc, ◌+◌, ◌-◌, ◌==◌, Bool, true, false, not, ◌&&◌, ◌||◌, ◌⊎◌, List, [], ◌∷◌, ◌++◌, map, length, drop, Option, None, Some, option_map, option_and_then, Result, Ok, Err, refl, ap, sym, ◌∙◌, arith, subst, inl, inr}
-use Rattle.std.proofs.lemmas.Bool.{and_parts, eqb-true, eqb-false, ne_eqb}
+use Rattle.std.proofs.lemmas.Bool.{and_parts, and_left, and_right, or_parts, not-true, eqb-true, eqb-false, ne_eqb}
+use Rattle.std.proofs.lemmas.List.{length-map, map-set}
+use Rattle.std.proofs.lemmas.Option.{slice_get-map}
 use Rattle.std.specs.Prelude.{if◌then◌else◌, is_some, is_none, slice_get, slice_set}
 use Rattle.std.specs.List.{list_all, list_any}
 use Rattle.cics_names.specs.Keyed.{Bytes, is_same}
@@ -29,105 +31,18 @@ use Rattle.cics_plans.specs.Taking.{NumberedLine, has_task}
 use Rattle.cics_plans.specs.Proper.{is_command_of, is_timing, has_own_lines, are_distinct, is_proper}
 use Rattle.cics_plans.specs.declared.plans.Plan.{Plan}
 use Rattle.cics_plans.specs.declared.plans.TaskPlan.{TaskPlan}
-use Rattle.cics_orders.specs.Giving.{State, is_of, told_more, with_told, hearing, shut, issuing, timing, shutting, left_by, after_line, late, resumed, drain_step, told_by, drained_once, after_step, drained_within, drained, may_give, is_ready, givers, is_lane, with_given, counted, ends_turn, given_line, given_by, given, lanes, task_lane, fresh_lane, initial_lanes, initial_state}
+use Rattle.cics_orders.specs.Giving.{State, is_of, told_more, with_told, hearing, issuing, timing, left_by, after_line, late, resumed, drain_step, told_by, drained_once, after_step, drained_within, drained, may_give, is_ready, givers, is_lane, with_given, counted, ends_turn, given, lanes, task_lane, fresh_lane, initial_lanes, initial_state}
 use Rattle.cics_plans.proofs.Proper.{Proper, proper_parts, has_first}
 use Rattle.cics_orders.specs.declared.lanes.Lane.{Lane}
 use Rattle.cics_orders.specs.Turns.{is_shutdown, has_shutdown, may_go_on, turn_goes_on, lane_breaks, breaks}
 use Rattle.cics_orders.specs.Ended.{ended_task}
 use Rattle.cics_orders.specs.EndedTasks.{still_waits, Tells, itself, abends, tells, tells_checked}
-use Rattle.cics_orders.specs.EndedLanes.{Fits, free_waits, late_waits, not_ended, line_fits, once_fits, drained_fits, lanes_given, start_fits, none_waits}
-
--- ---- What no event changes of lanes
-
--- the gist of a lane: what no event changes of it
-pub record Gist : Type 0 where
-  pub label : Option Bytes
-  pub lines : List NumberedLine
-  pub given : ℕ
-  pub is_in_turn : Bool
-
--- the gist of this lane
-abbrev pub gist : Lane → Gist
-gist x = record { label = x.label; lines = x.lines; given = x.given; is_in_turn = x.is_in_turn }
-
--- a state after events: the same plan, and lanes that have given as much
-pub record Stays (s t : State) : Type 0 where
-  pub plan : t.plan ≡ s.plan
-  pub last : t.last ≡ s.last
-  pub serial : t.is_serial ≡ s.is_serial
-  pub gists : map gist t.lanes ≡ map gist s.lanes
-
-stays : (s : State) → Stays s s
-stays s = record { plan = refl; last = refl; serial = refl; gists = refl }
-
-stays_then : (s t u : State) → Stays s t → Stays t u → Stays s u
-stays_then s t u a b = record { plan = b.plan ∙ a.plan; last = b.last ∙ a.last; serial = b.serial ∙ a.serial; gists = b.gists ∙ a.gists }
-
-gists_told : (xs : List Lane) (label : Bytes) (o : Outcome) → map gist (with_told xs label o) ≡ map gist xs
-gists_told [] label o = refl
-gists_told (x ∷ xs) label o = by (gists_told xs label o) (is_of x label)
-  where
-    by : map gist (with_told xs label o) ≡ map gist xs → (b : Bool) → map gist (if b then told_more x o ∷ xs else x ∷ with_told xs label o) ≡ map gist (x ∷ xs)
-    by rest true = refl
-    by rest false = ap (λ gs. gist x ∷ gs) rest
-
-gists_hearing : (xs : List Lane) (label : Bytes) (o : Outcome) → map gist (hearing xs label o) ≡ map gist xs
-gists_hearing xs label (Replied reply) = gists_told xs label (Replied reply)
-gists_hearing xs label (Waiting holder) = refl
-gists_hearing xs label (Abended code reply) = gists_told xs label (Abended code reply)
-gists_hearing xs label Ended = gists_told xs label Ended
-
-gists_shut : (xs : List Lane) → map gist (map shut xs) ≡ map gist xs
-gists_shut [] = refl
-gists_shut (x ∷ xs) = ap (λ gs. gist x ∷ gs) (gists_shut xs)
-
-stays_by : {X : Type 0} (s : State) (told : X → List Lane) (r : Result X Refused) (m : Machine) → ((x : X) → map gist (told x) ≡ map gist s.lanes) → Stays s (left_by s told r m)
-stays_by s told (Ok x) m same = record { plan = refl; last = refl; serial = refl; gists = same x }
-stays_by s told (Err e) m same = stays s
-
-stays_line : (s : State) (r : Result Line LineFault) → Stays s (after_line s r)
-stays_line s (Ok (says.Issue label command)) =
-    let step = issuing s.machine label command in stays_by s (hearing s.lanes label) step.outcome step.machine (λ o. gists_hearing s.lanes label o)
-stays_line s (Ok (says.Clock seconds)) = let step = timing s.machine seconds in stays_by s (λ _. s.lanes) step.outcome step.machine (λ _. refl)
-stays_line s (Ok says.Shutdown) = let step = shutting s.machine in stays_by s (λ _. map shut s.lanes) step.outcome step.machine (λ _. gists_shut s.lanes)
-stays_line s (Ok says.Blank) = stays s
-stays_line s (Ok (says.DefineFile name d)) = stays s
-stays_line s (Ok (says.DefineTsPrefix prefix)) = stays s
-stays_line s (Ok (says.DefineTd name recovery)) = stays s
-stays_line s (Ok (says.LoadFile name content)) = stays s
-stays_line s (Ok (says.LoadTd name content)) = stays s
-stays_line s (Ok (says.Attach label transaction dtimout)) = stays s
-stays_line s (Err fault) = stays s
-
-stays_once : (s t : State) → drained_once s ≡ Some t → Stays s t
-unfolding drained_once
-stays_once s t = by (drain_step s.machine).outcome
-  where
-    by : (o : Option (Bytes × Outcome)) → told_by s o (drain_step s.machine).machine ≡ Some t → Stays s t
-    by (Some told) is =
-        let same : record s { machine = (drain_step s.machine).machine; lanes = hearing s.lanes told.0 told.1 } ≡ t = cc in
-        subst (Stays s) same (record { plan = refl; last = refl; serial = refl; gists = gists_hearing s.lanes told.0 told.1 })
-    by None is = cc
-
-stays_within : (n : ℕ) (s : State) → Stays s (drained_within n s)
-unfolding drained_within
-stays_within zero s = stays s
-stays_within (suc n) s = by (stays_within n) (drained_once s) refl
-  where
-    by : ((t : State) → Stays t (drained_within n t)) → (o : Option State) → drained_once s ≡ o → Stays s (after_step s o (drained_within n))
-    by rest None is = stays s
-    by rest (Some t) is = stays_then s t (drained_within n t) (stays_once s t is) (rest t)
-
-stays_drained : (s : State) → Stays s (drained s)
-unfolding drained
-stays_drained s = stays_within (length s.machine.waiting) s
+use Rattle.cics_orders.specs.EndedLanes.{Fits, free_waits, late_waits, not_ended, line_fits, once_fits, drained_fits, lanes_given, start_fits}
+use Rattle.cics_orders.specs.Gists.{Gist, gist, Stays, stays_line, stays_once, Gave, gave, gave_at, gives_line, stays_given}
+use Rattle.cics_orders.specs.GivenLanes.{frame, gist_cores, core_frames, frames_given, frames_initial, all_at}
+use Rattle.cics_orders.specs.Ways.{none_waits}
 
 -- ---- Elements of a changed list
-
-map_set : {X Y : Type 0} (f : X → Y) (xs : List X) (l : ℕ) (y : X) → map f (slice_set xs l y) ≡ slice_set (map f xs) l (f y)
-map_set f [] l y = refl
-map_set f (x ∷ xs) zero y = refl
-map_set f (x ∷ xs) (suc l) y = ap (λ ys. f x ∷ ys) (map_set f xs l y)
 
 -- an element is that which was put, or was there before
 set_at : {X : Type 0} (xs : List X) (l : ℕ) (y : X) (j : ℕ) (z : X) → slice_get (slice_set xs l y) j ≡ Some z → (y ≡ z) ⊎ (slice_get xs j ≡ Some z)
@@ -145,68 +60,27 @@ set_other (x ∷ xs) (suc l) y zero other = refl
 set_other (x ∷ xs) (suc l) y (suc k) other = set_other xs l y k (λ e. other (ap suc e))
 
 map_at : {X Y : Type 0} (f : X → Y) (xs : List X) (k : ℕ) (x : X) → slice_get xs k ≡ Some x → slice_get (map f xs) k ≡ Some (f x)
-map_at f [] k x is = cc
-map_at f (y ∷ ys) zero x is = let same : y ≡ x = cc in ap (λ x. Some (f x)) same
-map_at f (y ∷ ys) (suc k) x is = map_at f ys k x is
+map_at f xs k x is = slice_get-map f xs k ∙ ap (option_map f) is
 
 at_map : {X Y : Type 0} (f : X → Y) (xs : List X) (k : ℕ) (y : Y) → slice_get (map f xs) k ≡ Some y → (x : X) × (slice_get xs k ≡ Some x) × (f x ≡ y)
 at_map f [] k y is = cc
 at_map f (x ∷ xs) zero y is = let same : f x ≡ y = cc in (x, refl, same)
 at_map f (x ∷ xs) (suc k) y is = at_map f xs k y is
 
--- ---- A lane gives a line
-
--- a lane gave a line, or it had none left and nothing changed
-record Gave (s : State) (l : ℕ) (x : Lane) (next : NumberedLine) : Type 0 where
-  pub at : slice_get s.lanes l ≡ Some x
-  pub line_at : slice_get x.lines x.given ≡ Some next
-  pub is : given s l ≡ drained (after_line (counted s l x (ends_turn (line next.1))) (line next.1))
-
-given_is : (s : State) (l : ℕ) (o : Option Lane) → slice_get s.lanes l ≡ o → given s l ≡ given_by s l o
-unfolding given
-given_is s l o at = ap (given_by s l) at
-
-gave : (s : State) (l : ℕ) → (given s l ≡ s) ⊎ ((x : Lane) × (next : NumberedLine) × Gave s l x next)
-gave s l = by (slice_get s.lanes l) refl
-  where
-    more : (x : Lane) → slice_get s.lanes l ≡ Some x → (o : Option NumberedLine) → slice_get x.lines x.given ≡ o → (given s l ≡ s) ⊎ ((x : Lane) × (next : NumberedLine) × Gave s l x next)
-    more x at None none = inl (given_is s l (Some x) at ∙ ap (given_line s l x) none)
-    more x at (Some next) found = inr (x, next, record { at = at; line_at = found; is = given_is s l (Some x) at ∙ ap (given_line s l x) found })
-
-    by : (o : Option Lane) → slice_get s.lanes l ≡ o → (given s l ≡ s) ⊎ ((x : Lane) × (next : NumberedLine) × Gave s l x next)
-    by None at = inl (given_is s l None at)
-    by (Some x) at = more x at (slice_get x.lines x.given) refl
-
--- the state after it
-stays_given : (s : State) (l : ℕ) (x : Lane) (next : NumberedLine) → Gave s l x next → Stays (counted s l x (ends_turn (line next.1))) (given s l)
-stays_given s l x next gave =
-    let c = counted s l x (ends_turn (line next.1)) in
-    subst (Stays c) (sym gave.is) (stays_then c (after_line c (line next.1)) (drained (after_line c (line next.1))) (stays_line c (line next.1)) (stays_drained (after_line c (line next.1))))
-
 -- ---- The states of orders
-
--- the label and the lines of a gist
-abbrev pub shape : Gist → Option Bytes × List NumberedLine
-shape g = (g.label, g.lines)
 
 -- the lanes are those of the plan, and the clock is within no turn
 pub record Sound (s : State) : Type 0 where
   pub fits : Fits s
-  pub own : map shape (map gist s.lanes) ≡ map shape (map gist (initial_lanes s.plan))
+  pub frames : map frame s.lanes ≡ initial_lanes s.plan
   pub turns : (j : ℕ) (g : Gist) → slice_get (map gist s.lanes) j ≡ Some g → g.label ≡ None → g.is_in_turn ≡ false
 
 sound_stays : (s t : State) → Stays s t → Fits t → Sound s → Sound t
 sound_stays s t same fits sound = record {
   fits = fits;
-  own = ap (map shape) same.gists ∙ sound.own ∙ ap (λ p. map shape (map gist (initial_lanes p))) (sym same.plan);
+  frames = core_frames t.lanes s.lanes (gist_cores t.lanes s.lanes same.gists) ∙ sound.frames ∙ ap initial_lanes (sym same.plan);
   turns = λ j g at. sound.turns j g (ap (λ gs. slice_get gs j) (sym same.gists) ∙ at);
 }
-
-shapes_set : (xs : List Lane) (l : ℕ) (x : Lane) (ends : Bool) → slice_get xs l ≡ Some x → map shape (map gist (slice_set xs l (with_given x ends))) ≡ map shape (map gist xs)
-shapes_set [] l x ends at = refl
-shapes_set (y ∷ ys) zero x ends at =
-    let same : y ≡ x = cc in ap (λ (x : Lane). shape (gist x) ∷ map shape (map gist ys)) (sym same)
-shapes_set (y ∷ ys) (suc l) x ends at = ap (λ gs. shape (gist y) ∷ gs) (shapes_set ys l x ends at)
 
 no_turn : (label : Option Bytes) (ends : Bool) → label ≡ None → is_some label && not ends ≡ false
 no_turn None ends is = refl
@@ -218,8 +92,8 @@ counted_fits s l x ends at fits = record { agrees = λ y. lanes_given s.lanes l 
 sound_counted : (s : State) (l : ℕ) (x : Lane) (ends : Bool) → slice_get s.lanes l ≡ Some x → Sound s → Sound (counted s l x ends)
 sound_counted s l x ends at sound = record {
   fits = counted_fits s l x ends at sound.fits;
-  own = shapes_set s.lanes l x ends at ∙ sound.own;
-  turns = λ j g is. by j g (set_at (map gist s.lanes) l (gist (with_given x ends)) j g (ap (λ gs. slice_get gs j) (sym (map_set gist s.lanes l (with_given x ends))) ∙ is));
+  frames = frames_given s.lanes l x ends at ∙ sound.frames;
+  turns = λ j g is. by j g (set_at (map gist s.lanes) l (gist (with_given x ends)) j g (ap (λ gs. slice_get gs j) (sym (map-set gist s.lanes l (with_given x ends))) ∙ is));
 }
   where
     by : (j : ℕ) (g : Gist) → (gist (with_given x ends) ≡ g) ⊎ (slice_get (map gist s.lanes) j ≡ Some g) → g.label ≡ None → g.is_in_turn ≡ false
@@ -251,21 +125,13 @@ fresh_turns (t ∷ ts) clock (suc j) g at = fresh_turns ts clock j g at
 -- the initial state of a plan is sound
 pub start_sound : (p : Plan) → Sound (initial_state p)
 unfolding initial_state
-start_sound p = record { fits = start_fits p; own = refl; turns = λ j g at none. fresh_turns p.tasks p.clock j g at }
+start_sound p = record { fits = start_fits p; frames = frames_initial p; turns = λ j g at none. fresh_turns p.tasks p.clock j g at }
 
 -- ---- Serial or not
 
 -- whether the order is serial after a line
 serial_given : (s : State) (l : ℕ) (x : Lane) (next : NumberedLine) → Gave s l x next → (given s l).is_serial ≡ (s.is_serial && (not x.is_in_turn || is_lane s.last l))
 serial_given s l x next gave = (stays_given s l x next gave).serial
-
-never : (a b : Bool) → a ≡ false → a && b ≡ false
-never true b is = cc
-never false b is = refl
-
-never_right : (a b : Bool) → b ≡ false → a && b ≡ false
-never_right true b is = is
-never_right false b is = refl
 
 always : (a b : Bool) → b ≡ true → a && b ≡ a
 always true b is = is
@@ -277,13 +143,13 @@ lost_given s l lost = by (gave s l)
   where
     by : (given s l ≡ s) ⊎ ((x : Lane) × (next : NumberedLine) × Gave s l x next) → (given s l).is_serial ≡ false
     by (inl same) = ap (λ (s : State). s.is_serial) same ∙ lost
-    by (inr (x, next, gave)) = serial_given s l x next gave ∙ never s.is_serial (not x.is_in_turn || is_lane s.last l) lost
+    by (inr (x, next, gave)) = serial_given s l x next gave ∙ and_left s.is_serial (not x.is_in_turn || is_lane s.last l) lost
 
 -- a lane within a turn that didn't give last makes it so
 loses : (s : State) (l : ℕ) (x : Lane) (next : NumberedLine) → Gave s l x next → x.is_in_turn ≡ true → is_lane s.last l ≡ false → (given s l).is_serial ≡ false
 loses s l x next gave turn other =
     serial_given s l x next gave
-    ∙ never_right s.is_serial (not x.is_in_turn || is_lane s.last l) (ap (λ b. not b || is_lane s.last l) turn ∙ other)
+    ∙ and_right s.is_serial (not x.is_in_turn || is_lane s.last l) (ap (λ b. not b || is_lane s.last l) turn ∙ other)
 
 -- ---- A task that is left within its turn
 
@@ -505,25 +371,18 @@ module _ (k : ℕ) (label : Bytes) (x : Lane) (within : Within label x) where
 
 -- ---- The lines that are left
 
-neither : (a b : Bool) → a || b ≡ false → (a ≡ false) × (b ≡ false)
-neither true b is = cc
-neither false b is = (refl, is)
-
 threaten_next : (label : Bytes) (lines : List NumberedLine) (n : ℕ) (next : NumberedLine) → slice_get lines n ≡ Some next → threaten label (drop n lines) ≡ false →
     (threatens label (line next.1) ≡ false) × (threaten label (drop (suc n) lines) ≡ false)
 threaten_next label [] n next at none = cc
 threaten_next label (y ∷ ys) zero next at none =
     let same : y ≡ next = cc in
-    let split = neither (threatens label (line y.1)) (threaten label ys) none in (ap (λ (y : NumberedLine). threatens label (line y.1)) (sym same) ∙ split.0, split.1)
+    let split = or_parts (threatens label (line y.1)) (threaten label ys) none in (ap (λ (y : NumberedLine). threatens label (line y.1)) (sym same) ∙ split.0, split.1)
 threaten_next label (y ∷ ys) (suc n) next at none = threaten_next label ys n next at none
 
 one_more : (n : ℕ) → n + 1 ≡ suc n
 one_more n = omega arith
 
 -- ---- Another lane gives
-
-gave_at : (s : State) (k : ℕ) (x : Lane) (next : NumberedLine) → slice_get s.lanes k ≡ Some x → slice_get x.lines x.given ≡ Some next → Gave s k x next
-gave_at s k x next at line_at = record { at = at; line_at = line_at; is = given_is s k (Some x) at ∙ ap (given_line s k x) line_at }
 
 module _ (k : ℕ) (label : Bytes) (x : Lane) (within : Within label x) (s : State) (sound : Sound s) (held : Held k label x s) (l : ℕ) (other : l ≡ k → ⊥) where
   -- its next line is no threat
@@ -534,7 +393,7 @@ module _ (k : ℕ) (label : Bytes) (x : Lane) (within : Within label x) (s : Sta
   held_counted y next ends gave = record {
     at = set_other s.lanes l (with_given y ends) k other ∙ held.at;
     awake = held.awake;
-    spared = λ j g at apart. by j g apart (set_at (map gist s.lanes) l (gist (with_given y ends)) j g (ap (λ gs. slice_get gs j) (sym (map_set gist s.lanes l (with_given y ends))) ∙ at));
+    spared = λ j g at apart. by j g apart (set_at (map gist s.lanes) l (gist (with_given y ends)) j g (ap (λ gs. slice_get gs j) (sym (map-set gist s.lanes l (with_given y ends))) ∙ at));
   }
     where
       by : (j : ℕ) (g : Gist) → (j ≡ k → ⊥) → (gist (with_given y ends) ≡ g) ⊎ (slice_get (map gist s.lanes) j ≡ Some g) → threaten label (drop g.given g.lines) ≡ false
@@ -640,7 +499,7 @@ lost_ends s (inr owes) none =
 any_drop : {X : Type 0} (test : X → Bool) (n : ℕ) (xs : List X) → list_any test xs ≡ false → list_any test (drop n xs) ≡ false
 any_drop test zero xs none = none
 any_drop test (suc n) [] none = none
-any_drop test (suc n) (x ∷ xs) none = any_drop test n xs (neither (test x) (list_any test xs) none).1
+any_drop test (suc n) (x ∷ xs) none = any_drop test n xs (or_parts (test x) (list_any test xs) none).1
 
 own_command : (own label : Bytes) (r : Result Line LineFault) → is_same own label ≡ false → is_command_of own r ≡ true → threatens label r ≡ false
 own_command own label (Ok (says.Issue by command)) other is = ap (λ l. is_same l label) (is_same-eq by own is) ∙ other
@@ -679,7 +538,7 @@ clock_spares label zero [] all none = refl
 clock_spares label (suc n) [] all none = refl
 clock_spares label zero (next ∷ lines) all none =
     let split = and_parts (is_timing (line next.1)) (list_all (λ next. is_timing (line next.1)) lines) all in
-    let left = neither (is_shutdown (line next.1)) (has_shutdown lines) none in
+    let left = or_parts (is_shutdown (line next.1)) (has_shutdown lines) none in
     ap (λ b. b || threaten label lines) (timing_spares label (line next.1) split.0 left.0) ∙ clock_spares label zero lines split.1 left.1
 clock_spares label (suc n) (next ∷ lines) all none =
     clock_spares label n lines (and_parts (is_timing (line next.1)) (list_all (λ next. is_timing (line next.1)) lines) all).1 none
@@ -695,45 +554,36 @@ has_at (t ∷ ts) label k u none at = by (λ k. has_at ts label k u) (is_same t.
     by rest false is none zero at = let same : t ≡ u = cc in ap (λ (t : TaskPlan). is_same t.label label) (sym same) ∙ is
     by rest false is none (suc k) at = rest k none at
 
-off : (b : Bool) → not b ≡ true → b ≡ false
-off true is = cc
-off false is = refl
-
 apart : (ts : List TaskPlan) (j k : ℕ) (t u : TaskPlan) → are_distinct ts ≡ true → slice_get ts j ≡ Some t → slice_get ts k ≡ Some u → (j ≡ k → ⊥) → is_same t.label u.label ≡ false
 apart [] j k t u distinct at_j at_k other = cc
 apart (v ∷ ts) zero zero t u distinct at_j at_k other = absurd (other refl)
 apart (v ∷ ts) zero (suc k) t u distinct at_j at_k other =
     let same : v ≡ t = cc in
     let split = and_parts (not (has_task ts v.label)) (are_distinct ts) distinct in
-    ap (λ (v : TaskPlan). is_same v.label u.label) (sym same) ∙ other_way u.label v.label (has_at ts v.label k u (off (has_task ts v.label) split.0) at_k)
+    ap (λ (v : TaskPlan). is_same v.label u.label) (sym same) ∙ other_way u.label v.label (has_at ts v.label k u (not-true (has_task ts v.label) split.0) at_k)
 apart (v ∷ ts) (suc j) zero t u distinct at_j at_k other =
     let same : v ≡ u = cc in
     let split = and_parts (not (has_task ts v.label)) (are_distinct ts) distinct in
-    ap (λ (v : TaskPlan). is_same t.label v.label) (sym same) ∙ has_at ts v.label j t (off (has_task ts v.label) split.0) at_j
+    ap (λ (v : TaskPlan). is_same t.label v.label) (sym same) ∙ has_at ts v.label j t (not-true (has_task ts v.label) split.0) at_j
 apart (v ∷ ts) (suc j) (suc k) t u distinct at_j at_k other =
     apart ts j k t u (and_parts (not (has_task ts v.label)) (are_distinct ts) distinct).1 at_j at_k (λ e. other (ap suc e))
 
--- each lane is that of a task, or the clock's
-abbrev FromTask : List TaskPlan → ℕ → Option Bytes × List NumberedLine → Type 0
-FromTask ts j h = (t : TaskPlan) × (slice_get ts j ≡ Some t) × (shape (gist (task_lane t)) ≡ h)
+-- a lane before its first line is that of a task, or the clock's
+abbrev FromTask : List TaskPlan → ℕ → Lane → Type 0
+FromTask ts j f = (t : TaskPlan) × (slice_get ts j ≡ Some t) × (task_lane t ≡ f)
 
-abbrev FromClock : List TaskPlan → List NumberedLine → ℕ → Option Bytes × List NumberedLine → Type 0
-FromClock ts clock j h = (j ≡ length ts) × (shape (gist (fresh_lane None clock)) ≡ h)
+abbrev FromClock : List TaskPlan → List NumberedLine → ℕ → Lane → Type 0
+FromClock ts clock j f = (j ≡ length ts) × (fresh_lane None clock ≡ f)
 
-from_plan : (ts : List TaskPlan) (clock : List NumberedLine) (j : ℕ) (h : Option Bytes × List NumberedLine) →
-    slice_get (map shape (map gist (map task_lane ts ++ fresh_lane None clock ∷ []))) j ≡ Some h → FromTask ts j h ⊎ FromClock ts clock j h
-from_plan [] clock zero h at = let same : shape (gist (fresh_lane None clock)) ≡ h = cc in inr (refl, same)
-from_plan [] clock (suc j) h at = cc
-from_plan (t ∷ ts) clock zero h at = let same : shape (gist (task_lane t)) ≡ h = cc in inl (t, refl, same)
-from_plan (t ∷ ts) clock (suc j) h at = by (from_plan ts clock j h at)
+from_plan : (ts : List TaskPlan) (clock : List NumberedLine) (j : ℕ) (f : Lane) → slice_get (map task_lane ts ++ fresh_lane None clock ∷ []) j ≡ Some f → FromTask ts j f ⊎ FromClock ts clock j f
+from_plan [] clock zero f at = let same : fresh_lane None clock ≡ f = cc in inr (refl, same)
+from_plan [] clock (suc j) f at = cc
+from_plan (t ∷ ts) clock zero f at = let same : task_lane t ≡ f = cc in inl (t, refl, same)
+from_plan (t ∷ ts) clock (suc j) f at = by (from_plan ts clock j f at)
   where
-    by : FromTask ts j h ⊎ FromClock ts clock j h → FromTask (t ∷ ts) (suc j) h ⊎ FromClock (t ∷ ts) clock (suc j) h
+    by : FromTask ts j f ⊎ FromClock ts clock j f → FromTask (t ∷ ts) (suc j) f ⊎ FromClock (t ∷ ts) clock (suc j) f
     by (inl task) = inl task
     by (inr (is, same)) = inr (ap suc is, same)
-
-shape_count : (xs : List Lane) → length (map shape (map gist xs)) ≡ length xs
-shape_count [] = refl
-shape_count (x ∷ xs) = ap suc (shape_count xs)
 
 lane_count : (ts : List TaskPlan) (clock : List NumberedLine) → length (map task_lane ts ++ fresh_lane None clock ∷ []) ≡ suc (length ts)
 lane_count [] clock = refl
@@ -743,51 +593,44 @@ module _ (s : State) (sound : Sound s) (proper : Proper s.plan) where
   abbrev tasks : List TaskPlan
   tasks = s.plan.tasks
 
-  from : (j : ℕ) (g : Gist) → slice_get (map gist s.lanes) j ≡ Some g → FromTask tasks j (shape g) ⊎ FromClock tasks s.plan.clock j (shape g)
-  from j g at = from_plan tasks s.plan.clock j (shape g) (ap (λ hs. slice_get hs j) (sym sound.own) ∙ map_at shape (map gist s.lanes) j g at)
+  from : (j : ℕ) (y : Lane) → slice_get s.lanes j ≡ Some y → FromTask tasks j (frame y) ⊎ FromClock tasks s.plan.clock j (frame y)
+  from j y at = from_plan tasks s.plan.clock j (frame y) (ap (λ fs. slice_get fs j) (sym sound.frames) ∙ map_at frame s.lanes j y at)
 
   how_many : length s.lanes ≡ suc (length tasks)
-  how_many = sym (shape_count s.lanes) ∙ ap length sound.own ∙ shape_count (initial_lanes s.plan) ∙ lane_count tasks s.plan.clock
-
-  all_at : (j : ℕ) (t : TaskPlan) (ts : List TaskPlan) → list_all has_own_lines ts ≡ true → slice_get ts j ≡ Some t → has_own_lines t ≡ true
-  all_at j t [] all at = cc
-  all_at zero t (u ∷ us) all at = let same : u ≡ t = cc in ap has_own_lines (sym same) ∙ (and_parts (has_own_lines u) (list_all has_own_lines us) all).0
-  all_at (suc j) t (u ∷ us) all at = all_at j t us (and_parts (has_own_lines u) (list_all has_own_lines us) all).1 at
+  how_many = sym (length-map s.lanes frame) ∙ ap length sound.frames ∙ lane_count tasks s.plan.clock
 
   -- no other lane ends the task of a label, if no shutdown is left
   spares : (k : ℕ) (label : Bytes) (x clock : Lane) → slice_get s.lanes k ≡ Some x → x.label ≡ Some label → slice_get s.lanes (length s.lanes - 1) ≡ Some clock →
       has_shutdown (drop clock.given s.plan.clock) ≡ false → Spared k label (map gist s.lanes)
-  spares k label x clock at_k own at_clock none j g at other = by (from k (gist x) (map_at gist s.lanes k x at_k)) (from j g at)
+  spares k label x clock at_k own at_clock none j g at other =
+      let (y, at_y, is) = at_map gist s.lanes j g at in
+      ap (λ (g : Gist). threaten label (drop g.given g.lines)) (sym is) ∙ by y at_y (from k x at_k) (from j y at_y)
     where
-      task : (u : TaskPlan) → slice_get tasks k ≡ Some u → u.label ≡ label → FromTask tasks j (shape g) → threaten label (drop g.given g.lines) ≡ false
-      task u at_u is (t, at_t, same) =
-          let lines : t.lines ≡ g.lines = ap (λ (h : Option Bytes × List NumberedLine). h.1) same in
-          ap (λ ls. threaten label (drop g.given ls)) (sym lines)
-          ∙ any_drop (λ (next : NumberedLine). threatens label (line next.1)) g.given t.lines
-          (own_spares t.label label t.lines (ap (is_same t.label) (sym is) ∙ apart tasks j k t u proper.distinct at_t at_u other) (all_at j t tasks proper.own at_t))
+      task : (y : Lane) (u : TaskPlan) → slice_get tasks k ≡ Some u → u.label ≡ label → FromTask tasks j (frame y) → threaten label (drop y.given y.lines) ≡ false
+      task y u at_u is (t, at_t, same) =
+          ap (λ (f : Lane). threaten label (drop y.given f.lines)) (sym same)
+          ∙ any_drop (λ (next : NumberedLine). threatens label (line next.1)) y.given t.lines
+          (own_spares t.label label t.lines (ap (is_same t.label) (sym is) ∙ apart tasks j k t u proper.distinct at_t at_u other) (all_at has_own_lines tasks j t proper.own at_t))
 
-      of_clock : FromClock tasks s.plan.clock j (shape g) → threaten label (drop g.given g.lines) ≡ false
-      of_clock (is, same) =
-          let lines : s.plan.clock ≡ g.lines = ap (λ (h : Option Bytes × List NumberedLine). h.1) same in
-          let place : length s.lanes - 1 ≡ j = omega (arith, how_many, is) in
-          let found = at_map gist s.lanes j g at in
-          let one : found.0 ≡ clock = only found.0 (sym found.1 ∙ ap (slice_get s.lanes) (sym place) ∙ at_clock) in
-          let given : clock.given ≡ g.given = ap (λ (y : Lane). y.given) (sym one) ∙ ap (λ (g : Gist). g.given) found.2 in
-          ap (λ ls. threaten label (drop g.given ls)) (sym lines) ∙ ap (λ n. threaten label (drop n s.plan.clock)) (sym given)
+      of_clock : (y : Lane) → slice_get s.lanes j ≡ Some y → FromClock tasks s.plan.clock j (frame y) → threaten label (drop y.given y.lines) ≡ false
+      of_clock y at_y (is, same) =
+          let last : length s.lanes - 1 ≡ j = omega (arith, how_many, is) in
+          let one : y ≡ clock = only (sym at_y ∙ ap (slice_get s.lanes) (sym last) ∙ at_clock) in
+          ap (λ (f : Lane). threaten label (drop y.given f.lines)) (sym same) ∙ ap (λ (z : Lane). threaten label (drop z.given s.plan.clock)) one
           ∙ clock_spares label clock.given s.plan.clock proper.clock none
         where
-          only : (y : Lane) → Some y ≡ Some clock → y ≡ clock
-          only y is = cc
+          only : Some y ≡ Some clock → y ≡ clock
+          only is = cc
 
-      by : FromTask tasks k (shape (gist x)) ⊎ FromClock tasks s.plan.clock k (shape (gist x)) → FromTask tasks j (shape g) ⊎ FromClock tasks s.plan.clock j (shape g) →
-          threaten label (drop g.given g.lines) ≡ false
-      by (inr (is, same)) from_j =
-          let clash : None ≡ Some label = ap (λ (h : Option Bytes × List NumberedLine). h.0) same ∙ own in cc
-      by (inl (u, at_u, same)) (inl from_j) = task u at_u (some (ap (λ (h : Option Bytes × List NumberedLine). h.0) same ∙ own)) from_j
+      by : (y : Lane) → slice_get s.lanes j ≡ Some y → FromTask tasks k (frame x) ⊎ FromClock tasks s.plan.clock k (frame x) →
+          FromTask tasks j (frame y) ⊎ FromClock tasks s.plan.clock j (frame y) → threaten label (drop y.given y.lines) ≡ false
+      by y at_y (inr (is, same)) from_j =
+          let clash : None ≡ Some label = ap (λ (f : Lane). f.label) same ∙ own in cc
+      by y at_y (inl (u, at_u, same)) (inl from_j) = task y u at_u (some (ap (λ (f : Lane). f.label) same ∙ own)) from_j
         where
           some : Some u.label ≡ Some label → u.label ≡ label
           some is = cc
-      by (inl from_k) (inr from_j) = of_clock from_j
+      by y at_y (inl from_k) (inr from_j) = of_clock y at_y from_j
 
 -- ---- Lanes that break serial orders
 
@@ -802,7 +645,7 @@ unfolding breaks
 breaks_so s l y at is =
     let split = and_parts (is_some y.label && not (is_lane s.last l)) (y.is_in_turn || turn_goes_on s) (ap (lane_breaks s l) (sym at) ∙ is) in
     let first = and_parts (is_some y.label) (not (is_lane s.last l)) split.0 in
-    record { task = first.0; other = off (is_lane s.last l) first.1; turn = split.1 }
+    record { task = first.0; other = not-true (is_lane s.last l) first.1; turn = split.1 }
 
 -- what it is for a turn to go on
 record GoesOn (s : State) (k : ℕ) (x clock : Lane) : Type 0 where
@@ -828,7 +671,7 @@ goes_on s is =
           k,
           x,
           c,
-          record { proper = proper; last = last; at = at; at_clock = at_clock; turn = first.0; may = first.1; none = off (has_shutdown (drop c.given s.plan.clock)) split.1 },
+          record { proper = proper; last = last; at = at; at_clock = at_clock; turn = first.0; may = first.1; none = not-true (has_shutdown (drop c.given s.plan.clock)) split.1 },
         )
 
     lane : (k : ℕ) → is_proper s.plan ≡ true → s.last ≡ Some k → (o : Option Lane) → slice_get s.lanes k ≡ o → may_go_on s o (slice_get s.lanes (length s.lanes - 1)) ≡ true →
@@ -858,7 +701,7 @@ within_turn m x turns turn may = by x.label refl
         let ready = and_parts (not x.has_ended) (is_none (waiting_command m label)) (ap (is_ready m x.has_ended) (sym own) ∙ split.1) in
         let next = there (slice_get x.lines x.given) split.0 in (
           label,
-          record { own = own; alive = off x.has_ended ready.0; turn = turn; next = next.0; line_at = next.1 },
+          record { own = own; alive = not-true x.has_ended ready.0; turn = turn; next = next.0; line_at = next.1 },
           none_waits m.waiting label ready.1,
         )
 
@@ -894,14 +737,6 @@ lost_broken s l y next sound gave is = by y.is_in_turn refl broken.turn
     by : (b : Bool) → y.is_in_turn ≡ b → b || turn_goes_on s ≡ true → Lost (given s l)
     by true turn all = inl (loses s l y next gave turn broken.other)
     by false turn on = let found = goes_on s on in inr (left found.0 found.1 found.2 found.3)
-
--- a lane that may give has a line left
-gives_line : (s : State) (l : ℕ) (y : Lane) → slice_get s.lanes l ≡ Some y → may_give s.machine y ≡ true → (next : NumberedLine) × Gave s l y next
-gives_line s l y at may = by (slice_get y.lines y.given) refl (and_parts (is_some (slice_get y.lines y.given)) (is_ready s.machine y.has_ended y.label) may).0
-  where
-    by : (o : Option NumberedLine) → slice_get y.lines y.given ≡ o → is_some o ≡ true → (next : NumberedLine) × Gave s l y next
-    by None line_at is = cc
-    by (Some next) line_at is = (next, gave_at s l y next at line_at)
 
 -- after a lane that breaks it no order that ends is serial
 pub broken_ends : (s : State) (l : ℕ) (y : Lane) (q : Order) → Sound s → slice_get s.lanes l ≡ Some y → may_give s.machine y ≡ true → breaks s l ≡ true →

@@ -1,6 +1,7 @@
 -- Along each way a region is steady, lanes keep their labels and lines, and each waiting command is
 -- the one that the lane of its task gave last.
-use Rattle.std.proofs.Common.{◌≡◌, ℕ, zero, suc, ◌+◌, Bool, true, false, not, ◌&&◌, List, [], ◌∷◌, ◌++◌, map, length, Option, None, Some, option_map, Result, Ok, Err, refl, ap, sym, ◌∙◌, subst, inl, inr}
+use Rattle.std.proofs.Common.{◌≡◌, ℕ, zero, suc, Bool, true, false, not, ◌&&◌, List, [], ◌∷◌, ◌++◌, map, length, Option, None, Some, option_map, Result, Ok, Err, refl, ap, sym, ◌∙◌, subst, inl, inr}
+use Rattle.std.proofs.lemmas.Bool.{and_parts}
 use Rattle.std.specs.Prelude.{if◌then◌else◌, is_none, is_some, slice_get}
 use Rattle.std.specs.List.{fold}
 use Rattle.cics_names.specs.Keyed.{Bytes, Map, is_same, value_at, with_value, is_rising}
@@ -30,6 +31,7 @@ use Rattle.cics_script.specs.Lines.{line}
 use Rattle.cics_script.specs.declared.lines.Line.{Line}
 use Rattle.cics_script.specs.declared.lines.Line.TheVariants as says
 use Rattle.cics_script.specs.declared.faults.LineFault.{LineFault}
+use Rattle.cics_search.proofs.Regrouping.{Each}
 use Rattle.cics_lanes.specs.Orders.{Order, after, IsOneOf, IsWay}
 use Rattle.cics_plans.specs.Defining.{defined_by}
 use Rattle.cics_plans.specs.Proper.{is_proper}
@@ -37,7 +39,7 @@ use Rattle.cics_plans.specs.Taking.{NumberedLine}
 use Rattle.cics_plans.specs.declared.plans.Plan.{Plan}
 use Rattle.cics_plans.specs.declared.plans.TaskPlan.{TaskPlan}
 use Rattle.cics_orders.specs.Giving.{State, is_of, hearing, shut, issuing, timing, shutting, attaching, left_by, after_line, late, resumed, drain_step, told_by, drained_once, after_step, drained_within, drained, is_ready, may_give, givers, ends_turn, counted, given_line, given_by, given, lanes, defined_more, opened, unless_refused, with_task, initial_lanes, initial_state}
-use Rattle.cics_orders.specs.OrderLaws.{Each, May, numbers_may, plan_stays}
+use Rattle.cics_orders.specs.OrderLaws.{May, numbers_may, plan_stays}
 use Rattle.cics_orders.specs.declared.lanes.Lane.{Lane}
 use Rattle.cics_orders.specs.Same.{SameState}
 use Rattle.cics_orders.specs.GivenLanes.{frame, core, core_hearing, core_shut, core_gave, core_frames, IsRight, AreApart, AreRight, apart_frames, right_frames, right_at, frames_given, command_given, waits_given, apart_initial, right_initial, frames_initial}
@@ -299,7 +301,7 @@ module _ (begun : OpeningState) where
 -- ---- A lane gives
 
 -- a task without a waiting command doesn't wait
-none_waits : (ws : List Suspended) (label : Bytes) → is_none (option_map (λ w. w.command) (wait_of ws label)) ≡ true → is_waiting ws label ≡ false
+pub none_waits : (ws : List Suspended) (label : Bytes) → is_none (option_map (λ w. w.command) (wait_of ws label)) ≡ true → is_waiting ws label ≡ false
 none_waits [] label none = refl
 none_waits (w ∷ ws) label none = by (none_waits ws label) (is_same w.label label) none
   where
@@ -307,10 +309,6 @@ none_waits (w ∷ ws) label none = by (none_waits ws label) (is_same w.label lab
         is_none (option_map (λ w. w.command) (if b then Some w else wait_of ws label)) ≡ true → (if b then true else is_waiting ws label) ≡ false
     by rest true none = cc
     by rest false none = rest none
-
-second_true : (a b : Bool) → (a && b) ≡ true → b ≡ true
-second_true true b is = is
-second_true false b is = cc
 
 -- whose lane it is
 of_label : (l : Option Bytes) (x : Lane) (label : Bytes) → is_of (record x { label = l }) label ≡ true → l ≡ Some label
@@ -333,7 +331,7 @@ module _ (begun : OpeningState) (fr : List Lane) (s : State) (l : ℕ) (x : Lane
   idle ready label own =
       let mine : x.label ≡ Some label = of_label x.label x label own in
       let told : is_ready s.machine x.has_ended (Some label) ≡ true = ap (is_ready s.machine x.has_ended) (sym mine) ∙ ready in
-      none_waits s.machine.waiting label (second_true (not x.has_ended) (is_none (waiting_command s.machine label)) told)
+      none_waits s.machine.waiting label (and_parts (not x.has_ended) (is_none (waiting_command s.machine label)) told).1
 
   counted_fits : (ends : Bool) → is_ready s.machine x.has_ended x.label ≡ true → Fits begun fr (counted s l x ends)
   counted_fits ends ready = record {
