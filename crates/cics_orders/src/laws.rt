@@ -2,16 +2,23 @@
 //!
 //! The contract of each function is a law, and its body is empty.
 
+ghost use Rattle.std.specs.Prelude.{◌≡◌, [], All};
 ghost use Rattle.cics_machine.specs.Waking.{IsAtRest};
-ghost use Rattle.cics_lanes.specs.Orders.{Order, after};
+ghost use Rattle.cics_lanes.specs.Orders.{Order, after, orders};
 ghost use Rattle.cics_plans.specs.declared.plans.Plan.{Plan};
-ghost use Rattle.cics_orders.specs.Giving.{lanes, initial_state};
+ghost use Rattle.cics_orders.specs.Giving.{lanes, initial_state, line_count};
 ghost use Rattle.cics_orders.specs.Ended.{AcceptsReady, Agrees};
 
 /// After each line of an order the region is at rest: no waiting command may resume, and no task
 /// has waited too long.
 pub fn orders_rest()
     ensures { (p : Plan) (o : Order) → IsAtRest (after lanes (initial_state p) o).machine }
+{}
+
+/// After each order of a plan no lane may give.
+pub fn orders_end()
+    ensures { (p : Plan) → All (λ o. lanes.givers (after lanes (initial_state p) o) 0 ≡ [])
+        (orders lanes (line_count p) (initial_state p)) }
 {}
 
 /// After every order the lanes and the region agree on which tasks have ended.

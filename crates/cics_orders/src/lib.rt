@@ -13,6 +13,6 @@ mod walks;
 
 pub use following::{Tells, ToldPlan, explore_script};
 pub use lanes::Lane;
-pub use laws::{lanes_tell_ended_tasks, lines_are_not_refused, orders_rest};
+pub use laws::{lanes_tell_ended_tasks, lines_are_not_refused, orders_end, orders_rest};
 pub use lines::Lines;
 pub use walks::Walker;
