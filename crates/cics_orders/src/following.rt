@@ -18,7 +18,7 @@ use cics_search::{Progress, Report, explore};
 use std::alloc::Global;
 use std::marker::Model;
 
-/// Tells the ending that the state of a walker is.
+/// Tells the ending of a walker's state.
 pub trait Tells {
     /// The parts in which the ending of a state is told.
     ghost told: { State → Parts };
@@ -143,7 +143,7 @@ impl<T: Tells> Walk for Following<T> {
 /// order that leads to it, and how many orders and serial orders do. They stand in the order of
 /// their first orders. `limit` and `progress` are those of `explore`.
 ///
-/// Errors: `NoMemory`.
+/// Errors: `NoMemory`, also if a definition of the plan has a fault.
 ///
 /// Cost: that of `explore`.
 pub fn explore_script<T: Tells + Drop, P: Progress>(

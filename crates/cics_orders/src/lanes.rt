@@ -64,12 +64,12 @@ impl Lane {
         }
     }
 
-    /// Counts one line more as given, which may end its task's turn.
+    /// Counts one more line as given, which may end its task's turn.
     pub(crate) fn give(&mut self, ends_turn: bool)
         requires { self.old.given < length self.old.lines }
         ensures { self.new ≡ with_given self.old ends_turn }
     {
-        // By this the prover sees that the count can't overflow.
+        // Not used: it shows the prover that the count can't overflow.
         let _left = self.lines.as_slice().len();
         self.given += 1;
         self.is_in_turn = self.label.is_some() && !ends_turn;
@@ -114,7 +114,7 @@ pub(crate) fn fresh_lanes(alloc: Global, lanes: &[Lane]) -> Result<Vec<Lane>, No
 }
 
 // Returns the index of the lane of a label.
-fn place_of(lanes: &[Lane], label: &Name8) -> Option<usize>
+fn index_of(lanes: &[Lane], label: &Name8) -> Option<usize>
     ensures { result ≡ first_place (λ lane. is_of lane label.now) lanes.now }
 {
     for i in 0..lanes.len() {
@@ -129,11 +129,8 @@ fn place_of(lanes: &[Lane], label: &Name8) -> Option<usize>
 pub(crate) fn tell(lanes: &mut Vec<Lane>, label: &Name8, outcome: Outcome) -> Result<(), NoMemory>
     ensures { OnOk result (lanes.new.items ≡ with_told lanes.old.items label.now outcome) }
 {
-    match place_of(lanes.as_slice(), label) {
-        Some(at) => {
-            lanes[at].tell(outcome)?;
-            Ok(())
-        }
+    match index_of(lanes.as_slice(), label) {
+        Some(at) => lanes[at].tell(outcome),
         None => Ok(()),
     }
 }
@@ -146,14 +143,6 @@ pub(crate) fn hear(lanes: &mut Vec<Lane>, label: &Name8, outcome: Outcome) -> Re
         Outcome::Waiting(_) => Ok(()),
         told => tell(lanes, label, told),
     }
-}
-
-/// Tells a task the outcome of a step of draining: its label, and the outcome.
-pub(crate) fn hear_step(lanes: &mut Vec<Lane>, told: (Name8, Outcome)) -> Result<(), NoMemory>
-    ensures { OnOk result (lanes.new.items ≡ hearing lanes.old.items told.0 told.1) }
-{
-    let (label, outcome) = told;
-    hear(lanes, &label, outcome)
 }
 
 /// Ends each task: the region is shut down.

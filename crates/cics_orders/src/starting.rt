@@ -22,7 +22,7 @@ fn define_next(alloc: Global, opening: &mut Opening, bytes: &[u8]) -> Result<(),
     match read(alloc, bytes)? {
         Ok(line) => match define(opening, line) {
             Ok(()) => Ok(()),
-            // No definition of a plan has a fault, so memory was refused.
+            // A plan of `plan_of` has no such fault. That of another plan counts as `NoMemory`.
             Err(_) => Err(NoMemory),
         },
         Err(_) => Ok(()),

@@ -15,7 +15,7 @@ ghost use Rattle.cics_orders.specs.Turns.{turn_goes_on, breaks};
 ghost use Rattle.cics_plans.specs.Proper.{is_proper};
 
 use crate::events;
-use crate::lanes::{Lane, fresh_lanes, hear, hear_step, initial_lanes, shut_all};
+use crate::lanes::{Lane, fresh_lanes, hear, initial_lanes, shut_all};
 use crate::lines::Lines;
 use crate::shutdowns::lines_to_shutdown;
 use crate::stamping::{stamp_lanes, stamp_last};
@@ -157,8 +157,14 @@ fn goes_on(region: &Region, lane: &Lane, clock: &Lane, lines: usize) -> bool
 impl Walker {
     /// Returns the walker of a plan in the initial state.
     ///
-    /// Errors: `NoMemory`.
-    #[tactic(auto, using(crate::specs::GivenLanes::frames_initial), unfolding(crate::specs::Giving::initial_state))]
+    /// Errors: `NoMemory`, also if a definition of the plan has a fault.
+    ///
+    /// Cost: O(definitions + tasks + lanes).
+    #[tactic(
+        auto,
+        using(crate::specs::GivenLanes::frames_initial),
+        unfolding(crate::specs::Giving::initial_state)
+    )]
     pub fn new(alloc: Global, plan: Plan) -> Result<Walker, NoMemory>
         requires { is_proper plan ≡ true }
         ensures { IfOk result (λ walker. walker ≡ initial_state plan) }
@@ -201,7 +207,13 @@ impl Walker {
     /// Goes back to the initial state.
     ///
     /// Errors: `NoMemory`.
-    #[tactic(auto, using(crate::specs::StampLaws::proper_stays, crate::specs::GivenLanes::frames_initial), unfolding(crate::specs::Giving::initial_state))]
+    ///
+    /// Cost: O(definitions + tasks + lanes).
+    #[tactic(
+        auto,
+        using(crate::specs::StampLaws::proper_stays, crate::specs::GivenLanes::frames_initial),
+        unfolding(crate::specs::Giving::initial_state)
+    )]
     pub fn restart(&mut self) -> Result<(), NoMemory>
         ensures { OnOk result (self.new ≡ start_of self.old) }
     {
@@ -307,13 +319,10 @@ impl Walker {
     fn shut_down(&mut self) -> Result<(), NoMemory>
         ensures { OnOk result (self.new ≡ after_line self.old (Ok Shutdown)) }
     {
-        match events::shut_down(&mut self.region)? {
-            Some(_) => {
-                shut_all(&mut self.lanes);
-                Ok(())
-            }
-            None => Ok(()),
+        if events::shut_down(&mut self.region)?.is_some() {
+            shut_all(&mut self.lanes);
         }
+        Ok(())
     }
 
     // Does what a line says: a command, the clock and the shutdown are events. Another line, or one
@@ -335,7 +344,8 @@ impl Walker {
     {
         match events::drain_step(&mut self.region)? {
             Some(told) => {
-                hear_step(&mut self.lanes, told)?;
+                let (label, outcome) = told;
+                hear(&mut self.lanes, &label, outcome)?;
                 Ok(true)
             }
             None => Ok(false),
@@ -354,6 +364,8 @@ impl Walker {
     /// Gives the next line of a lane, if it has one left, and drains the region.
     ///
     /// Errors: `NoMemory`.
+    ///
+    /// Cost: that of the line, and of a step of draining for each command that goes on.
     pub fn give(&mut self, number: usize) -> Result<(), NoMemory>
         ensures { OnOk result (self.new ≡ given self.old number) }
     {
@@ -366,15 +378,17 @@ impl Walker {
         };
         self.count(number, ends_turn(says));
         self.follow(says)?;
-        self.drain()?;
-        Ok(())
+        self.drain()
     }
 
-    /// Appends the stamp of this state: walkers of one plan with the same stamp go on alike. With
-    /// `told` it has all that tasks were told, else how they have ended. With `serial` it also has
-    /// what tells whether an order that is serial so far stays so.
+    /// Appends the stamp of this state. Take two walkers of one plan that gave only lines of lanes
+    /// that might give. If they have one stamp, they go on alike (`specs/StampLaws`). With `told` it
+    /// has all that tasks were told, else how they ended. With `serial` it also tells whether a
+    /// serial order stays so.
     ///
     /// Errors: `NoMemory`.
+    ///
+    /// Cost: O(bytes of the stamp).
     #[tactic(auto, unfolding(crate::specs::Stamps::state_stamp))]
     pub fn stamp(&self, told: bool, serial: bool, out: &mut Vec<u8>) -> Result<(), NoMemory>
         ensures { OnOk result (out.new.items ≡ out.old.items ++ state_stamp told serial self.now) }

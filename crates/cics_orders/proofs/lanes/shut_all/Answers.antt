@@ -3,7 +3,7 @@ use Rattle.cics_orders.specs.Giving.{shut}
 use Rattle.cics_plans.proofs.Changed.{map_step}
 use Rattle.cics_orders.proofs.lanes.shut_all.Goals as goal
 
--- one lane more is shut
+-- one more lane is shut
 pub loop-i-preserved : goal.loop-i-preserved
 loop-i-preserved c =
     let xs = c.args.lanes.now.items in

@@ -1,20 +1,23 @@
 use Rattle.std.proofs.Common.{◌∙◌, sym, arith}
+use Rattle.std.proofs.lemmas.Result.{on_ok_weaker}
 use Rattle.cics_orders.specs.Giving.{is_of, told_more}
 use Rattle.cics_plans.proofs.Changed.{within, changed, unchanged}
 use Rattle.cics_orders.proofs.lanes.tell.Goals as goal
 
--- the place that was found is in range
+-- the index that was found is in range
 pub index_mut-requires : goal.index_mut-requires
 index_mut-requires c =
-    omega (arith, within (λ x. is_of x c.args.label.now) c.args.lanes.now.items _ c.as_slice.ensures.value c.in-Some.at (sym c.place_of.ensures ∙ c.in-Some.is))
+    omega (arith, within (λ x. is_of x c.args.label.now) c.args.lanes.now.items _ c.as_slice.ensures.value c.in-Some.at (sym c.index_of.ensures ∙ c.in-Some.is))
 
 -- the lane there is told
-pub returns-in_ok-tell-in-Some : goal.returns-in_ok-tell-in-Some
-returns-in_ok-tell-in-Some c =
-    changed (λ x. is_of x c.args.label.now) c.args.lanes.now.items _ c.as_slice.ensures.value (λ x. told_more x c.args.outcome) c.in-Some.at
-    c.index_mut.result.now c.tell.new.self (sym c.place_of.ensures ∙ c.in-Some.is) c.index_mut.ensures.value c.in_ok-tell-in-Some.ensures
+pub returns-in-Some : goal.returns-in-Some
+returns-in-Some c =
+    on_ok_weaker c.tell.result
+    (changed (λ x. is_of x c.args.label.now) c.args.lanes.now.items _ c.as_slice.ensures.value (λ x. told_more x c.args.outcome) c.in-Some.at
+    c.index_mut.result.now c.tell.new.self (sym c.index_of.ensures ∙ c.in-Some.is) c.index_mut.ensures.value)
+    c.tell.ensures
 
 -- nobody is told
 pub returns-in-None : goal.returns-in-None
 returns-in-None c =
-    unchanged (λ x. is_of x c.args.label.now) c.args.lanes.now.items _ c.as_slice.ensures.value (λ x. told_more x c.args.outcome) (sym c.place_of.ensures ∙ c.in-None.is)
+    unchanged (λ x. is_of x c.args.label.now) c.args.lanes.now.items _ c.as_slice.ensures.value (λ x. told_more x c.args.outcome) (sym c.index_of.ensures ∙ c.in-None.is)

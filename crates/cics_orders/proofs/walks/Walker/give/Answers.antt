@@ -2,6 +2,7 @@ use Rattle.std.proofs.Common.{◌≡◌, ◌∙◌, None, Some, ap, sym, refl, l
 use Rattle.std.specs.Prelude.{slice_get}
 use Rattle.std.proofs.lemmas.Bool.{ltb-true}
 use Rattle.std.proofs.lemmas.Option.{slice_get_read, slice_get_past}
+use Rattle.std.proofs.lemmas.Result.{on_ok_weaker}
 use Rattle.cics_script.specs.Lines.{line}
 use Rattle.cics_plans.specs.Taking.{NumberedLine}
 use Rattle.cics_orders.specs.Giving.{after_line, counted, drained}
@@ -68,6 +69,6 @@ returns c =
     = said_next s.lanes l lane said at all
     ∙ slice_get_read said (length said) lane.given says refl (ltb-true lane.given (length said) (sym c.in-Some-get.ensures.lookup.0)) c.in-Some-get.ensures.lookup.1 in
     let (lane, at, short, run) = gives s l says is in
-    c.in_ok-drain.ensures.drained
-    ∙ ap drained (c.in_ok-follow.ensures ∙ ap (λ t. after_line t says) (c.count.ensures lane at ∙ ap (counted s l lane) c.ends_turn.ensures))
-    ∙ sym run
+    on_ok_weaker c.drain.result
+    (λ is. is ∙ ap drained (c.in_ok-follow.ensures ∙ ap (λ t. after_line t says) (c.count.ensures lane at ∙ ap (counted s l lane) c.ends_turn.ensures)) ∙ sym run)
+    c.drain.ensures.drained
