@@ -29,7 +29,8 @@ deadlock = record {
   clock = [];
 }
 
--- The orders of a deadlock: where a task has both values, the other waits for its first; else each waits for the other.
+-- The orders of a deadlock. If a task has both values, the other waits for its first. Else each
+-- waits for the other.
 deadlock_orders : orders lanes 4 (initial_state deadlock) ≡
     (0 ∷ 0 ∷ 1 ∷ []) ∷ (0 ∷ 1 ∷ 0 ∷ 1 ∷ []) ∷ (0 ∷ 1 ∷ 1 ∷ 0 ∷ []) ∷ (1 ∷ 0 ∷ 0 ∷ 1 ∷ []) ∷ (1 ∷ 0 ∷ 1 ∷ 0 ∷ []) ∷ (1 ∷ 1 ∷ 0 ∷ []) ∷ []
 unfolding initial_state given drain_step drained_once drained_within drained issuing timing shutting attaching defined_by with_task code_of
@@ -80,7 +81,8 @@ seen (Some lane) = map content lane.told where
   content (Replied reply) = reply.content
   content _ = None
 
--- Both saw the record as it was loaded, and the second wrote over what the first wrote: an order that is not serial.
+-- Both saw the record as it was loaded, and the second wrote over what the first wrote: the order
+-- is not serial.
 lost : (records_in (after lanes (initial_state lost_update) between).machine a_file ≡ (k ∷ [], k ∷ 0xF2 ∷ []) ∷ [])
     × ((after lanes (initial_state lost_update) between).is_serial ≡ false)
     × (seen (slice_get (after lanes (initial_state lost_update) between).lanes 0) ≡ Some (k ∷ 0xF0 ∷ []) ∷ Some (k ∷ 0xF0 ∷ []) ∷ None ∷ None ∷ [])
@@ -88,8 +90,8 @@ lost : (records_in (after lanes (initial_state lost_update) between).machine a_f
 unfolding initial_state given drain_step drained_once drained_within drained issuing timing shutting attaching defined_by with_task code_of
 lost = (refl, refl, refl, refl)
 
--- There are as many orders as there are ways to put the lines of the second task between those of the first, but where it has
--- to wait.
+-- There are as many orders as there are ways to put the lines of the second task between those of
+-- the first, except that it may have to wait.
 how_many : length (orders lanes 8 (initial_state lost_update)) ≡ 24
 unfolding initial_state given drain_step drained_once drained_within drained issuing timing shutting attaching defined_by with_task code_of
 how_many = refl

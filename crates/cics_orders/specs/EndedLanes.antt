@@ -89,7 +89,7 @@ heard : (xs : List Lane) (label : Bytes) (o : Outcome) (y : Bytes) → ended_lan
 heard xs label (Replied r) y there = lanes_told xs label (Replied r) y false there
 heard xs label (Abended code r) y there = lanes_told xs label (Abended code r) y false there
 heard xs label Ended y there = lanes_told xs label Ended y false there
-heard xs label (Waiting holder) y there = by (is_same label y) refl
+heard xs label (Waiting blocker) y there = by (is_same label y) refl
   where
     by : (b : Bool) → is_same label y ≡ b → ended_lane xs y ≡ (if b then Some false else ended_lane xs y)
     by true own = ap (ended_lane xs) (sym (is_same-eq label y own)) ∙ there
@@ -257,19 +257,12 @@ shutdown s fits = by m.is_down
       awake = λ x waits. let clash : false ≡ true = ap (λ ws. is_waiting ws x) (sym (waits_shut m.tasks (with_waiting m []))) ∙ waits in cc;
     }
 
--- so it is after each line
+-- lanes and tasks still agree after each line
 pub line_fits : (s : State) → Fits s → (r : Result Line LineFault) → Fits (after_line s r)
 line_fits s fits (Ok (says.Issue label command)) = issue s fits label command
 line_fits s fits (Ok (says.Clock seconds)) = clock s fits seconds
 line_fits s fits (Ok says.Shutdown) = shutdown s fits
-line_fits s fits (Ok says.Blank) = fits
-line_fits s fits (Ok (says.DefineFile name d)) = fits
-line_fits s fits (Ok (says.DefineTsPrefix prefix)) = fits
-line_fits s fits (Ok (says.DefineTd name recovery)) = fits
-line_fits s fits (Ok (says.LoadFile name content)) = fits
-line_fits s fits (Ok (says.LoadTd name content)) = fits
-line_fits s fits (Ok (says.Attach label transaction dtimout)) = fits
-line_fits s fits (Err fault) = fits
+line_fits s fits _ = fits
 
 -- ---- A step of draining
 
@@ -282,7 +275,7 @@ free_waits m w (v ∷ ws) is =
       | false ↦ λ is. elim (is_same v.label w.label) as (λ b. cond b true (is_waiting ws w.label) ≡ true) [ true ↦ refl | false ↦ free_waits m w ws is ]
     ] is
 
--- and so does that of the first task that has waited too long, which is the task of its label
+-- the first task that has waited too long waits, and is the task of its label
 pub late_waits : (m : Machine) (t : Task) (ws : List Suspended) → first_late m ws ≡ Some t → (is_waiting ws t.label ≡ true) × (task_at m.tasks t.label ≡ Some t)
 late_waits m t [] is = cc
 late_waits m t (v ∷ ws) is =
@@ -356,7 +349,7 @@ within_fits (suc n) s fits = by (within_fits n) (drained_once s) refl
     by rest None is = fits
     by rest (Some t) is = rest t (once_fits s t fits is)
 
--- so it is once what may go on has gone on
+-- lanes and tasks still agree after draining
 pub drained_fits : (s : State) → Fits s → Fits (drained s)
 unfolding drained
 drained_fits s fits = within_fits (length s.machine.waiting) s fits
@@ -476,7 +469,7 @@ attaches_up : (ts : List TaskPlan) (m : Machine) → m.is_down ≡ false → (fo
 attaches_up [] m up = up
 attaches_up (t ∷ ts) m up = attaches_up ts (with_task m t) (attach_up m t up)
 
--- so it is at the start
+-- lanes and tasks agree in the initial state
 pub start_fits : (p : Plan) → Fits (initial_state p)
 unfolding initial_state
 start_fits p = record {

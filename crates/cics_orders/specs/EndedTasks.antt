@@ -1,4 +1,4 @@
--- Whether a task has ended after a step: what it was told says it, no other task ends, and whoever waits has not ended.
+-- Whether a task has ended after a step. What it was told says it, and no other task ends.
 use Rattle.std.proofs.Common.{◌≡◌, ℕ, Bool, true, false, not, cond, List, [], ◌∷◌, ◌++◌, Option, None, Some, option_map, refl, ap, sym, ◌∙◌, take}
 use Rattle.std.specs.Prelude.{if◌then◌else◌}
 use Rattle.cics_names.specs.Keyed.{Bytes, is_same, value_at, without}
@@ -75,8 +75,8 @@ waits_before (v ∷ ws) w x other =
 
 -- ---- A step of a task
 
--- the task has ended exactly if what it was told says it, and no other task ends; if the task waits, it has not ended, and no
--- other one begins to wait; the region is shut down only if it was
+-- The task has ended exactly if what it was told says it, and no other ends. If it waits, it has
+-- not ended, and no other begins to wait. The region is down only if it was.
 pub record Tells (m : Machine) (label : Bytes) (s : Stepped Outcome) : Type 0 where
   pub ended : (x : Bytes) → ended_task s.machine.tasks x ≡ (if is_same label x then Some (is_last s.outcome) else ended_task m.tasks x)
   pub own : is_waiting s.machine.waiting label ≡ true → is_last s.outcome ≡ false
@@ -146,21 +146,21 @@ module _ (m : Machine) (t : Task) (there : ended_task m.tasks t.label ≡ Some f
     told : (r : Reply) → Tells m t.label (answered m t c.resp r)
     told r = answers m t c.resp r itself refl
 
-    waits : (o : Option Op) (holder : ℕ) (busy : Option Condition) → Tells m t.label (made_to_wait m t c o holder busy)
-    waits o holder None = record {
+    waits : (o : Option Op) (blocker : ℕ) (busy : Option Condition) → Tells m t.label (made_to_wait m t c o blocker busy)
+    waits o blocker None = record {
       ended = goes_on m itself;
       own = λ waits. refl;
       others = λ x other waits. waits_before m.waiting (record { label = t.label; command = c; op = o; since = m.clock }) x other waits;
       down = refl;
     }
-    waits o holder (Some busy) = told (plain busy)
+    waits o blocker (Some busy) = told (plain busy)
 
     executes : (o : Op) (d : Done) → Tells m t.label (executed m t c o d)
-    executes o (MustWait holder) = waits (Some o) holder (busy_of c.verb)
+    executes o (MustWait blocker) = waits (Some o) blocker (busy_of c.verb)
     executes o (Answered unit a) = placed (with_units m (after_execution m.units t.unit o)) (with_unit t unit) (reply_of c.verb a) (record { ended = λ x. refl; waiting = refl; down = refl }) refl alive
 
     enqueues : (value : Bytes) (d : Enqueued) → Tells m t.label (enqueued m t c value d)
-    enqueues value (EnqMustWait holder) = waits None holder (busy_of c.verb)
+    enqueues value (EnqMustWait blocker) = waits None blocker (busy_of c.verb)
     enqueues value CountFull = told (plain Invreq)
     enqueues value (Taken unit) = placed (with_units m (after_enqueue m.units t.unit value)) (with_unit t unit) (plain Normal) (record { ended = λ x. refl; waiting = refl; down = refl }) refl alive
 

@@ -71,20 +71,20 @@ gist_cores xs ys same = cores xs ∙ ap (map core_of) same ∙ sym (cores ys)
 pub core_hearing : (xs : List Lane) (label : Bytes) (o : Outcome) → map core (hearing xs label o) ≡ map core xs
 core_hearing xs label o = gist_cores (hearing xs label o) xs (gists_hearing xs label o)
 
--- so does a shutdown
+-- a shutdown leaves the cores of lanes as they are
 pub core_shut : (xs : List Lane) → map core (map shut xs) ≡ map core xs
 core_shut xs = gist_cores (map shut xs) xs (gists_shut xs)
 
--- lanes with one core gave the same
+-- the core of a lane tells its last command
 commands_core : (xs : List Lane) (label : Bytes) → command_of (map core xs) label ≡ command_of xs label
 commands_core [] label = refl
 commands_core (x ∷ xs) label = λ i. if of_core x label i then last_command x else commands_core xs label i
 
--- so their labels have the same last command
+-- lanes with the same cores gave the same last
 pub core_gave : (xs ys : List Lane) → map core xs ≡ map core ys → (label : Bytes) → command_of xs label ≡ command_of ys label
 core_gave xs ys same label = sym (commands_core xs label) ∙ ap (λ zs. command_of zs label) same ∙ commands_core ys label
 
--- and have one frame
+-- the core of a lane tells its frame
 frames_core : (xs : List Lane) → map frame (map core xs) ≡ map frame xs
 frames_core [] = refl
 frames_core (x ∷ xs) = ap (λ ys. frame x ∷ ys) (frames_core xs)
@@ -148,7 +148,7 @@ right_at [] l x right at = cc
 right_at (y ∷ ys) zero x (first, right) at = let same : y ≡ x = cc in subst HasRight same first
 right_at (y ∷ ys) (suc l) x (first, right) at = right_at ys l x right at
 
--- if no lane has a label, none of them has it
+-- if no lane is of a label, none at an index is
 pub none_at : (xs : List Lane) (l : ℕ) (x : Lane) (label : Bytes) → NoneOf xs label → slice_get xs l ≡ Some x → is_of x label ≡ false
 none_at [] l x label none at = cc
 none_at (y ∷ ys) zero x label (first, none) at = let same : y ≡ x = cc in subst (λ z. is_of z label ≡ false) same first
@@ -247,7 +247,7 @@ module _ (clock : List NumberedLine) where
 pub apart_initial : (p : Plan) → is_proper p ≡ true → AreApart (initial_lanes p)
 apart_initial p proper = apart_tasks p.clock p.tasks (proper_parts p proper).distinct
 
--- they are right
+-- each line of an initial lane is right for it
 pub right_initial : (p : Plan) → is_proper p ≡ true → AreRight (initial_lanes p)
 right_initial p proper = right_tasks p.clock p.tasks (proper_parts p proper).own (proper_parts p proper).clock
 
@@ -255,6 +255,6 @@ frames_tasks : (clock : List NumberedLine) (ts : List TaskPlan) → map frame (m
 frames_tasks clock [] = refl
 frames_tasks clock (t ∷ ts) = ap (λ xs. task_lane t ∷ xs) (frames_tasks clock ts)
 
--- they are their own frames
+-- initial lanes are their own frames
 pub frames_initial : (p : Plan) → map frame (initial_lanes p) ≡ initial_lanes p
 frames_initial p = frames_tasks p.clock p.tasks

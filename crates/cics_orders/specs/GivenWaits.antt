@@ -80,11 +80,11 @@ pub record Keeps (xs : List Lane) (begun : OpeningState) (m : Machine) : Type 0 
 
 executed_opening : (s : UnitsState) (u : Option ℕ) (op : Op) (h : Option ℕ) → (state_of s u op h).opening ≡ s.opening
 executed_opening s u op None = refl
-executed_opening s u op (Some holder) = refl
+executed_opening s u op (Some blocker) = refl
 
 enqueued_opening : (s : UnitsState) (u : Option ℕ) (value : Bytes) (d : Enqueued) → (after_enqueued s u value d).opening ≡ s.opening
 enqueued_opening s u value (Taken unit) = refl
-enqueued_opening s u value (EnqMustWait holder) = refl
+enqueued_opening s u value (EnqMustWait blocker) = refl
 enqueued_opening s u value CountFull = refl
 
 dequeued_opening : (s : UnitsState) (u : Option ℕ) (value : Bytes) → (units_dequeued s u value).opening ≡ s.opening
@@ -120,17 +120,17 @@ module _ (xs : List Lane) (begun : OpeningState) where
     told : (r : Reply) → Keeps xs begun (answered m t c.resp r).machine
     told r = answers m t c.resp r all
 
-    suspends : (o : Option Op) (holder : ℕ) (busy : Option Condition) → Keeps xs begun (made_to_wait m t c o holder busy).machine
-    suspends o holder None = record { waits = given_more xs m.waiting (record { label = t.label; command = c; op = o; since = m.clock }) all.waits own; opening = all.opening }
-    suspends o holder (Some busy) = told (plain busy)
+    suspends : (o : Option Op) (blocker : ℕ) (busy : Option Condition) → Keeps xs begun (made_to_wait m t c o blocker busy).machine
+    suspends o blocker None = record { waits = given_more xs m.waiting (record { label = t.label; command = c; op = o; since = m.clock }) all.waits own; opening = all.opening }
+    suspends o blocker (Some busy) = told (plain busy)
 
     executes : (o : Op) (d : Done) → Keeps xs begun (executed m t c o d).machine
-    executes o (MustWait holder) = suspends (Some o) holder (busy_of c.verb)
+    executes o (MustWait blocker) = suspends (Some o) blocker (busy_of c.verb)
     executes o (Answered unit a) =
         answers (with_task (with_units m (after_execution m.units t.unit o)) (with_unit t unit)) (with_unit t unit) c.resp (reply_of c.verb a) (placed (after_execution m.units t.unit o) unit (executed_opening m.units t.unit o (awaited m.units t.unit o)))
 
     enqueues : (value : Bytes) (d : Enqueued) → Keeps xs begun (enqueued m t c value d).machine
-    enqueues value (EnqMustWait holder) = suspends None holder (busy_of c.verb)
+    enqueues value (EnqMustWait blocker) = suspends None blocker (busy_of c.verb)
     enqueues value CountFull = told (plain Invreq)
     enqueues value (Taken unit) = answers (with_task (with_units m (after_enqueue m.units t.unit value)) (with_unit t unit)) (with_unit t unit) c.resp (plain Normal) (placed (after_enqueue m.units t.unit value) unit (enqueued_opening m.units t.unit value (enqueue m.units t.unit value)))
 

@@ -30,9 +30,8 @@ use Rattle.cics_plans.specs.declared.plans.Plan.{Plan}
 use Rattle.cics_plans.specs.declared.plans.TaskPlan.{TaskPlan}
 use Rattle.cics_orders.specs.declared.lanes.Lane.{Lane}
 
--- a script's plan, the machine of its region, the lanes that give to it, the task's lane that gave
--- last, and whether the order so far is serial; it is if no task within a turn gave a line behind
--- another task's
+-- A script's plan, the machine of its region, and the lanes. `last`: the task's lane that gave last.
+-- `is_serial`: no task within a turn gave a line after another task's.
 pub record State : Type 0 where
   pub plan : Plan
   pub machine : Machine
@@ -52,7 +51,7 @@ is_of lane label = is_labelled lane.label where
 -- an outcome that ends its task
 abbrev pub is_last : Outcome → Bool
 is_last (Replied reply) = false
-is_last (Waiting holder) = false
+is_last (Waiting blocker) = false
 is_last _ = true
 
 -- a lane whose task is told an outcome
@@ -65,7 +64,7 @@ with_told lanes label outcome = with_first (λ lane. is_of lane label) (λ lane.
 
 -- a task whose command waits is told nothing yet
 abbrev pub hearing : List Lane → Bytes → Outcome → List Lane
-hearing lanes label (Waiting holder) = lanes
+hearing lanes label (Waiting blocker) = lanes
 hearing lanes label outcome = with_told lanes label outcome
 
 -- a task that the shutdown ends
@@ -198,7 +197,7 @@ abbrev pub is_lane : Option ℕ → ℕ → Bool
 is_lane None l = false
 is_lane (Some k) l = k == l
 
--- a lane with one line more given, which may end the task's turn
+-- a lane with one more line given, which may end the task's turn
 abbrev pub with_given : Lane → Bool → Lane
 with_given lane ends = record lane { given = lane.given + 1; is_in_turn = is_some lane.label && not ends }
 
@@ -235,7 +234,7 @@ lanes = record { givers = givers; given = given }
 
 -- ---- The start
 
--- what is defined, with these lines more
+-- what is defined after these lines too
 abbrev pub defined_more : OpeningState → List NumberedLine → OpeningState
 defined_more o lines = fold (λ o next. defined_by o (line next.1)) o lines
 

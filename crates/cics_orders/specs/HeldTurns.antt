@@ -180,7 +180,7 @@ record Within (label : Bytes) (x : Lane) : Type 0 where
   pub next : NumberedLine
   pub line_at : slice_get x.lines x.given ≡ Some next
 
--- an event leaves a lane as it is, and makes its task not wait
+-- an event leaves a lane as it is, and doesn't make its task wait
 record Passes (k : ℕ) (label : Bytes) (x : Lane) (s t : State) : Type 0 where
   pub waits : is_waiting t.machine.waiting label ≡ true → is_waiting s.machine.waiting label ≡ true
   pub at : slice_get s.lanes k ≡ Some x → slice_get t.lanes k ≡ Some x
@@ -228,7 +228,7 @@ module _ (k : ℕ) (label : Bytes) (x : Lane) (within : Within label x) where
 
   heard_other : (xs : List Lane) (own : Bytes) (o : Outcome) → is_same own label ≡ false → slice_get xs k ≡ Some x → slice_get (hearing xs own o) k ≡ Some x
   heard_other xs own (Replied r) other at = told_other xs own (Replied r) other at
-  heard_other xs own (Waiting holder) other at = at
+  heard_other xs own (Waiting blocker) other at = at
   heard_other xs own (Abended code r) other at = told_other xs own (Abended code r) other at
   heard_other xs own Ended other at = told_other xs own Ended other at
 
@@ -292,14 +292,7 @@ module _ (k : ℕ) (label : Bytes) (x : Lane) (within : Within label x) where
     line_passes (Ok (says.Issue own command)) other = issue_passes own command other
     line_passes (Ok (says.Clock seconds)) other = clock_passes seconds
     line_passes (Ok says.Shutdown) other = cc
-    line_passes (Ok says.Blank) other = same_passes
-    line_passes (Ok (says.DefineFile name d)) other = same_passes
-    line_passes (Ok (says.DefineTsPrefix prefix)) other = same_passes
-    line_passes (Ok (says.DefineTd name recovery)) other = same_passes
-    line_passes (Ok (says.LoadFile name content)) other = same_passes
-    line_passes (Ok (says.LoadTd name content)) other = same_passes
-    line_passes (Ok (says.Attach own transaction dtimout)) other = same_passes
-    line_passes (Err fault) other = same_passes
+    line_passes _ other = same_passes
 
     module _ (t : State) (awake : is_waiting s.machine.waiting label ≡ false) where
       -- a task that waits is another
@@ -503,16 +496,8 @@ any_drop test (suc n) (x ∷ xs) none = any_drop test n xs (or_parts (test x) (l
 
 own_command : (own label : Bytes) (r : Result Line LineFault) → is_same own label ≡ false → is_command_of own r ≡ true → threatens label r ≡ false
 own_command own label (Ok (says.Issue by command)) other is = ap (λ l. is_same l label) (is_same-eq by own is) ∙ other
-own_command own label (Ok (says.Clock seconds)) other is = refl
 own_command own label (Ok says.Shutdown) other is = cc
-own_command own label (Ok says.Blank) other is = refl
-own_command own label (Ok (says.DefineFile name d)) other is = refl
-own_command own label (Ok (says.DefineTsPrefix prefix)) other is = refl
-own_command own label (Ok (says.DefineTd name recovery)) other is = refl
-own_command own label (Ok (says.LoadFile name content)) other is = refl
-own_command own label (Ok (says.LoadTd name content)) other is = refl
-own_command own label (Ok (says.Attach by transaction dtimout)) other is = refl
-own_command own label (Err fault) other is = refl
+own_command own label _ other is = refl
 
 own_spares : (own label : Bytes) (lines : List NumberedLine) → is_same own label ≡ false → list_all (λ next. is_command_of own (line next.1)) lines ≡ true → threaten label lines ≡ false
 own_spares own label [] other all = refl
@@ -522,16 +507,8 @@ own_spares own label (next ∷ lines) other all =
 
 timing_spares : (label : Bytes) (r : Result Line LineFault) → is_timing r ≡ true → is_shutdown r ≡ false → threatens label r ≡ false
 timing_spares label (Ok (says.Issue by command)) is off = cc
-timing_spares label (Ok (says.Clock seconds)) is off = refl
 timing_spares label (Ok says.Shutdown) is off = cc
-timing_spares label (Ok says.Blank) is off = refl
-timing_spares label (Ok (says.DefineFile name d)) is off = refl
-timing_spares label (Ok (says.DefineTsPrefix prefix)) is off = refl
-timing_spares label (Ok (says.DefineTd name recovery)) is off = refl
-timing_spares label (Ok (says.LoadFile name content)) is off = refl
-timing_spares label (Ok (says.LoadTd name content)) is off = refl
-timing_spares label (Ok (says.Attach by transaction dtimout)) is off = refl
-timing_spares label (Err fault) is off = refl
+timing_spares label _ is off = refl
 
 clock_spares : (label : Bytes) (n : ℕ) (lines : List NumberedLine) → list_all (λ next. is_timing (line next.1)) lines ≡ true → has_shutdown (drop n lines) ≡ false → threaten label (drop n lines) ≡ false
 clock_spares label zero [] all none = refl
@@ -745,7 +722,7 @@ broken_ends s l y q sound at may is none =
     let found = gives_line s l y at may in
     lost_ends (after lanes (given s l) q) (lost_after (given s l) q (sound_given s l sound) (lost_broken s l y found.0 sound found.1 is)) none
 
--- any other lane leaves an order serial or not
+-- after another lane an order is serial exactly if it was before
 pub kept_serial : (s : State) (l : ℕ) → Sound s → breaks s l ≡ false → (given s l).is_serial ≡ s.is_serial
 unfolding breaks
 kept_serial s l sound is = by (gave s l)

@@ -74,7 +74,7 @@ module _ (told serial : Bool) where
 
     pub hearing_same : (label : Bytes) (o : Outcome) → sees (hearing xs label o) ≡ sees (hearing ys label o)
     hearing_same label (Replied reply) = told_same label (Replied reply)
-    hearing_same label (Waiting holder) = same
+    hearing_same label (Waiting blocker) = same
     hearing_same label (Abended code reply) = told_same label (Abended code reply)
     hearing_same label Ended = told_same label Ended
 
@@ -85,7 +85,7 @@ module _ (told serial : Bool) where
   pub shut_same : (xs ys : List Lane) → sees xs ≡ sees ys → sees (map shut xs) ≡ sees (map shut ys)
   shut_same xs ys same = lanes_shut xs ∙ ap (map shut) same ∙ sym (lanes_shut ys)
 
-  -- what is seen of a lane with one line more given
+  -- what is seen of a lane with one more line given
   abbrev given_seen : Bool → Lane → Lane
   given_seen ends z = record z { given = z.given + 1; is_in_turn = serial && (is_some z.label && not ends) }
 

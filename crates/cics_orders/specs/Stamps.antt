@@ -60,8 +60,8 @@ end_told (Some outcome) = if is_last outcome then outcome ∷ [] else []
 abbrev pub told_of : Bool → List Outcome → List Outcome
 told_of all told = if all then told else end_told (slice_get told (length told - 1))
 
--- What is seen of a lane. With `told` that is all that its task was told. Only with `serial` it is
--- whether the task is within a turn.
+-- What is seen of a lane. With `told` that is all that its task was told. It has whether the task is
+-- within a turn only with `serial`.
 abbrev pub seen : Bool → Bool → Lane → Lane
 seen told serial lane = record lane { told = told_of told lane.told; is_in_turn = serial && lane.is_in_turn }
 

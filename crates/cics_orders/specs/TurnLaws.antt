@@ -19,7 +19,7 @@ pub serial_starts : (s : State) → (initial_state s.plan).is_serial ≡ true
 unfolding initial_state
 serial_starts s = refl
 
--- a lane that doesn't break it leaves an order serial or not
+-- after another lane an order is serial exactly if it was before
 pub keeps_serial : (s : State) (o : Order) (l : ℕ) → IsWay lanes (initial_state s.plan) o → IsOneOf l (givers (after lanes (initial_state s.plan) o) 0) →
     breaks (after lanes (initial_state s.plan) o) l ≡ false →
     (given (after lanes (initial_state s.plan) o) l).is_serial ≡ (after lanes (initial_state s.plan) o).is_serial

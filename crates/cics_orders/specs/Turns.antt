@@ -41,7 +41,7 @@ abbrev pub lane_breaks : State → ℕ → Option Lane → Bool
 lane_breaks s l None = false
 lane_breaks s l (Some lane) = is_some lane.label && not (is_lane s.last l) && (lane.is_in_turn || turn_goes_on s)
 
--- If the lane of a number gives, the order does not become a serial one: either it is not serial
--- then, or a task is left within a turn that it must still go on with.
+-- If this lane gives, the order doesn't become a serial one. Either it isn't serial then, or a task
+-- is left within a turn and must still go on.
 unfoldable pub breaks : State → ℕ → Bool
 breaks s l = lane_breaks s l (slice_get s.lanes l)

@@ -89,12 +89,7 @@ defined_in_order o order (Ok (says.LoadTd name content)) = by (value_at name o.q
     by : (e : Option QueueOpening) → IsOpeningInOrder (record { files = o.files; prefixes = o.prefixes; queues = changed e })
     by None = record { files = order.files; records = order.records; queues = order.queues }
     by (Some queue) = queued_in_order o name (record { recovery = queue.recovery; records = queue.records ++ content ∷ [] }) order
-defined_in_order o order (Ok says.Blank) = order
-defined_in_order o order (Ok (says.Attach label transaction dtimout)) = order
-defined_in_order o order (Ok (says.Clock seconds)) = order
-defined_in_order o order (Ok (says.Issue label command)) = order
-defined_in_order o order (Ok says.Shutdown) = order
-defined_in_order o order (Err fault) = order
+defined_in_order o order _ = order
 
 more_in_order : (lines : List NumberedLine) (o : OpeningState) → IsOpeningInOrder o → IsOpeningInOrder (defined_more o lines)
 more_in_order [] o order = order
@@ -255,14 +250,7 @@ module _ (begun : OpeningState) where
       line_fits (Ok (says.Issue label c)) own = issue label c (own label c refl)
       line_fits (Ok (says.Clock seconds)) own = clock seconds
       line_fits (Ok says.Shutdown) own = shutdown
-      line_fits (Ok says.Blank) own = fits
-      line_fits (Ok (says.DefineFile name d)) own = fits
-      line_fits (Ok (says.DefineTsPrefix prefix)) own = fits
-      line_fits (Ok (says.DefineTd name recovery)) own = fits
-      line_fits (Ok (says.LoadFile name content)) own = fits
-      line_fits (Ok (says.LoadTd name content)) own = fits
-      line_fits (Ok (says.Attach label transaction dtimout)) own = fits
-      line_fits (Err fault) own = fits
+      line_fits _ own = fits
 
     -- ---- Draining
 

@@ -132,7 +132,7 @@ fn stamp_outcomes(out: &mut Vec<u8>, outcomes: &[Outcome]) -> Result<(), NoMemor
 
 impl Lane {
     /// Appends its stamp, but for its label and its lines. With `told` it has all that its task was
-    /// told, else how it has ended. Only with `serial` it has whether the task is within a turn.
+    /// told, else how it has ended. It has whether the task is within a turn only with `serial`.
     pub(crate) fn stamp(&self, told: bool, serial: bool, out: &mut Vec<u8>) -> Result<(), NoMemory>
         ensures { OnOk result (out.new.items
             ≡ out.old.items ++ lane_stamp (seen told serial self.now)) }
