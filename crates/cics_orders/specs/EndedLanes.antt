@@ -26,36 +26,18 @@ use Rattle.cics_lanes.specs.Orders.{Order, after}
 use Rattle.cics_plans.specs.Taking.{NumberedLine}
 use Rattle.cics_plans.specs.declared.plans.Plan.{Plan}
 use Rattle.cics_plans.specs.declared.plans.TaskPlan.{TaskPlan}
-use Rattle.cics_orders.specs.Giving.{State, is_of, is_last, told_more, with_told, hearing, shut, issuing, timing, shutting, attaching, left_by, after_line, late, resumed, drain_step, told_by, drained_once, after_step, drained_within, drained, with_given, counted, ends_turn, given_line, given_by, given, lanes, opened, unless_refused, with_task, task_lane, fresh_lane, initial_state}
+use Rattle.cics_orders.specs.Giving.{State, is_labelled, is_of, is_last, told_more, with_told, hearing, shut, issuing, timing, shutting, attaching, left_by, after_line, late, resumed, drain_step, told_by, drained_once, after_step, drained_within, drained, with_given, counted, ends_turn, given_line, given_by, given, lanes, opened, unless_refused, with_task, task_lane, fresh_lane, initial_state}
 use Rattle.cics_orders.specs.declared.lanes.Lane.{Lane}
 use Rattle.cics_orders.specs.Ended.{ended_task, ended_lane, Agrees, IsAccepted, AcceptsReady}
-use Rattle.cics_orders.specs.GivenLanes.{of_given}
 use Rattle.cics_orders.specs.Ways.{attaches_wait, none_waits}
 use Rattle.cics_orders.specs.EndedTasks.{ended_put, still_waits, Tells, itself, abends, tells, tells_checked}
 
 -- ---- Lanes of a label
 
--- the label alone tells whose lane it is
-of_labels : (l : Option Bytes) (x : Lane) (a b : Bytes) → is_of (record x { label = l }) a ≡ true → is_of (record x { label = l }) b ≡ is_same a b
-of_labels None x a b own = cc
-of_labels (Some k) x a b own = ap (λ k. is_same k b) (is_same-eq k a own)
-
-of_same : (x : Lane) (a b : Bytes) → is_of x a ≡ true → is_of x b ≡ is_same a b
-of_same x a b = of_labels x.label x a b
-
-told_labels : (l : Option Bytes) (x : Lane) (o : Outcome) (y : Bytes) → is_of (record (told_more x o) { label = l }) y ≡ is_of (record x { label = l }) y
-told_labels None x o y = refl
-told_labels (Some k) x o y = refl
-
-of_told : (x : Lane) (o : Outcome) (y : Bytes) → is_of (told_more x o) y ≡ is_of x y
-of_told x o y = told_labels x.label x o y
-
-shut_labels : (l : Option Bytes) (x : Lane) (y : Bytes) → is_of (record (shut x) { label = l }) y ≡ is_of (record x { label = l }) y
-shut_labels None x y = refl
-shut_labels (Some k) x y = refl
-
-of_shut : (x : Lane) (y : Bytes) → is_of (shut x) y ≡ is_of x y
-of_shut x y = shut_labels x.label x y
+-- a lane of one label is of another if they are the same
+of_same : (l : Option Bytes) (a b : Bytes) → is_labelled l a ≡ true → is_labelled l b ≡ is_same a b
+of_same None a b own = cc
+of_same (Some k) a b own = ap (λ k. is_same k b) (is_same-eq k a own)
 
 -- ---- A task is told
 
@@ -69,8 +51,8 @@ lanes_told (x ∷ xs) label o y b there = by (lanes_told xs label o y b) (is_of 
         ended_lane (if c then told_more x o ∷ xs else x ∷ with_told xs label o) y
         ≡ (if is_same label y then Some (is_last o) else (if is_of x y then Some x.has_ended else ended_lane xs y))
     by rest true own there =
-        let e : is_of x y ≡ is_same label y = of_same x label y own in
-        ap (λ d. if d then Some (is_last o) else ended_lane xs y) (of_told x o y ∙ e) ∙ same (is_same label y) e
+        let e : is_of x y ≡ is_same label y = of_same x.label label y own in
+        ap (λ d. if d then Some (is_last o) else ended_lane xs y) e ∙ same (is_same label y) e
       where
         same : (d : Bool) → is_of x y ≡ d → (if d then Some (is_last o) else ended_lane xs y) ≡ (if d then Some (is_last o) else (if is_of x y then Some x.has_ended else ended_lane xs y))
         same true is = refl
@@ -181,7 +163,7 @@ module _ (s : State) (fits : Fits s) where
 
 lanes_shut : (xs : List Lane) (y : Bytes) → ended_lane (map shut xs) y ≡ option_map (λ _. true) (ended_lane xs y)
 lanes_shut [] y = refl
-lanes_shut (x ∷ xs) y = ap (λ b. if b then Some true else ended_lane (map shut xs) y) (of_shut x y) ∙ by (lanes_shut xs y) (is_of x y)
+lanes_shut (x ∷ xs) y = by (lanes_shut xs y) (is_of x y)
   where
     by : ended_lane (map shut xs) y ≡ option_map (λ _. true) (ended_lane xs y) → (b : Bool) → (if b then Some true else ended_lane (map shut xs) y) ≡ option_map (λ _. true) (if b then Some x.has_ended else ended_lane xs y)
     by rest true = refl
@@ -361,7 +343,7 @@ pub lanes_given : (xs : List Lane) (l : ℕ) (x : Lane) (ends : Bool) (y : Bytes
 lanes_given [] l x ends y at = cc
 lanes_given (z ∷ zs) zero x ends y at =
     let same : z ≡ x = cc in
-    ap (λ b. if b then Some x.has_ended else ended_lane zs y) (of_given x ends y) ∙ ap (λ v. if is_of v y then Some v.has_ended else ended_lane zs y) (sym same)
+    ap (λ v. if is_of v y then Some v.has_ended else ended_lane zs y) (sym same)
 lanes_given (z ∷ zs) (suc l) x ends y at = ap (λ o. if is_of z y then Some z.has_ended else o) (lanes_given zs l x ends y at)
 
 given_fits : (s : State) (l : ℕ) → Fits s → Fits (given s l)

@@ -1,6 +1,6 @@
 -- Lanes keep their labels and lines, and tell which command each gave last.
 use Rattle.std.proofs.Common.{◌≡◌, ℕ, zero, suc, ◌+◌, ◌-◌, Bool, true, false, not, List, [], ◌∷◌, ◌++◌, map, Option, None, Some, Result, refl, ap, sym, ◌∙◌, subst, arith}
-use Rattle.std.proofs.lemmas.Bool.{and_parts, not-true}
+use Rattle.std.proofs.lemmas.Bool.{true≢false, and_parts, not-true, false_from_ne_true}
 use Rattle.std.specs.Prelude.{if◌then◌else◌, slice_get, slice_set, option_and_then}
 use Rattle.std.specs.List.{list_all}
 use Rattle.cics_names.specs.Keyed.{Bytes, is_same}
@@ -20,7 +20,6 @@ use Rattle.cics_orders.specs.Gists.{Gist, gist, gists_hearing, gists_shut}
 use Rattle.cics_orders.specs.declared.lanes.Lane.{Lane}
 use Rattle.cics_orders.specs.Stamps.{seen}
 use Rattle.cics_orders.specs.GivenWaits.{said, last_command, command_of, AreGiven}
-use Rattle.cics_orders.specs.Seen.{of_seen}
 
 -- a lane before its first line
 abbrev pub frame : Lane → Lane
@@ -33,29 +32,6 @@ core_of g = record { label = g.label; lines = g.lines; given = g.given; told = [
 -- a lane without what its task was told
 abbrev pub core : Lane → Lane
 core x = core_of (gist x)
-
--- ---- Whose lane it is
-
-frame_labels : (l : Option Bytes) (x : Lane) (y : Bytes) → is_of (record (frame x) { label = l }) y ≡ is_of (record x { label = l }) y
-frame_labels None x y = refl
-frame_labels (Some k) x y = refl
-
-of_frame : (x : Lane) (y : Bytes) → is_of (frame x) y ≡ is_of x y
-of_frame x y = frame_labels x.label x y
-
-core_labels : (l : Option Bytes) (x : Lane) (y : Bytes) → is_of (record (core x) { label = l }) y ≡ is_of (record x { label = l }) y
-core_labels None x y = refl
-core_labels (Some k) x y = refl
-
-of_core : (x : Lane) (y : Bytes) → is_of (core x) y ≡ is_of x y
-of_core x y = core_labels x.label x y
-
-given_labels : (l : Option Bytes) (x : Lane) (ends : Bool) (y : Bytes) → is_of (record (with_given x ends) { label = l }) y ≡ is_of (record x { label = l }) y
-given_labels None x ends y = refl
-given_labels (Some k) x ends y = refl
-
-pub of_given : (x : Lane) (ends : Bool) (y : Bytes) → is_of (with_given x ends) y ≡ is_of x y
-of_given x ends y = given_labels x.label x ends y
 
 -- ---- Hearing and the shutdown
 
@@ -78,7 +54,7 @@ core_shut xs = gist_cores (map shut xs) xs (gists_shut xs)
 -- the core of a lane tells its last command
 commands_core : (xs : List Lane) (label : Bytes) → command_of (map core xs) label ≡ command_of xs label
 commands_core [] label = refl
-commands_core (x ∷ xs) label = λ i. if of_core x label i then last_command x else commands_core xs label i
+commands_core (x ∷ xs) label = ap (λ o. if is_of x label then last_command x else o) (commands_core xs label)
 
 -- lanes with the same cores gave the same last
 pub core_gave : (xs ys : List Lane) → map core xs ≡ map core ys → (label : Bytes) → command_of xs label ≡ command_of ys label
@@ -97,7 +73,7 @@ core_frames xs ys same = sym (frames_core xs) ∙ ap (map frame) same ∙ frames
 module _ (told serial : Bool) where
   commands_seen : (xs : List Lane) (label : Bytes) → command_of (map (seen told serial) xs) label ≡ command_of xs label
   commands_seen [] label = refl
-  commands_seen (x ∷ xs) label = λ i. if of_seen told serial x label i then last_command x else commands_seen xs label i
+  commands_seen (x ∷ xs) label = ap (λ o. if is_of x label then last_command x else o) (commands_seen xs label)
 
   pub seen_gave : (xs ys : List Lane) → map (seen told serial) xs ≡ map (seen told serial) ys → (label : Bytes) → command_of xs label ≡ command_of ys label
   seen_gave xs ys same label = sym (commands_seen xs label) ∙ ap (λ zs. command_of zs label) same ∙ commands_seen ys label
@@ -130,12 +106,12 @@ AreRight (x ∷ xs) = HasRight x × AreRight xs
 
 none_frames : (xs : List Lane) (label : Bytes) → NoneOf (map frame xs) label → NoneOf xs label
 none_frames [] label none = tt
-none_frames (x ∷ xs) label (first, none) = (sym (of_frame x label) ∙ first, none_frames xs label none)
+none_frames (x ∷ xs) label (first, none) = (first, none_frames xs label none)
 
 -- lanes whose frames have different labels have different labels
 pub apart_frames : (xs : List Lane) → AreApart (map frame xs) → AreApart xs
 apart_frames [] apart = tt
-apart_frames (x ∷ xs) (first, apart) = (λ label own. none_frames xs label (first label (of_frame x label ∙ own)), apart_frames xs apart)
+apart_frames (x ∷ xs) (first, apart) = (λ label own. none_frames xs label (first label own), apart_frames xs apart)
 
 -- lanes whose frames are right are right
 pub right_frames : (xs : List Lane) → AreRight (map frame xs) → AreRight xs
@@ -168,7 +144,7 @@ other_given : (xs : List Lane) (l : ℕ) (x : Lane) (ends : Bool) (label : Bytes
 other_given [] l x ends label at other = refl
 other_given (y ∷ ys) zero x ends label at other =
     let same : y ≡ x = cc in
-    ap (λ b. if b then last_command (with_given x ends) else command_of ys label) (of_given x ends label ∙ other)
+    ap (λ b. if b then last_command (with_given x ends) else command_of ys label) other
     ∙ sym (ap (λ b. if b then last_command y else command_of ys label) (ap (λ z. is_of z label) same ∙ other))
 other_given (y ∷ ys) (suc l) x ends label at other = ap (λ o. if is_of y label then last_command y else o) (other_given ys l x ends label at other)
 
@@ -177,7 +153,7 @@ own_given : (xs : List Lane) (l : ℕ) (x : Lane) (ends : Bool) (label : Bytes) 
     command_of (slice_set xs l (with_given x ends)) label ≡ last_command (with_given x ends)
 own_given [] l x ends label at own apart = cc
 own_given (y ∷ ys) zero x ends label at own apart =
-    ap (λ b. if b then last_command (with_given x ends) else command_of ys label) (of_given x ends label ∙ own)
+    ap (λ b. if b then last_command (with_given x ends) else command_of ys label) own
 own_given (y ∷ ys) (suc l) x ends label at own (first, apart) = by (own_given ys l x ends label at own apart) (is_of y label) refl
   where
     by : command_of (slice_set ys l (with_given x ends)) label ≡ last_command (with_given x ends) → (b : Bool) → is_of y label ≡ b → (if b then last_command y else command_of (slice_set ys l (with_given x ends)) label) ≡ last_command (with_given x ends)
@@ -198,15 +174,14 @@ pub waits_given : (xs : List Lane) (l : ℕ) (x : Lane) (ends : Bool) → slice_
     ((label : Bytes) → is_of x label ≡ true → is_waiting ws label ≡ false) → AreGiven xs ws → AreGiven (slice_set xs l (with_given x ends)) ws
 waits_given xs l x ends at [] idle all = tt
 waits_given xs l x ends at (w ∷ ws) idle (first, all) =
-    (other_given xs l x ends w.label at (by (is_of x w.label) refl) ∙ first, waits_given xs l x ends at ws rest all)
+    (other_given xs l x ends w.label at (false_from_ne_true (is_of x w.label) other) ∙ first, waits_given xs l x ends at ws rest all)
   where
     apart : (b c : Bool) → (if b then true else c) ≡ false → c ≡ false
     apart true c none = cc
     apart false c none = none
 
-    by : (b : Bool) → is_of x w.label ≡ b → b ≡ false
-    by true own = let clash : true ≡ false = sym (ap (λ b. if b then true else is_waiting ws w.label) (is_same-self w.label)) ∙ idle w.label own in cc
-    by false other = refl
+    other : is_of x w.label ≡ true → ⊥
+    other own = true≢false (sym (ap (λ b. if b then true else is_waiting ws w.label) (is_same-self w.label)) ∙ idle w.label own)
 
     rest : (label : Bytes) → is_of x label ≡ true → is_waiting ws label ≡ false
     rest label own = apart (is_same w.label label) (is_waiting ws label) (idle label own)

@@ -41,12 +41,14 @@ pub record State : Type 0 where
 
 -- ---- What a task is told
 
+-- this is a label, and the same
+abbrev pub is_labelled : Option Bytes → Bytes → Bool
+is_labelled None label = false
+is_labelled (Some own) label = is_same own label
+
 -- a lane is that of a label
 abbrev pub is_of : Lane → Bytes → Bool
-is_of lane label = is_labelled lane.label where
-  is_labelled : Option Bytes → Bool
-  is_labelled None = false
-  is_labelled (Some own) = is_same own label
+is_of lane label = is_labelled lane.label label
 
 -- an outcome that ends its task
 abbrev pub is_last : Outcome → Bool

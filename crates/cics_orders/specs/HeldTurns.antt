@@ -1,7 +1,7 @@
 -- Serial orders: what a line leaves as it is, and a task that is left within a turn, which gives in
 -- the end.
 use Rattle.std.proofs.Common.{◌≡◌, ℕ, zero, suc, ◌+◌, ◌-◌, ◌==◌, Bool, true, false, not, ◌&&◌, ◌||◌, ◌⊎◌, List, [], ◌∷◌, ◌++◌, map, length, drop, Option, None, Some, option_map, option_and_then, Result, Ok, Err, refl, ap, sym, ◌∙◌, arith, subst, inl, inr}
-use Rattle.std.proofs.lemmas.Bool.{and_parts, and_left, and_right, or_parts, not-true, eqb-true, eqb-false, ne_eqb}
+use Rattle.std.proofs.lemmas.Bool.{true≢false, false_from_ne_true, and_parts, and_left, and_right, or_parts, not-true, eqb-true, eqb-false, ne_eqb}
 use Rattle.std.proofs.lemmas.List.{length-map, map-set}
 use Rattle.std.proofs.lemmas.Option.{slice_get-map}
 use Rattle.std.specs.Prelude.{if◌then◌else◌, is_some, is_none, slice_get, slice_set}
@@ -31,7 +31,7 @@ use Rattle.cics_plans.specs.Taking.{NumberedLine, has_task}
 use Rattle.cics_plans.specs.Proper.{is_command_of, is_timing, has_own_lines, are_distinct, is_proper}
 use Rattle.cics_plans.specs.declared.plans.Plan.{Plan}
 use Rattle.cics_plans.specs.declared.plans.TaskPlan.{TaskPlan}
-use Rattle.cics_orders.specs.Giving.{State, is_of, told_more, with_told, hearing, issuing, timing, left_by, after_line, late, resumed, drain_step, told_by, drained_once, after_step, drained_within, drained, may_give, is_ready, givers, is_lane, with_given, counted, ends_turn, given, lanes, task_lane, fresh_lane, initial_lanes, initial_state}
+use Rattle.cics_orders.specs.Giving.{State, is_labelled, is_of, told_more, with_told, hearing, issuing, timing, left_by, after_line, late, resumed, drain_step, told_by, drained_once, after_step, drained_within, drained, may_give, is_ready, givers, is_lane, with_given, counted, ends_turn, given, lanes, task_lane, fresh_lane, initial_lanes, initial_state}
 use Rattle.cics_plans.proofs.Proper.{Proper, proper_parts, has_first}
 use Rattle.cics_orders.specs.declared.lanes.Lane.{Lane}
 use Rattle.cics_orders.specs.Turns.{is_shutdown, has_shutdown, may_go_on, turn_goes_on, lane_breaks, breaks}
@@ -188,13 +188,9 @@ record Passes (k : ℕ) (label : Bytes) (x : Lane) (s t : State) : Type 0 where
 held_passes : (k : ℕ) (label : Bytes) (x : Lane) (s t : State) → Stays s t → Passes k label x s t → Held k label x s → Held k label x t
 held_passes k label x s t same passes held = record {
   at = passes.at held.at;
-  awake = by (is_waiting t.machine.waiting label) refl;
+  awake = false_from_ne_true (is_waiting t.machine.waiting label) (λ is. true≢false (sym (passes.waits is) ∙ held.awake));
   spared = λ j g at other. held.spared j g (ap (λ gs. slice_get gs j) (sym same.gists) ∙ at) other;
 }
-  where
-    by : (b : Bool) → is_waiting t.machine.waiting label ≡ b → b ≡ false
-    by false is = refl
-    by true is = let clash : false ≡ true = sym held.awake ∙ passes.waits is in cc
 
 -- the first that is one is changed, and no other
 first_others : {X : Type 0} (is : X → Bool) (change : X → X) (xs : List X) (k : ℕ) (x : X) → is x ≡ false → slice_get xs k ≡ Some x → slice_get (with_first is change xs) k ≡ Some x
@@ -210,21 +206,13 @@ first_others {X} is change (y ∷ ys) k x other at = by (first_others is change 
     by rest false one zero at = at
     by rest false one (suc k) at = rest k x other at
 
-of_label : (l : Option Bytes) (x : Lane) (label own : Bytes) → l ≡ Some label → is_of (record x { label = l }) own ≡ is_same label own
-of_label None x label own is = cc
-of_label (Some k) x label own is = let same : k ≡ label = cc in ap (λ k. is_same k own) same
-
 other_way : (a b : Bytes) → is_same a b ≡ false → is_same b a ≡ false
-other_way a b other = by (is_same b a) refl
-  where
-    by : (c : Bool) → is_same b a ≡ c → c ≡ false
-    by false is = refl
-    by true is = let clash : true ≡ false = sym (is_same-self a) ∙ ap (is_same a) (sym (is_same-eq b a is)) ∙ other in cc
+other_way a b other = false_from_ne_true (is_same b a) (λ is. true≢false (sym (is_same-self a) ∙ ap (is_same a) (sym (is_same-eq b a is)) ∙ other))
 
 module _ (k : ℕ) (label : Bytes) (x : Lane) (within : Within label x) where
   told_other : (xs : List Lane) (own : Bytes) (o : Outcome) → is_same own label ≡ false → slice_get xs k ≡ Some x → slice_get (with_told xs own o) k ≡ Some x
   told_other xs own o other at =
-      first_others (λ lane. is_of lane own) (λ lane. told_more lane o) xs k x (of_label x.label x label own within.own ∙ other_way own label other) at
+      first_others (λ lane. is_of lane own) (λ lane. told_more lane o) xs k x (ap (λ l. is_labelled l own) within.own ∙ other_way own label other) at
 
   heard_other : (xs : List Lane) (own : Bytes) (o : Outcome) → is_same own label ≡ false → slice_get xs k ≡ Some x → slice_get (hearing xs own o) k ≡ Some x
   heard_other xs own (Replied r) other at = told_other xs own (Replied r) other at
@@ -297,11 +285,8 @@ module _ (k : ℕ) (label : Bytes) (x : Lane) (within : Within label x) where
     module _ (t : State) (awake : is_waiting s.machine.waiting label ≡ false) where
       -- a task that waits is another
       waits_other : (own : Bytes) → is_waiting m.waiting own ≡ true → is_same own label ≡ false
-      waits_other own waits = by (is_same own label) refl
-        where
-          by : (b : Bool) → is_same own label ≡ b → b ≡ false
-          by false is = refl
-          by true is = let clash : true ≡ false = sym waits ∙ ap (is_waiting m.waiting) (is_same-eq own label is) ∙ awake in cc
+      waits_other own waits =
+          false_from_ne_true (is_same own label) (λ is. true≢false (sym waits ∙ ap (is_waiting m.waiting) (is_same-eq own label is) ∙ awake))
 
       expires_passes : (o : Option Task) → first_late m m.waiting ≡ o →
           told_by s (late m (expired_task m o).outcome (expired_task m o).machine).outcome (late m (expired_task m o).outcome (expired_task m o).machine).machine ≡ Some t → Passes k label x s t

@@ -31,19 +31,6 @@ module _ {X : Type 0} (f : X → X) where
   pub numbers_mapped : (may : X → Bool) → ((x : X) → may (f x) ≡ may x) → (xs : List X) (from : ℕ) → numbered_from may (map f xs) from ≡ numbered_from may xs from
   numbers_mapped may same xs from = ap (numbered may from) (drop-map f from xs) ∙ numbered_mapped may same (drop from xs) from
 
--- ---- Whose lane it is
-
-module _ (told serial : Bool) where
-  abbrev see : Lane → Lane
-  see = seen told serial
-
-  seen_labels : (l : Option Bytes) (x : Lane) (y : Bytes) → is_of (record (see x) { label = l }) y ≡ is_of (record x { label = l }) y
-  seen_labels None x y = refl
-  seen_labels (Some k) x y = refl
-
-  pub of_seen : (x : Lane) (y : Bytes) → is_of (see x) y ≡ is_of x y
-  of_seen x y = seen_labels x.label x y
-
 -- ---- A task is told
 
 -- what is seen of a lane whose task is told an outcome
@@ -60,7 +47,7 @@ module _ (told serial : Bool) where
 
   lanes_told : (xs : List Lane) (label : Bytes) (o : Outcome) → sees (with_told xs label o) ≡ with_first (λ z. is_of z label) (told_seen told o) (sees xs)
   lanes_told [] label o = refl
-  lanes_told (x ∷ xs) label o = ap (λ b. sees (if b then told_more x o ∷ xs else x ∷ with_told xs label o)) (sym (of_seen told serial x label)) ∙ by (lanes_told xs label o) (is_of (seen told serial x) label)
+  lanes_told (x ∷ xs) label o = by (lanes_told xs label o) (is_of x label)
     where
       by : sees (with_told xs label o) ≡ with_first (λ z. is_of z label) (told_seen told o) (sees xs) → (b : Bool) →
           sees (if b then told_more x o ∷ xs else x ∷ with_told xs label o)

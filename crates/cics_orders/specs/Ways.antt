@@ -38,7 +38,7 @@ use Rattle.cics_plans.specs.Proper.{is_proper}
 use Rattle.cics_plans.specs.Taking.{NumberedLine}
 use Rattle.cics_plans.specs.declared.plans.Plan.{Plan}
 use Rattle.cics_plans.specs.declared.plans.TaskPlan.{TaskPlan}
-use Rattle.cics_orders.specs.Giving.{State, is_of, hearing, shut, issuing, timing, shutting, attaching, left_by, after_line, late, resumed, drain_step, told_by, drained_once, after_step, drained_within, drained, is_ready, may_give, givers, ends_turn, counted, given_line, given_by, given, lanes, defined_more, opened, unless_refused, with_task, initial_lanes, initial_state}
+use Rattle.cics_orders.specs.Giving.{State, is_labelled, is_of, hearing, shut, issuing, timing, shutting, attaching, left_by, after_line, late, resumed, drain_step, told_by, drained_once, after_step, drained_within, drained, is_ready, may_give, givers, ends_turn, counted, given_line, given_by, given, lanes, defined_more, opened, unless_refused, with_task, initial_lanes, initial_state}
 use Rattle.cics_orders.specs.OrderLaws.{May, numbers_may, plan_stays}
 use Rattle.cics_orders.specs.declared.lanes.Lane.{Lane}
 use Rattle.cics_orders.specs.Same.{SameState}
@@ -299,9 +299,9 @@ none_waits (w ∷ ws) label none = by (none_waits ws label) (is_same w.label lab
     by rest false none = rest none
 
 -- whose lane it is
-of_label : (l : Option Bytes) (x : Lane) (label : Bytes) → is_of (record x { label = l }) label ≡ true → l ≡ Some label
-of_label None x label own = cc
-of_label (Some k) x label own = ap Some (is_same-eq k label own)
+of_label : (l : Option Bytes) (label : Bytes) → is_labelled l label ≡ true → l ≡ Some label
+of_label None label own = cc
+of_label (Some k) label own = ap Some (is_same-eq k label own)
 
 -- a lane with a label is that of the label
 pub label_of_lane : (l : Option Bytes) (x : Lane) (label : Bytes) → l ≡ Some label → is_of (record x { label = l }) label ≡ true
@@ -317,7 +317,7 @@ module _ (begun : OpeningState) (fr : List Lane) (s : State) (l : ℕ) (x : Lane
     (at : slice_get s.lanes l ≡ Some x) where
   idle : is_ready s.machine x.has_ended x.label ≡ true → (label : Bytes) → is_of x label ≡ true → is_waiting s.machine.waiting label ≡ false
   idle ready label own =
-      let mine : x.label ≡ Some label = of_label x.label x label own in
+      let mine : x.label ≡ Some label = of_label x.label label own in
       let told : is_ready s.machine x.has_ended (Some label) ≡ true = ap (is_ready s.machine x.has_ended) (sym mine) ∙ ready in
       none_waits s.machine.waiting label (and_parts (not x.has_ended) (is_none (waiting_command s.machine label)) told).1
 

@@ -159,7 +159,7 @@ impl Walker {
     ///
     /// Errors: `NoMemory`, also if a definition of the plan has a fault.
     ///
-    /// Cost: O(definitions + tasks + lanes).
+    /// Cost: O(definitions + tasks + lines).
     #[tactic(
         auto,
         using(crate::specs::GivenLanes::frames_initial),
@@ -365,7 +365,7 @@ impl Walker {
     ///
     /// Errors: `NoMemory`.
     ///
-    /// Cost: that of the line, and of a step of draining for each command that goes on.
+    /// Cost: that of the line's event and of each step of draining, and O(lanes) for each outcome.
     pub fn give(&mut self, number: usize) -> Result<(), NoMemory>
         ensures { OnOk result (self.new ≡ given self.old number) }
     {
@@ -388,7 +388,7 @@ impl Walker {
     ///
     /// Errors: `NoMemory`.
     ///
-    /// Cost: O(bytes of the stamp).
+    /// Cost: that of the region's stamp, and O(bytes) of the lanes'.
     #[tactic(auto, unfolding(crate::specs::Stamps::state_stamp))]
     pub fn stamp(&self, told: bool, serial: bool, out: &mut Vec<u8>) -> Result<(), NoMemory>
         ensures { OnOk result (out.new.items ≡ out.old.items ++ state_stamp told serial self.now) }
