@@ -15,7 +15,7 @@ use Rattle.cics_plans.specs.Proper.{is_command_of, is_timing, has_own_lines, are
 use Rattle.cics_plans.proofs.Proper.{has_first, proper_parts}
 use Rattle.cics_plans.specs.declared.plans.Plan.{Plan}
 use Rattle.cics_plans.specs.declared.plans.TaskPlan.{TaskPlan}
-use Rattle.cics_orders.specs.Giving.{is_of, hearing, shut, with_given, fresh_lane, task_lane, initial_lanes}
+use Rattle.cics_orders.specs.Giving.{is_of, hearing, shut, with_given, fresh_lane, task_lane, initial_lanes, initial_machine, initial_state}
 use Rattle.cics_orders.specs.Gists.{Gist, gist, gists_hearing, gists_shut}
 use Rattle.cics_orders.specs.declared.lanes.Lane.{Lane}
 use Rattle.cics_orders.specs.Stamps.{seen}
@@ -233,3 +233,8 @@ frames_tasks clock (t ∷ ts) = ap (λ xs. task_lane t ∷ xs) (frames_tasks clo
 -- initial lanes are their own frames
 pub frames_initial : (p : Plan) → map frame (initial_lanes p) ≡ initial_lanes p
 frames_initial p = frames_tasks p.clock p.tasks
+
+-- in the initial state of a plan no line of its lanes is given
+pub initial_is : (p : Plan) → initial_state p ≡ record { plan = p; machine = initial_machine p; lanes = map frame (initial_lanes p); last = None; is_serial = true }
+unfolding initial_state
+initial_is p = ap (λ xs. record { plan = p; machine = initial_machine p; lanes = xs; last = None; is_serial = true }) (sym (frames_initial p))

@@ -9,7 +9,8 @@ use Rattle.cics_lanes.specs.Orders.{Order, after, orders, IsWay, AreStampedAlike
 use Rattle.cics_lanes.specs.Endings.{Parts}
 use Rattle.cics_plans.specs.Proper.{is_proper}
 use Rattle.cics_plans.specs.declared.plans.Plan.{Plan}
-use Rattle.cics_orders.specs.Giving.{State, is_lane, givers, given, lanes, initial_state, line_count}
+use Rattle.cics_orders.specs.Giving.{State, is_lane, givers, given, lanes, initial_lanes, initial_machine, initial_state, line_count}
+use Rattle.cics_orders.specs.GivenLanes.{frame, initial_is}
 use Rattle.cics_orders.specs.OrderLaws.{most_ends, plan_stays}
 use Rattle.cics_orders.specs.Same.{SameState}
 use Rattle.cics_orders.specs.SameSteps.{given_alike, givers_alike, stamps_alike}
@@ -44,6 +45,11 @@ proper_is p = proper_by p (is_proper p) refl
 -- a proper plan stays
 pub proper_stays : (p : Plan) → is_proper p ≡ true → proper p ≡ p
 proper_stays p is = ap (λ b. if b then p else record { definitions = []; tasks = []; clock = [] }) is
+
+-- the orders of a proper plan start in its initial state
+pub start_is : (p : Plan) → is_proper p ≡ true →
+    initial_state (proper p) ≡ record { plan = p; machine = initial_machine p; lanes = map frame (initial_lanes p); last = None; is_serial = true }
+start_is p is = ap initial_state (proper_stays p is) ∙ initial_is p
 
 -- a line that is given doesn't change the start
 pub given_start : (s : State) (l : ℕ) → start_of (given s l) ≡ start_of s

@@ -160,11 +160,7 @@ impl Walker {
     /// Errors: `NoMemory`, also if a definition of the plan has a fault.
     ///
     /// Cost: O(definitions + tasks + lines).
-    #[tactic(
-        auto,
-        using(crate::specs::GivenLanes::frames_initial),
-        unfolding(crate::specs::Giving::initial_state)
-    )]
+    #[tactic(auto, using(crate::specs::GivenLanes::initial_is))]
     pub fn new(alloc: Global, plan: Plan) -> Result<Walker, NoMemory>
         requires { is_proper plan ≡ true }
         ensures { IfOk result (λ walker. walker ≡ initial_state plan) }
@@ -209,11 +205,7 @@ impl Walker {
     /// Errors: `NoMemory`.
     ///
     /// Cost: O(definitions + tasks + lanes).
-    #[tactic(
-        auto,
-        using(crate::specs::StampLaws::proper_stays, crate::specs::GivenLanes::frames_initial),
-        unfolding(crate::specs::Giving::initial_state)
-    )]
+    #[tactic(auto, using(crate::specs::StampLaws::start_is))]
     pub fn restart(&mut self) -> Result<(), NoMemory>
         ensures { OnOk result (self.new ≡ start_of self.old) }
     {
