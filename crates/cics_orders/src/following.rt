@@ -10,6 +10,7 @@ ghost use Rattle.cics_orders.specs.Same.{SameState};
 ghost use Rattle.cics_orders.specs.Stamps.{state_stamp};
 ghost use Rattle.cics_orders.specs.Turns.{breaks};
 
+use crate::stamping::Sight;
 use crate::walks::Walker;
 use cics_lanes::Walk;
 use cics_names::{Items, NoMemory, Record};
@@ -132,7 +133,11 @@ impl<T: Tells> Walk for Following<T> {
     }
 
     fn stamp(&self, with_serial: bool, out: &mut Vec<u8>) -> Result<(), NoMemory> {
-        self.walker.stamp(self.teller.has_told(), with_serial, out)
+        let sight = Sight {
+            told: self.teller.has_told(),
+            serial: with_serial,
+        };
+        self.walker.stamp(sight, out)
     }
 }
 

@@ -15,4 +15,5 @@ pub use following::{Tells, ToldPlan, explore_script};
 pub use lanes::Lane;
 pub use laws::{lanes_tell_ended_tasks, lines_are_not_refused, orders_end, orders_rest};
 pub use lines::Lines;
+pub use stamping::Sight;
 pub use walks::Walker;

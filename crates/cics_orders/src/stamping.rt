@@ -130,35 +130,38 @@ fn stamp_outcomes(out: &mut Vec<u8>, outcomes: &[Outcome]) -> Result<(), NoMemor
     stamp_number(out, 0)
 }
 
+/// What a stamp tells of a state.
+#[derive(Clone, Copy)]
+pub struct Sight {
+    /// Whether it has all that tasks were told, else how they ended.
+    pub told: bool,
+    /// Whether it tells if a serial order stays so.
+    pub serial: bool,
+}
+
 impl Lane {
-    /// Appends its stamp, but for its label and its lines. With `told` it has all that its task was
-    /// told, else how it has ended. It has whether the task is within a turn only with `serial`.
-    pub(crate) fn stamp(&self, told: bool, serial: bool, out: &mut Vec<u8>) -> Result<(), NoMemory>
+    /// Appends its stamp, but for its label and its lines.
+    pub(crate) fn stamp(&self, sight: Sight, out: &mut Vec<u8>) -> Result<(), NoMemory>
         ensures { OnOk result (out.new.items
-            ≡ out.old.items ++ lane_stamp (seen told serial self.now)) }
+            ≡ out.old.items ++ lane_stamp (seen sight.told sight.serial self.now)) }
     {
         stamp_number(out, self.given as u64)?;
         stamp_flag(out, self.has_ended)?;
-        stamp_outcomes(out, told_of(self.told.as_slice(), told))?;
-        stamp_flag(out, serial && self.is_in_turn)
+        stamp_outcomes(out, told_of(self.told.as_slice(), sight.told))?;
+        stamp_flag(out, sight.serial && self.is_in_turn)
     }
 }
 
 /// Appends the stamps of lanes.
 ///
 /// Errors: `NoMemory`.
-pub(crate) fn stamp_lanes(
-    out: &mut Vec<u8>,
-    lanes: &[Lane],
-    told: bool,
-    serial: bool,
-) -> Result<(), NoMemory>
-    ensures { OnOk result (out.new.items
-        ≡ out.old.items ++ list_stamp lane_stamp (map (seen told serial) lanes.now)) }
+pub(crate) fn stamp_lanes(out: &mut Vec<u8>, lanes: &[Lane], sight: Sight) -> Result<(), NoMemory>
+    ensures { OnOk result (out.new.items ≡ out.old.items
+        ++ list_stamp lane_stamp (map (seen sight.told sight.serial) lanes.now)) }
 {
     for lane in lanes {
         stamp_number(out, 1)?;
-        lane.stamp(told, serial, out)?;
+        lane.stamp(sight, out)?;
     }
     stamp_number(out, 0)
 }

@@ -18,7 +18,7 @@ use crate::events;
 use crate::lanes::{Lane, fresh_lanes, hear, initial_lanes, shut_all};
 use crate::lines::Lines;
 use crate::shutdowns::lines_to_shutdown;
-use crate::stamping::{stamp_lanes, stamp_last};
+use crate::stamping::{Sight, stamp_lanes, stamp_last};
 use crate::starting::{initial_region, opened};
 use cics_dispatch::Region;
 use cics_names::{Command, Name8, NoMemory, Verb, stamp_flag};
@@ -374,20 +374,19 @@ impl Walker {
     }
 
     /// Appends the stamp of this state. Take two walkers of one plan that gave only lines of lanes
-    /// that might give. If they have one stamp, they go on alike (`specs/StampLaws`). With `told` it
-    /// has all that tasks were told, else how they ended. With `serial` it also tells whether a
-    /// serial order stays so.
+    /// that might give. If they have one stamp, they go on alike (`specs/StampLaws`).
     ///
     /// Errors: `NoMemory`.
     ///
     /// Cost: that of the region's stamp, and O(bytes) of the lanes'.
     #[tactic(auto, unfolding(crate::specs::Stamps::state_stamp))]
-    pub fn stamp(&self, told: bool, serial: bool, out: &mut Vec<u8>) -> Result<(), NoMemory>
-        ensures { OnOk result (out.new.items ≡ out.old.items ++ state_stamp told serial self.now) }
+    pub fn stamp(&self, sight: Sight, out: &mut Vec<u8>) -> Result<(), NoMemory>
+        ensures { OnOk result (out.new.items
+            ≡ out.old.items ++ state_stamp sight.told sight.serial self.now) }
     {
-        stamp_lanes(out, self.lanes.as_slice(), told, serial)?;
-        stamp_last(out, self.last, serial)?;
-        stamp_flag(out, serial && self.is_serial)?;
+        stamp_lanes(out, self.lanes.as_slice(), sight)?;
+        stamp_last(out, self.last, sight.serial)?;
+        stamp_flag(out, sight.serial && self.is_serial)?;
         self.region.stamp(out)
     }
 }
