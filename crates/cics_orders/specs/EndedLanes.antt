@@ -1,5 +1,5 @@
 -- The lanes and the machine agree on which tasks have ended, after every order.
-use Rattle.std.proofs.Common.{◌≡◌, ℕ, zero, suc, Bool, true, false, cond, List, [], ◌∷◌, ◌++◌, map, Option, None, Some, option_map, Result, Ok, Err, refl, ap, sym, ◌∙◌, subst, length, append_assoc}
+use Rattle.std.proofs.Common.{◌≡◌, ℕ, zero, suc, Bool, true, false, cond, List, [], ◌∷◌, ◌++◌, map, Option, None, Some, option_map, Result, Ok, Err, refl, ap, sym, ◌∙◌, subst, append_assoc}
 use Rattle.std.specs.Prelude.{if◌then◌else◌, is_none, is_some, slice_get, slice_set}
 use Rattle.std.specs.List.{fold}
 use Rattle.cics_names.specs.Keyed.{Bytes, is_same}
@@ -11,7 +11,7 @@ use Rattle.cics_machine.specs.Steps.{Stepped, new_task, attach_refusal, with_new
 use Rattle.cics_machine.specs.Checks.{fault_of}
 use Rattle.cics_machine.specs.Blockers.{waiting_command}
 use Rattle.cics_machine.specs.Shutdown.{all_ended, shut_down}
-use Rattle.cics_machine.specs.Waking.{may_go_on, first_free, went_on, woken_first, is_late, first_late, expired_task, expired, clock_refusal}
+use Rattle.cics_machine.specs.Waking.{may_go_on, first_free, went_on, woken_first, is_late, first_late, expired_task, expired}
 use Rattle.cics_machine.specs.declared.outcomes.Outcome.{Outcome}
 use Rattle.cics_machine.specs.declared.outcomes.Outcome.TheVariants.{Replied, Waiting, Abended, Ended}
 use Rattle.cics_machine.specs.declared.outcomes.Refused.{Refused}
@@ -26,7 +26,8 @@ use Rattle.cics_lanes.specs.Orders.{Order, after}
 use Rattle.cics_plans.specs.Taking.{NumberedLine}
 use Rattle.cics_plans.specs.declared.plans.Plan.{Plan}
 use Rattle.cics_plans.specs.declared.plans.TaskPlan.{TaskPlan}
-use Rattle.cics_orders.specs.Giving.{State, is_labelled, is_of, is_last, told_more, with_told, hearing, shut, issuing, timing, shutting, attaching, left_by, after_line, late, resumed, drain_step, told_by, drained_once, after_step, drained_within, drained, with_given, counted, ends_turn, given_line, given_by, given, lanes, opened, unless_refused, with_task, task_lane, fresh_lane, initial_state}
+use Rattle.cics_orders.specs.Giving.{State, is_labelled, is_of, is_last, told_more, with_told, hearing, shut, issuing, shutting, attaching, left_by, after_line, late, resumed, drain_step, told_by, drained_once, drained, with_given, counted, ends_turn, given_line, given_by, given, lanes, opened, unless_refused, with_task, task_lane, fresh_lane, initial_state}
+use Rattle.cics_orders.specs.EventCases.{step_of, after_heard, issue_cases, clock_cases, attach_cases, drained_keeps}
 use Rattle.cics_orders.specs.declared.lanes.Lane.{Lane}
 use Rattle.cics_orders.specs.Ended.{ended_task, ended_lane, Agrees, IsAccepted, AcceptsReady}
 use Rattle.cics_orders.specs.Ways.{attaches_wait, none_waits}
@@ -96,7 +97,7 @@ pub record Fits (s : State) : Type 0 where
 
 -- a step of a task that has not ended tells its lane
 stepped : (s : State) (m : Machine) (label : Bytes) (step : Stepped Outcome) → ((x : Bytes) → ended_lane s.lanes x ≡ ended_task m.tasks x) → Awake m → Down m →
-    ended_task m.tasks label ≡ Some false → Tells m label step → Fits (record s { machine = step.machine; lanes = hearing s.lanes label step.outcome })
+    ended_task m.tasks label ≡ Some false → Tells m label step → Fits (after_heard s label step)
 stepped s m label step agrees awake down there tells = record {
   agrees = λ y.
       heard s.lanes label step.outcome y (agrees label ∙ there)
@@ -114,50 +115,25 @@ stepped s m label step agrees awake down there tells = record {
 
 -- ---- A line
 
-module _ (s : State) (fits : Fits s) where
-  abbrev m : Machine
-  m = s.machine
+-- a command is refused, or it is a step of a task that has not ended
+pub issue_steps : (P : State → Type 0) (s : State) → P s → (label : Bytes) (c : Command) →
+    ((step : Stepped Outcome) → ended_task s.machine.tasks label ≡ Some false → Tells s.machine label step → P (after_heard s label step)) → P (after_line s (Ok (says.Issue label c)))
+issue_steps P s same label c taken = issue_cases P s same label c by
+  where
+    m : Machine
+    m = s.machine
 
-  issue : (label : Bytes) (c : Command) → Fits (after_line s (Ok (says.Issue label c)))
-  unfolding issuing
-  issue label c = by m.is_down
-    where
-      after_step_of : Stepped (Result Outcome Refused) → State
-      after_step_of r = left_by s (hearing s.lanes label) r.outcome r.machine
+    by : (t : Task) → task_at m.tasks label ≡ Some t → t.has_ended ≡ false → is_waiting m.waiting t.label ≡ false → P (after_heard s label (step_of m t c))
+    by t at ended waits =
+        let own : t.label ≡ label = (place_of_task m.tasks label t at).2 in
+        let there : ended_task m.tasks label ≡ Some false = ap (option_map (λ t. t.has_ended)) at ∙ ap Some ended in
+        taken (step_of m t c) there (subst (λ l. Tells m l (step_of m t c)) own (tells_checked m t (ap (ended_task m.tasks) own ∙ there) ended c waits (fault_of m t c.verb)))
 
-      step : Task → Stepped Outcome
-      step t = checked m t c (fault_of m t c.verb)
+issue : (s : State) → Fits s → (label : Bytes) (c : Command) → Fits (after_line s (Ok (says.Issue label c)))
+issue s fits label c = issue_steps Fits s fits label c (λ step there tells. stepped s s.machine label step fits.agrees fits.awake fits.down there tells)
 
-      unless : (t : Task) → task_at m.tasks label ≡ Some t → (b d : Bool) → t.has_ended ≡ b → is_waiting m.waiting t.label ≡ d →
-          Fits (after_step_of (refused_or m (if b then Some TaskEnded else if d then Some TaskWaiting else None) (step t)))
-      unless t at true d ended waits = fits
-      unless t at false true ended waits = fits
-      unless t at false false ended waits =
-          let own : t.label ≡ label = (place_of_task m.tasks label t at).2 in
-          let there : ended_task m.tasks label ≡ Some false = ap (option_map (λ t. t.has_ended)) at ∙ ap Some ended in
-          stepped s m label (step t) fits.agrees fits.awake fits.down there
-          (subst (λ l. Tells m l (step t)) own (tells_checked m t (ap (ended_task m.tasks) own ∙ there) ended c waits (fault_of m t c.verb)))
-
-      task : (o : Option Task) → task_at m.tasks label ≡ o → Fits (after_step_of (issued_by m c o))
-      task None at = fits
-      task (Some t) at = unless t at t.has_ended (is_waiting m.waiting t.label) refl refl
-
-      by : (b : Bool) → Fits (after_step_of (if b then record { outcome = Err RegionDown; machine = m } else issued_by m c (task_at m.tasks label)))
-      by true = fits
-      by false = task (task_at m.tasks label) refl
-
-  clock : (seconds : ℕ) → Fits (after_line s (Ok (says.Clock seconds)))
-  unfolding timing
-  clock seconds = by m.is_down (clock_refusal m seconds)
-    where
-      after_step_of : Stepped (Result (Unit {0}) Refused) → State
-      after_step_of r = left_by s (λ _. s.lanes) r.outcome r.machine
-
-      by : (b : Bool) (r : Option Refused) →
-          Fits (after_step_of (if b then record { outcome = Err RegionDown; machine = m } else refused_or m r (record { outcome = tt; machine = record m { clock = seconds } })))
-      by true r = fits
-      by false (Some e) = fits
-      by false None = record { agrees = fits.agrees; awake = fits.awake; down = fits.down }
+clock : (s : State) → Fits s → (seconds : ℕ) → Fits (after_line s (Ok (says.Clock seconds)))
+clock s fits seconds = clock_cases Fits s fits seconds (record { agrees = fits.agrees; awake = fits.awake; down = fits.down })
 
 -- ---- The shutdown
 
@@ -276,65 +252,64 @@ late_waits m t (v ∷ ws) is =
 pub not_ended : (o : Option Task) (t : Task) → o ≡ Some t → option_map (λ t. t.has_ended) o ≡ Some false → t.has_ended ≡ false
 not_ended o t is ended = cc
 
-module _ (s t : State) (fits : Fits s) where
+-- a step of draining is one of a task that waits
+module _ (P : State → Type 0) (s t : State) (fits : Fits s)
+    (taken : (ws : List Suspended) (label : Bytes) (step : Stepped Outcome) → is_waiting s.machine.waiting label ≡ true →
+    ((x : Bytes) → is_waiting ws x ≡ true → is_waiting s.machine.waiting x ≡ true) → Tells (with_waiting s.machine ws) label step → P (after_heard s label step)) where
   abbrev mine : Machine
   mine = s.machine
 
   -- a task that has waited too long is abended
   expires : (o : Option Task) → first_late mine mine.waiting ≡ o →
-      told_by s (late mine (expired_task mine o).outcome (expired_task mine o).machine).outcome (late mine (expired_task mine o).outcome (expired_task mine o).machine).machine ≡ Some t → Fits t
+      told_by s (late mine (expired_task mine o).outcome (expired_task mine o).machine).outcome (late mine (expired_task mine o).outcome (expired_task mine o).machine).machine ≡ Some t → P t
   expires None at is = cc
   expires (Some u) at is =
       let found = late_waits mine u mine.waiting at in
       let there : ended_task mine.tasks u.label ≡ Some false = fits.awake u.label found.0 in
       let alive : u.has_ended ≡ false = not_ended (task_at mine.tasks u.label) u found.1 there in
-      let same : record s { machine = abended mine u; lanes = hearing s.lanes u.label (Abended timed_out None) } ≡ t = cc in
-      subst Fits same
-      (stepped s mine u.label (record { outcome = Abended timed_out None; machine = abended mine u }) fits.agrees fits.awake fits.down there
-      (abends mine u there alive mine u timed_out None (itself mine u there alive) refl))
+      let step : Stepped Outcome = record { outcome = Abended timed_out None; machine = abended mine u } in
+      let same : after_heard s u.label step ≡ t = cc in
+      subst P same (taken mine.waiting u.label step found.0 (λ x waits. waits) (abends mine u there alive mine u timed_out None (itself mine u there alive) refl))
 
   -- a command resumes, or else that
   resumes : (w : Suspended) → first_free mine mine.waiting ≡ Some w → (o : Option Task) → task_at mine.tasks w.label ≡ o → (expiry : Stepped (Option (Bytes × Outcome))) →
-      (told_by s expiry.outcome expiry.machine ≡ Some t → Fits t) →
-      told_by s (resumed (went_on mine w o).outcome (went_on mine w o).machine expiry).outcome (resumed (went_on mine w o).outcome (went_on mine w o).machine expiry).machine ≡ Some t → Fits t
-  resumes w free None at expiry else_fits is = else_fits is
-  resumes w free (Some u) at expiry else_fits is =
-      let rest = with_waiting mine (not_waiting mine.waiting w.label) in
+      (told_by s expiry.outcome expiry.machine ≡ Some t → P t) →
+      told_by s (resumed (went_on mine w o).outcome (went_on mine w o).machine expiry).outcome (resumed (went_on mine w o).outcome (went_on mine w o).machine expiry).machine ≡ Some t → P t
+  resumes w free None at expiry else_so is = else_so is
+  resumes w free (Some u) at expiry else_so is =
+      let ws = not_waiting mine.waiting w.label in
+      let rest = with_waiting mine ws in
       let own : u.label ≡ w.label = (place_of_task mine.tasks w.label u at).2 in
-      let there : ended_task mine.tasks w.label ≡ Some false = fits.awake w.label (free_waits mine w mine.waiting free) in
+      let waits = free_waits mine w mine.waiting free in
+      let there : ended_task mine.tasks w.label ≡ Some false = fits.awake w.label waits in
       let alive : u.has_ended ≡ false = not_ended (task_at mine.tasks w.label) u at there in
       let step = by_op rest u w.command w.op in
-      let same : record s { machine = step.machine; lanes = hearing s.lanes w.label step.outcome } ≡ t = cc in
-      subst Fits same
-      (stepped s rest w.label step fits.agrees (λ x waits. fits.awake x (still_waits mine.waiting w.label x waits)) fits.down there
+      let same : after_heard s w.label step ≡ t = cc in
+      subst P same
+      (taken ws w.label step waits (still_waits mine.waiting w.label)
       (subst (λ l. Tells rest l step) own
-      (tells rest u (ap (ended_task mine.tasks) own ∙ there) alive w.command (ap (is_waiting (not_waiting mine.waiting w.label)) own ∙ not_waiting_then mine.waiting w.label) w.op)))
+      (tells rest u (ap (ended_task mine.tasks) own ∙ there) alive w.command (ap (is_waiting ws) own ∙ not_waiting_then mine.waiting w.label) w.op)))
 
-  pub once_fits : drained_once s ≡ Some t → Fits t
+  pub once_steps : drained_once s ≡ Some t → P t
   unfolding drained_once drain_step
-  once_fits = by (first_free mine mine.waiting) refl
+  once_steps = by (first_free mine mine.waiting) refl
     where
       expiry : Stepped (Option (Bytes × Outcome))
       expiry = late mine (expired mine).outcome (expired mine).machine
 
       by : (o : Option Suspended) → first_free mine mine.waiting ≡ o →
-          told_by s (resumed (woken_first mine o).outcome (woken_first mine o).machine expiry).outcome (resumed (woken_first mine o).outcome (woken_first mine o).machine expiry).machine ≡ Some t → Fits t
+          told_by s (resumed (woken_first mine o).outcome (woken_first mine o).machine expiry).outcome (resumed (woken_first mine o).outcome (woken_first mine o).machine expiry).machine ≡ Some t → P t
       by None at is = expires (first_late mine mine.waiting) refl is
       by (Some w) at is = resumes w at (task_at mine.tasks w.label) refl expiry (expires (first_late mine mine.waiting) refl) is
 
-within_fits : (n : ℕ) (s : State) → Fits s → Fits (drained_within n s)
-unfolding drained_within
-within_fits zero s fits = fits
-within_fits (suc n) s fits = by (within_fits n) (drained_once s) refl
-  where
-    by : ((t : State) → Fits t → Fits (drained_within n t)) → (o : Option State) → drained_once s ≡ o → Fits (after_step s o (drained_within n))
-    by rest None is = fits
-    by rest (Some t) is = rest t (once_fits s t fits is)
+pub once_fits : (s t : State) → Fits s → drained_once s ≡ Some t → Fits t
+once_fits s t fits =
+    once_steps Fits s t fits
+    (λ ws label step waits still tells. stepped s (with_waiting s.machine ws) label step fits.agrees (λ x waits. fits.awake x (still x waits)) fits.down (fits.awake label waits) tells)
 
 -- lanes and tasks still agree after draining
 pub drained_fits : (s : State) → Fits s → Fits (drained s)
-unfolding drained
-drained_fits s fits = within_fits (length s.machine.waiting) s fits
+drained_fits = drained_keeps Fits (λ s t is fits. once_fits s t fits is)
 
 -- ---- A lane gives
 
@@ -426,19 +401,7 @@ attach_fits m xs t up agrees y =
     by false none = sym (tasks_more m.tasks (new_task t.label t.dtimout) y)
 
 attach_up : (m : Machine) (t : TaskPlan) → m.is_down ≡ false → (with_task m t).is_down ≡ false
-unfolding with_task attaching
-attach_up m t up = by m.is_down (attach_refusal m t.label) up
-  where
-    left : Bool → Option Refused → Machine
-    left down refusal =
-        let next : Stepped (Result (Unit {0}) Refused)
-        = if down then record { outcome = Err RegionDown; machine = m } else refused_or m refusal (record { outcome = tt; machine = with_new_task m t.label t.dtimout }) in
-        unless_refused m next.outcome next.machine
-
-    by : (down : Bool) (refusal : Option Refused) → down ≡ false → (left down refusal).is_down ≡ false
-    by true refusal is = cc
-    by false (Some e) is = up
-    by false None is = up
+attach_up m t up = attach_cases (λ n. n.is_down ≡ false) m t up up
 
 attaches_fit : (ts : List TaskPlan) (m : Machine) (xs : List Lane) → m.is_down ≡ false → ((y : Bytes) → ended_lane xs y ≡ ended_task m.tasks y) → (y : Bytes) →
     ended_lane (xs ++ map task_lane ts) y ≡ ended_task (fold with_task m ts).tasks y

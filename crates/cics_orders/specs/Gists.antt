@@ -1,5 +1,5 @@
 -- What no event changes of lanes, and what a lane's line leaves.
-use Rattle.std.proofs.Common.{◌≡◌, ℕ, zero, suc, Bool, true, false, ◌⊎◌, List, [], ◌∷◌, map, length, Option, None, Some, Result, Ok, Err, refl, ap, sym, ◌∙◌, subst, inl, inr}
+use Rattle.std.proofs.Common.{◌≡◌, ℕ, Bool, true, false, ◌⊎◌, List, [], ◌∷◌, map, Option, None, Some, Result, Ok, Err, refl, ap, sym, ◌∙◌, subst, inl, inr}
 use Rattle.std.proofs.lemmas.Bool.{and_parts}
 use Rattle.std.specs.Prelude.{if◌then◌else◌, is_some, slice_get}
 use Rattle.cics_names.specs.Keyed.{Bytes}
@@ -12,7 +12,8 @@ use Rattle.cics_script.specs.declared.lines.Line.{Line}
 use Rattle.cics_script.specs.declared.lines.Line.TheVariants as says
 use Rattle.cics_script.specs.declared.faults.LineFault.{LineFault}
 use Rattle.cics_plans.specs.Taking.{NumberedLine}
-use Rattle.cics_orders.specs.Giving.{State, is_of, told_more, with_told, hearing, shut, issuing, timing, shutting, left_by, after_line, drain_step, told_by, drained_once, after_step, drained_within, drained, may_give, is_ready, counted, ends_turn, given_line, given_by, given}
+use Rattle.cics_orders.specs.Giving.{State, is_of, told_more, with_told, hearing, shut, issuing, timing, shutting, left_by, after_line, drain_step, told_by, drained_once, drained, may_give, is_ready, counted, ends_turn, given_line, given_by, given}
+use Rattle.cics_orders.specs.EventCases.{drained_keeps}
 use Rattle.cics_orders.specs.declared.lanes.Lane.{Lane}
 
 -- ---- Events
@@ -84,18 +85,8 @@ stays_once s t = by (drain_step s.machine).outcome
         subst (Stays s) same (record { plan = refl; last = refl; serial = refl; gists = gists_hearing s.lanes told.0 told.1 })
     by None is = cc
 
-stays_within : (n : ℕ) (s : State) → Stays s (drained_within n s)
-unfolding drained_within
-stays_within zero s = stays s
-stays_within (suc n) s = by (stays_within n) (drained_once s) refl
-  where
-    by : ((t : State) → Stays t (drained_within n t)) → (o : Option State) → drained_once s ≡ o → Stays s (after_step s o (drained_within n))
-    by rest None is = stays s
-    by rest (Some t) is = stays_then s t (drained_within n t) (stays_once s t is) (rest t)
-
 stays_drained : (s : State) → Stays s (drained s)
-unfolding drained
-stays_drained s = stays_within (length s.machine.waiting) s
+stays_drained s = drained_keeps (Stays s) (λ t u is so. stays_then s t u so (stays_once t u is)) s (stays s)
 
 -- ---- A lane gives a line
 

@@ -1,6 +1,6 @@
 -- Serial orders: what a line leaves as it is, and a task that is left within a turn, which gives in
 -- the end.
-use Rattle.std.proofs.Common.{◌≡◌, ℕ, zero, suc, ◌+◌, ◌-◌, ◌==◌, Bool, true, false, not, ◌&&◌, ◌||◌, ◌⊎◌, List, [], ◌∷◌, ◌++◌, map, length, drop, Option, None, Some, option_map, option_and_then, Result, Ok, Err, refl, ap, sym, ◌∙◌, arith, subst, inl, inr}
+use Rattle.std.proofs.Common.{◌≡◌, ℕ, zero, suc, ◌+◌, ◌-◌, ◌==◌, Bool, true, false, not, ◌&&◌, ◌||◌, ◌⊎◌, List, [], ◌∷◌, ◌++◌, map, length, drop, Option, None, Some, option_map, option_and_then, Result, Ok, refl, ap, sym, ◌∙◌, arith, subst, inl, inr}
 use Rattle.std.proofs.lemmas.Bool.{true≢false, false_from_ne_true, and_parts, and_left, and_right, or_parts, not-true, eqb-true, eqb-false, ne_eqb}
 use Rattle.std.proofs.lemmas.List.{length-map, map-set}
 use Rattle.std.proofs.lemmas.Option.{slice_get-map}
@@ -9,18 +9,12 @@ use Rattle.std.specs.List.{list_all, list_any}
 use Rattle.cics_names.specs.Keyed.{Bytes, is_same}
 use Rattle.cics_names.specs.KeyedLaws.{is_same-self, is_same-eq}
 use Rattle.cics_names.specs.declared.commands.Command.{Command}
-use Rattle.cics_machine.specs.Machine.{Machine, Task, Suspended, is_waiting, not_waiting, with_waiting, abended, timed_out, task_at}
-use Rattle.cics_machine.specs.Steps.{Stepped, refused_or, issued_by, checked, by_op}
-use Rattle.cics_machine.specs.Checks.{fault_of}
+use Rattle.cics_machine.specs.Machine.{Machine, Suspended, is_waiting, with_waiting}
+use Rattle.cics_machine.specs.Steps.{Stepped}
 use Rattle.cics_machine.specs.Blockers.{waiting_command}
 use Rattle.cics_machine.specs.Waits.{wait_of}
-use Rattle.cics_machine.specs.Waking.{first_free, went_on, woken_first, first_late, expired_task, expired, clock_refusal}
 use Rattle.cics_machine.specs.declared.outcomes.Outcome.{Outcome}
 use Rattle.cics_machine.specs.declared.outcomes.Outcome.TheVariants.{Replied, Waiting, Abended, Ended}
-use Rattle.cics_machine.specs.declared.outcomes.Refused.{Refused}
-use Rattle.cics_machine.specs.declared.outcomes.Refused.TheVariants.{RegionDown, TaskEnded, TaskWaiting}
-use Rattle.cics_machine.proofs.KeptTasks.{not_waiting_then}
-use Rattle.cics_machine.proofs.TaskPlaces.{place_of_task}
 use Rattle.cics_script.specs.Lines.{line}
 use Rattle.cics_script.specs.declared.lines.Line.{Line}
 use Rattle.cics_script.specs.declared.lines.Line.TheVariants as says
@@ -31,13 +25,13 @@ use Rattle.cics_plans.specs.Taking.{NumberedLine, has_task}
 use Rattle.cics_plans.specs.Proper.{is_command_of, is_timing, has_own_lines, are_distinct, is_proper}
 use Rattle.cics_plans.specs.declared.plans.Plan.{Plan}
 use Rattle.cics_plans.specs.declared.plans.TaskPlan.{TaskPlan}
-use Rattle.cics_orders.specs.Giving.{State, is_labelled, is_of, told_more, with_told, hearing, issuing, timing, left_by, after_line, late, resumed, drain_step, told_by, drained_once, after_step, drained_within, drained, may_give, is_ready, givers, is_lane, with_given, counted, ends_turn, given, lanes, task_lane, fresh_lane, initial_lanes, initial_state}
+use Rattle.cics_orders.specs.Giving.{State, is_labelled, is_of, told_more, with_told, hearing, after_line, drained_once, drained, may_give, is_ready, givers, is_lane, with_given, counted, ends_turn, given, lanes, task_lane, fresh_lane, initial_lanes, initial_state}
 use Rattle.cics_plans.proofs.Proper.{Proper, proper_parts, has_first}
+use Rattle.cics_orders.specs.EventCases.{after_heard, clock_cases, drained_keeps}
 use Rattle.cics_orders.specs.declared.lanes.Lane.{Lane}
 use Rattle.cics_orders.specs.Turns.{is_shutdown, has_shutdown, may_go_on, turn_goes_on, lane_breaks, breaks}
-use Rattle.cics_orders.specs.Ended.{ended_task}
-use Rattle.cics_orders.specs.EndedTasks.{still_waits, Tells, itself, abends, tells, tells_checked}
-use Rattle.cics_orders.specs.EndedLanes.{Fits, free_waits, late_waits, not_ended, line_fits, once_fits, drained_fits, lanes_given, start_fits}
+use Rattle.cics_orders.specs.EndedTasks.{Tells, tells}
+use Rattle.cics_orders.specs.EndedLanes.{Fits, issue_steps, once_steps, line_fits, once_fits, drained_fits, lanes_given, start_fits}
 use Rattle.cics_orders.specs.Gists.{Gist, gist, Stays, stays_line, stays_once, Gave, gave, gave_at, gives_line, stays_given}
 use Rattle.cics_orders.specs.GivenLanes.{frame, gist_cores, core_frames, frames_given, frames_initial, all_at}
 use Rattle.cics_orders.specs.Ways.{none_waits}
@@ -229,52 +223,17 @@ module _ (k : ℕ) (label : Bytes) (x : Lane) (within : Within label x) where
 
     -- a step of another task
     step_passes : (n : Machine) (own : Bytes) (step : Stepped Outcome) → is_same own label ≡ false → Tells n own step →
-        (is_waiting n.waiting label ≡ true → is_waiting m.waiting label ≡ true) → Passes k label x s (record s { machine = step.machine; lanes = hearing s.lanes own step.outcome })
+        (is_waiting n.waiting label ≡ true → is_waiting m.waiting label ≡ true) → Passes k label x s (after_heard s own step)
     step_passes n own step other tells before = record {
       waits = λ waits. before (tells.others label other waits);
       at = heard_other s.lanes own step.outcome other;
     }
 
     issue_passes : (own : Bytes) (c : Command) → is_same own label ≡ false → Passes k label x s (after_line s (Ok (says.Issue own c)))
-    unfolding issuing
-    issue_passes own c other = by m.is_down
-      where
-        after_step_of : Stepped (Result Outcome Refused) → State
-        after_step_of r = left_by s (hearing s.lanes own) r.outcome r.machine
-
-        step : Task → Stepped Outcome
-        step t = checked m t c (fault_of m t c.verb)
-
-        unless : (t : Task) → task_at m.tasks own ≡ Some t → (b d : Bool) → t.has_ended ≡ b → is_waiting m.waiting t.label ≡ d →
-            Passes k label x s (after_step_of (refused_or m (if b then Some TaskEnded else if d then Some TaskWaiting else None) (step t)))
-        unless t at true d ended waits = same_passes
-        unless t at false true ended waits = same_passes
-        unless t at false false ended waits =
-            let mine : t.label ≡ own = (place_of_task m.tasks own t at).2 in
-            let there : ended_task m.tasks own ≡ Some false = ap (option_map (λ t. t.has_ended)) at ∙ ap Some ended in
-            step_passes m own (step t) other
-            (subst (λ l. Tells m l (step t)) mine (tells_checked m t (ap (ended_task m.tasks) mine ∙ there) ended c waits (fault_of m t c.verb))) (λ waits. waits)
-
-        task : (o : Option Task) → task_at m.tasks own ≡ o → Passes k label x s (after_step_of (issued_by m c o))
-        task None at = same_passes
-        task (Some t) at = unless t at t.has_ended (is_waiting m.waiting t.label) refl refl
-
-        by : (b : Bool) → Passes k label x s (after_step_of (if b then record { outcome = Err RegionDown; machine = m } else issued_by m c (task_at m.tasks own)))
-        by true = same_passes
-        by false = task (task_at m.tasks own) refl
+    issue_passes own c other = issue_steps (Passes k label x s) s same_passes own c (λ step there tells. step_passes m own step other tells (λ waits. waits))
 
     clock_passes : (seconds : ℕ) → Passes k label x s (after_line s (Ok (says.Clock seconds)))
-    unfolding timing
-    clock_passes seconds = by m.is_down (clock_refusal m seconds)
-      where
-        after_step_of : Stepped (Result (Unit {0}) Refused) → State
-        after_step_of r = left_by s (λ _. s.lanes) r.outcome r.machine
-
-        by : (b : Bool) (r : Option Refused) →
-            Passes k label x s (after_step_of (if b then record { outcome = Err RegionDown; machine = m } else refused_or m r (record { outcome = tt; machine = record m { clock = seconds } })))
-        by true r = same_passes
-        by false (Some e) = same_passes
-        by false None = record { waits = λ waits. waits; at = λ at. at }
+    clock_passes seconds = clock_cases (Passes k label x s) s same_passes seconds (record { waits = λ waits. waits; at = λ at. at })
 
     line_passes : (r : Result Line LineFault) → threatens label r ≡ false → Passes k label x s (after_line s r)
     line_passes (Ok (says.Issue own command)) other = issue_passes own command other
@@ -288,61 +247,15 @@ module _ (k : ℕ) (label : Bytes) (x : Lane) (within : Within label x) where
       waits_other own waits =
           false_from_ne_true (is_same own label) (λ is. true≢false (sym waits ∙ ap (is_waiting m.waiting) (is_same-eq own label is) ∙ awake))
 
-      expires_passes : (o : Option Task) → first_late m m.waiting ≡ o →
-          told_by s (late m (expired_task m o).outcome (expired_task m o).machine).outcome (late m (expired_task m o).outcome (expired_task m o).machine).machine ≡ Some t → Passes k label x s t
-      expires_passes None at is = cc
-      expires_passes (Some u) at is =
-          let found = late_waits m u m.waiting at in
-          let there : ended_task m.tasks u.label ≡ Some false = fits.awake u.label found.0 in
-          let alive : u.has_ended ≡ false = not_ended (task_at m.tasks u.label) u found.1 there in
-          let same : record s { machine = abended m u; lanes = hearing s.lanes u.label (Abended timed_out None) } ≡ t = cc in
-          subst (Passes k label x s) same
-          (step_passes m u.label (record { outcome = Abended timed_out None; machine = abended m u }) (waits_other u.label found.0)
-          (abends m u there alive m u timed_out None (itself m u there alive) refl) (λ waits. waits))
-
-      resumes_passes : (w : Suspended) → first_free m m.waiting ≡ Some w → (o : Option Task) → task_at m.tasks w.label ≡ o → (expiry : Stepped (Option (Bytes × Outcome))) →
-          (told_by s expiry.outcome expiry.machine ≡ Some t → Passes k label x s t) →
-          told_by s (resumed (went_on m w o).outcome (went_on m w o).machine expiry).outcome (resumed (went_on m w o).outcome (went_on m w o).machine expiry).machine ≡ Some t → Passes k label x s t
-      resumes_passes w free None at expiry else_passes is = else_passes is
-      resumes_passes w free (Some u) at expiry else_passes is =
-          let rest = with_waiting m (not_waiting m.waiting w.label) in
-          let own : u.label ≡ w.label = (place_of_task m.tasks w.label u at).2 in
-          let waits = free_waits m w m.waiting free in
-          let there : ended_task m.tasks w.label ≡ Some false = fits.awake w.label waits in
-          let alive : u.has_ended ≡ false = not_ended (task_at m.tasks w.label) u at there in
-          let step = by_op rest u w.command w.op in
-          let same : record s { machine = step.machine; lanes = hearing s.lanes w.label step.outcome } ≡ t = cc in
-          subst (Passes k label x s) same
-          (step_passes rest w.label step (waits_other w.label waits)
-          (subst (λ l. Tells rest l step) own
-          (tells rest u (ap (ended_task m.tasks) own ∙ there) alive w.command (ap (is_waiting (not_waiting m.waiting w.label)) own ∙ not_waiting_then m.waiting w.label) w.op))
-          (still_waits m.waiting w.label label))
-
       once_passes : drained_once s ≡ Some t → Passes k label x s t
-      unfolding drained_once drain_step
-      once_passes = by (first_free m m.waiting) refl
-        where
-          expiry : Stepped (Option (Bytes × Outcome))
-          expiry = late m (expired m).outcome (expired m).machine
-
-          by : (o : Option Suspended) → first_free m m.waiting ≡ o →
-              told_by s (resumed (woken_first m o).outcome (woken_first m o).machine expiry).outcome (resumed (woken_first m o).outcome (woken_first m o).machine expiry).machine ≡ Some t →
-              Passes k label x s t
-          by None at is = expires_passes (first_late m m.waiting) refl is
-          by (Some w) at is = resumes_passes w at (task_at m.tasks w.label) refl expiry (expires_passes (first_late m m.waiting) refl) is
-
-  held_within : (n : ℕ) (s : State) → Fits s → Held k label x s → Held k label x (drained_within n s)
-  unfolding drained_within
-  held_within zero s fits held = held
-  held_within (suc n) s fits held = by (held_within n) (drained_once s) refl
-    where
-      by : ((t : State) → Fits t → Held k label x t → Held k label x (drained_within n t)) → (o : Option State) → drained_once s ≡ o → Held k label x (after_step s o (drained_within n))
-      by rest None is = held
-      by rest (Some t) is = rest t (once_fits s t fits is) (held_passes k label x s t (stays_once s t is) (once_passes s fits t held.awake is) held)
+      once_passes =
+          once_steps (Passes k label x s) s t fits
+          (λ ws own step waits still tells. step_passes (with_waiting m ws) own step (waits_other own waits) tells (still label))
 
   held_drained : (s : State) → Fits s → Held k label x s → Held k label x (drained s)
-  unfolding drained
-  held_drained s fits held = held_within (length s.machine.waiting) s fits held
+  held_drained s fits held =
+      (drained_keeps (λ s. Fits s × Held k label x s)
+      (λ s t is both. (once_fits s t both.0 is, held_passes k label x s t (stays_once s t is) (once_passes s both.0 t both.1.awake is) both.1)) s (fits, held)).1
 
   held_line : (s : State) → Fits s → (r : Result Line LineFault) → threatens label r ≡ false → Held k label x s → Held k label x (after_line s r)
   held_line s fits r other held = held_passes k label x s (after_line s r) (stays_line s r) (line_passes s fits r other) held

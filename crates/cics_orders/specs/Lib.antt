@@ -2,6 +2,7 @@ pub mod Ended
 pub mod EndedLanes
 pub mod EndedTasks
 pub mod Giving
+pub mod EventCases
 pub mod Gists
 pub mod HeldTurns
 pub mod OrderLaws

@@ -1,6 +1,6 @@
 -- Along each way a region is steady, lanes keep their labels and lines, and each waiting command is
 -- the one that the lane of its task gave last.
-use Rattle.std.proofs.Common.{◌≡◌, ℕ, zero, suc, Bool, true, false, not, ◌&&◌, List, [], ◌∷◌, ◌++◌, map, length, Option, None, Some, option_map, Result, Ok, Err, refl, ap, sym, ◌∙◌, subst, inl, inr}
+use Rattle.std.proofs.Common.{◌≡◌, ℕ, Bool, true, false, not, ◌&&◌, List, [], ◌∷◌, ◌++◌, map, Option, None, Some, option_map, Result, Ok, Err, refl, ap, sym, ◌∙◌, subst, inl, inr}
 use Rattle.std.proofs.lemmas.Bool.{and_parts}
 use Rattle.std.specs.Prelude.{if◌then◌else◌, is_none, is_some, slice_get}
 use Rattle.std.specs.List.{fold}
@@ -12,18 +12,18 @@ use Rattle.cics_history.specs.State.{OpeningState, FileOpening, QueueOpening}
 use Rattle.cics_history.specs.Openings.{nothing_defined, loaded_file, is_in_order, IsOpeningInOrder}
 use Rattle.cics_history.specs.declared.ops.UnitState.TheVariants.{BackedOut}
 use Rattle.cics_history.proofs.Maps.{rising-with_value}
-use Rattle.cics_machine.specs.Machine.{Machine, Task, Suspended, task_at, is_waiting, with_waiting, unit_closed, beginning_region}
-use Rattle.cics_machine.specs.Steps.{Stepped, attached, attach_refusal, with_new_task, refused_or, issued_by, checked}
+use Rattle.cics_machine.specs.Machine.{Machine, Task, Suspended, is_waiting, with_waiting, unit_closed, beginning_region}
+use Rattle.cics_machine.specs.Steps.{Stepped, attached}
 use Rattle.cics_machine.specs.Checks.{fault_of}
 use Rattle.cics_machine.specs.Blockers.{waiting_command}
 use Rattle.cics_machine.specs.Waits.{wait_of}
 use Rattle.cics_machine.specs.Shutdown.{all_ended, shut_down}
-use Rattle.cics_machine.specs.Waking.{woken, expired, clock_refusal}
+use Rattle.cics_machine.specs.Waking.{woken, expired}
 use Rattle.cics_machine.specs.declared.outcomes.Outcome.{Outcome}
 use Rattle.cics_machine.specs.declared.outcomes.Woken.{Woken}
 use Rattle.cics_machine.specs.declared.outcomes.Expired.{Expired}
 use Rattle.cics_machine.specs.declared.outcomes.Refused.{Refused}
-use Rattle.cics_machine.specs.declared.outcomes.Refused.TheVariants.{RegionDown, TaskEnded, TaskWaiting}
+use Rattle.cics_machine.specs.declared.outcomes.Refused.TheVariants.{RegionDown}
 use Rattle.cics_machine.proofs.TaskPlaces.{place_of_task}
 use Rattle.cics_future.specs.Futures.{IsSteady, AreSameSteps}
 use Rattle.cics_future.proofs.Events.{same_itself, same_begins, down_same, attached_same}
@@ -38,8 +38,9 @@ use Rattle.cics_plans.specs.Proper.{is_proper}
 use Rattle.cics_plans.specs.Taking.{NumberedLine}
 use Rattle.cics_plans.specs.declared.plans.Plan.{Plan}
 use Rattle.cics_plans.specs.declared.plans.TaskPlan.{TaskPlan}
-use Rattle.cics_orders.specs.Giving.{State, is_labelled, is_of, hearing, shut, issuing, timing, shutting, attaching, left_by, after_line, late, resumed, drain_step, told_by, drained_once, after_step, drained_within, drained, is_ready, may_give, givers, ends_turn, counted, given_line, given_by, given, lanes, defined_more, opened, unless_refused, with_task, initial_lanes, initial_state}
+use Rattle.cics_orders.specs.Giving.{State, is_labelled, is_of, hearing, shut, shutting, attaching, left_by, after_line, late, resumed, drain_step, told_by, drained_once, drained, is_ready, may_give, givers, ends_turn, counted, given_line, given_by, given, lanes, defined_more, opened, unless_refused, with_task, initial_lanes, initial_state}
 use Rattle.cics_orders.specs.OrderLaws.{May, numbers_may, plan_stays}
+use Rattle.cics_orders.specs.EventCases.{step_of, issue_cases, clock_cases, attach_cases, drained_keeps}
 use Rattle.cics_orders.specs.declared.lanes.Lane.{Lane}
 use Rattle.cics_orders.specs.Same.{SameState}
 use Rattle.cics_orders.specs.GivenLanes.{frame, core, core_hearing, core_shut, core_gave, core_frames, IsRight, AreApart, AreRight, apart_frames, right_frames, right_at, frames_given, command_given, waits_given, apart_initial, right_initial, frames_initial}
@@ -118,19 +119,7 @@ tasks_steady [] m steady = steady
 tasks_steady (t ∷ ts) m steady = tasks_steady ts (with_task m t) (task_steady m t steady)
 
 task_opening : (m : Machine) (t : TaskPlan) → (with_task m t).units.opening ≡ m.units.opening
-unfolding with_task attaching
-task_opening m t = by m.is_down (attach_refusal m t.label)
-  where
-    left : Bool → Option Refused → Machine
-    left down refusal =
-        let next : Stepped (Result (Unit {0}) Refused)
-        = if down then record { outcome = Err RegionDown; machine = m } else refused_or m refusal (record { outcome = tt; machine = with_new_task m t.label t.dtimout }) in
-        unless_refused m next.outcome next.machine
-
-    by : (down : Bool) (refusal : Option Refused) → (left down refusal).units.opening ≡ m.units.opening
-    by true refusal = refl
-    by false (Some e) = refl
-    by false None = refl
+task_opening m t = attach_cases (λ n. n.units.opening ≡ m.units.opening) m t refl refl
 
 tasks_opening : (ts : List TaskPlan) (m : Machine) → (fold with_task m ts).units.opening ≡ m.units.opening
 tasks_opening [] m = refl
@@ -138,19 +127,7 @@ tasks_opening (t ∷ ts) m = tasks_opening ts (with_task m t) ∙ task_opening m
 
 -- an attach makes no command wait
 task_waits : (m : Machine) (t : TaskPlan) → (with_task m t).waiting ≡ m.waiting
-unfolding with_task attaching
-task_waits m t = by m.is_down (attach_refusal m t.label)
-  where
-    left : Bool → Option Refused → Machine
-    left down refusal =
-        let next : Stepped (Result (Unit {0}) Refused)
-        = if down then record { outcome = Err RegionDown; machine = m } else refused_or m refusal (record { outcome = tt; machine = with_new_task m t.label t.dtimout }) in
-        unless_refused m next.outcome next.machine
-
-    by : (down : Bool) (refusal : Option Refused) → (left down refusal).waiting ≡ m.waiting
-    by true refusal = refl
-    by false (Some e) = refl
-    by false None = refl
+task_waits m t = attach_cases (λ n. n.waiting ≡ m.waiting) m t refl refl
 
 -- to attach tasks changes no wait
 pub attaches_wait : (m : Machine) (ts : List TaskPlan) → (fold with_task m ts).waiting ≡ m.waiting
@@ -184,43 +161,14 @@ module _ (begun : OpeningState) where
       m = s.machine
 
       issue : (label : Bytes) (c : Command) → command_of s.lanes label ≡ Some c → Fits begun fr (after_line s (Ok (says.Issue label c)))
-      unfolding issuing
-      issue label c own = by m.is_down
-        where
-          after_step_of : Stepped (Result Outcome Refused) → State
-          after_step_of r = left_by s (hearing s.lanes label) r.outcome r.machine
-
-          step : Task → Stepped Outcome
-          step t = checked m t c (fault_of m t c.verb)
-
-          unless : (t : Task) → task_at m.tasks label ≡ Some t → (b d : Bool) →
-              Fits begun fr (after_step_of (refused_or m (if b then Some TaskEnded else if d then Some TaskWaiting else None) (step t)))
-          unless t at true d = fits
-          unless t at false true = fits
-          unless t at false false =
-              hears s (step t).machine label (step t).outcome fits
-              (checked_waits s.lanes begun m t c (ap (command_of s.lanes) (place_of_task m.tasks label t at).2 ∙ own) fits.keeps (fault_of m t c.verb))
-
-          task : (o : Option Task) → task_at m.tasks label ≡ o → Fits begun fr (after_step_of (issued_by m c o))
-          task None at = fits
-          task (Some t) at = unless t at t.has_ended (is_waiting m.waiting t.label)
-
-          by : (b : Bool) → Fits begun fr (after_step_of (if b then record { outcome = Err RegionDown; machine = m } else issued_by m c (task_at m.tasks label)))
-          by true = fits
-          by false = task (task_at m.tasks label) refl
+      issue label c own =
+          issue_cases (Fits begun fr) s fits label c
+          (λ t at ended waits. hears s (step_of m t c).machine label (step_of m t c).outcome fits
+          (checked_waits s.lanes begun m t c (ap (command_of s.lanes) (place_of_task m.tasks label t at).2 ∙ own) fits.keeps (fault_of m t c.verb)))
 
       clock : (seconds : ℕ) → Fits begun fr (after_line s (Ok (says.Clock seconds)))
-      unfolding timing
-      clock seconds = by m.is_down (clock_refusal m seconds)
-        where
-          after_step_of : Stepped (Result (Unit {0}) Refused) → State
-          after_step_of r = left_by s (λ _. s.lanes) r.outcome r.machine
-
-          by : (b : Bool) (r : Option Refused) →
-              Fits begun fr (after_step_of (if b then record { outcome = Err RegionDown; machine = m } else refused_or m r (record { outcome = tt; machine = record m { clock = seconds } })))
-          by true r = fits
-          by false (Some e) = fits
-          by false None = record { keeps = record { waits = fits.keeps.waits; opening = fits.keeps.opening }; frames = fits.frames }
+      clock seconds =
+          clock_cases (Fits begun fr) s fits seconds (record { keeps = record { waits = fits.keeps.waits; opening = fits.keeps.opening }; frames = fits.frames })
 
       all_keep : (xs : List Lane) (ts : List Task) (n : Machine) → Keeps xs begun n → Keeps xs begun (all_ended n ts)
       all_keep xs [] n keeps = keeps
@@ -273,18 +221,8 @@ module _ (begun : OpeningState) where
             subst (Fits begun fr) same (hears s (drain_step s.machine).machine told.0 told.1 fits (drain_keeps s.lanes s.machine fits.keeps))
         by None is = cc
 
-    within_fits : (n : ℕ) (s : State) → Fits begun fr s → Fits begun fr (drained_within n s)
-    unfolding drained_within
-    within_fits zero s fits = fits
-    within_fits (suc n) s fits = by (within_fits n) (drained_once s) refl
-      where
-        by : ((t : State) → Fits begun fr t → Fits begun fr (drained_within n t)) → (o : Option State) → drained_once s ≡ o → Fits begun fr (after_step s o (drained_within n))
-        by rest None is = fits
-        by rest (Some t) is = rest t (once_fits s t fits is)
-
     drained_fits : (s : State) → Fits begun fr s → Fits begun fr (drained s)
-    unfolding drained
-    drained_fits s fits = within_fits (length s.machine.waiting) s fits
+    drained_fits = drained_keeps (Fits begun fr) (λ s t is fits. once_fits s t fits is)
 
 -- ---- A lane gives
 
