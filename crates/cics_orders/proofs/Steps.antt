@@ -24,12 +24,7 @@ module _ {X : Type 0} (wants : Bool) (old : RegionValue) (step : Stepped (Result
   by_answer : (r : Result X Refused) → IsStep wants old step r new → IsAnswered r → Happens old.machine step (result_ok r) new.machine
   by_answer (Ok x) (is, left) all = (is, left)
   by_answer (Err refusals.NoMemory) is all = absurd all
-  by_answer (Err refusals.NoTask) (is, same) all = refused refusals.NoTask is same
-  by_answer (Err refusals.TaskWaiting) (is, same) all = refused refusals.TaskWaiting is same
-  by_answer (Err refusals.TaskEnded) (is, same) all = refused refusals.TaskEnded is same
-  by_answer (Err refusals.DuplicateLabel) (is, same) all = refused refusals.DuplicateLabel is same
-  by_answer (Err refusals.ClockBack) (is, same) all = refused refusals.ClockBack is same
-  by_answer (Err refusals.RegionDown) (is, same) all = refused refusals.RegionDown is same
+  by_answer (Err e) (is, same) all = refused e is same
 
   -- an event was answered, or it was refused and changed nothing
   pub happened : {E : Type 0} (r : Result X Refused) (o : Result (Option X) E) → IsStep wants old step r new → OnOk o (IsAnswered r) → IfOk o (λ told. told ≡ result_ok r)

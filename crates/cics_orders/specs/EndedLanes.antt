@@ -13,7 +13,7 @@ use Rattle.cics_machine.specs.Blockers.{waiting_command}
 use Rattle.cics_machine.specs.Shutdown.{all_ended, shut_down}
 use Rattle.cics_machine.specs.Waking.{may_go_on, first_free, went_on, woken_first, is_late, first_late, expired_task, expired}
 use Rattle.cics_machine.specs.declared.outcomes.Outcome.{Outcome}
-use Rattle.cics_machine.specs.declared.outcomes.Outcome.TheVariants.{Replied, Waiting, Abended, Ended}
+use Rattle.cics_machine.specs.declared.outcomes.Outcome.TheVariants.{Waiting, Abended}
 use Rattle.cics_machine.specs.declared.outcomes.Refused.{Refused}
 use Rattle.cics_machine.specs.declared.outcomes.Refused.TheVariants.{RegionDown, TaskEnded, TaskWaiting, DuplicateLabel}
 use Rattle.cics_machine.proofs.KeptTasks.{not_waiting_then}
@@ -69,14 +69,12 @@ lanes_told (x ∷ xs) label o y b there = by (lanes_told xs label o y b) (is_of 
 -- a task that has not ended hears an outcome
 heard : (xs : List Lane) (label : Bytes) (o : Outcome) (y : Bytes) → ended_lane xs label ≡ Some false →
     ended_lane (hearing xs label o) y ≡ (if is_same label y then Some (is_last o) else ended_lane xs y)
-heard xs label (Replied r) y there = lanes_told xs label (Replied r) y false there
-heard xs label (Abended code r) y there = lanes_told xs label (Abended code r) y false there
-heard xs label Ended y there = lanes_told xs label Ended y false there
 heard xs label (Waiting blocker) y there = by (is_same label y) refl
   where
     by : (b : Bool) → is_same label y ≡ b → ended_lane xs y ≡ (if b then Some false else ended_lane xs y)
     by true own = ap (ended_lane xs) (sym (is_same-eq label y own)) ∙ there
     by false other = refl
+heard xs label o y there = lanes_told xs label o y false there
 
 -- ---- States
 

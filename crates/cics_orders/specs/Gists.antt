@@ -5,7 +5,7 @@ use Rattle.std.specs.Prelude.{if◌then◌else◌, is_some, slice_get}
 use Rattle.cics_names.specs.Keyed.{Bytes}
 use Rattle.cics_machine.specs.Machine.{Machine}
 use Rattle.cics_machine.specs.declared.outcomes.Outcome.{Outcome}
-use Rattle.cics_machine.specs.declared.outcomes.Outcome.TheVariants.{Replied, Waiting, Abended, Ended}
+use Rattle.cics_machine.specs.declared.outcomes.Outcome.TheVariants.{Waiting}
 use Rattle.cics_machine.specs.declared.outcomes.Refused.{Refused}
 use Rattle.cics_script.specs.Lines.{line}
 use Rattle.cics_script.specs.declared.lines.Line.{Line}
@@ -52,10 +52,8 @@ gists_told (x ∷ xs) label o = by (gists_told xs label o) (is_of x label)
 
 -- an outcome leaves the gists of lanes as they are
 pub gists_hearing : (xs : List Lane) (label : Bytes) (o : Outcome) → map gist (hearing xs label o) ≡ map gist xs
-gists_hearing xs label (Replied reply) = gists_told xs label (Replied reply)
 gists_hearing xs label (Waiting blocker) = refl
-gists_hearing xs label (Abended code reply) = gists_told xs label (Abended code reply)
-gists_hearing xs label Ended = gists_told xs label Ended
+gists_hearing xs label o = gists_told xs label o
 
 -- a shutdown leaves the gists of lanes as they are
 pub gists_shut : (xs : List Lane) → map gist (map shut xs) ≡ map gist xs

@@ -14,7 +14,7 @@ use Rattle.cics_machine.specs.Steps.{Stepped}
 use Rattle.cics_machine.specs.Blockers.{waiting_command}
 use Rattle.cics_machine.specs.Waits.{wait_of}
 use Rattle.cics_machine.specs.declared.outcomes.Outcome.{Outcome}
-use Rattle.cics_machine.specs.declared.outcomes.Outcome.TheVariants.{Replied, Waiting, Abended, Ended}
+use Rattle.cics_machine.specs.declared.outcomes.Outcome.TheVariants.{Waiting}
 use Rattle.cics_script.specs.Lines.{line}
 use Rattle.cics_script.specs.declared.lines.Line.{Line}
 use Rattle.cics_script.specs.declared.lines.Line.TheVariants as says
@@ -209,10 +209,8 @@ module _ (k : ℕ) (label : Bytes) (x : Lane) (within : Within label x) where
       first_others (λ lane. is_of lane own) (λ lane. told_more lane o) xs k x (ap (λ l. is_labelled l own) within.own ∙ other_way own label other) at
 
   heard_other : (xs : List Lane) (own : Bytes) (o : Outcome) → is_same own label ≡ false → slice_get xs k ≡ Some x → slice_get (hearing xs own o) k ≡ Some x
-  heard_other xs own (Replied r) other at = told_other xs own (Replied r) other at
   heard_other xs own (Waiting blocker) other at = at
-  heard_other xs own (Abended code r) other at = told_other xs own (Abended code r) other at
-  heard_other xs own Ended other at = told_other xs own Ended other at
+  heard_other xs own o other at = told_other xs own o other at
 
   module _ (s : State) (fits : Fits s) where
     abbrev m : Machine

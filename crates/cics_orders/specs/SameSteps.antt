@@ -98,14 +98,7 @@ module _ (told serial : Bool) where
         let step = down_same m n same.machine (shut_down m) (shut_down n) (shut_down_same m n same.machine) in
         same_left s t (λ _. map shut s.lanes) (λ _. map shut t.lanes) (shutting m).outcome (shutting n).outcome (shutting m).machine (shutting n).machine
         same step.outcome step.machine (λ x. shut_same told serial s.lanes t.lanes same.lanes)
-    same_line (Ok says.Blank) = same
-    same_line (Ok (says.DefineFile name d)) = same
-    same_line (Ok (says.DefineTsPrefix prefix)) = same
-    same_line (Ok (says.DefineTd name recovery)) = same
-    same_line (Ok (says.LoadFile name content)) = same
-    same_line (Ok (says.LoadTd name content)) = same
-    same_line (Ok (says.Attach label transaction dtimout)) = same
-    same_line (Err fault) = same
+    same_line _ = same
 
   -- ---- Draining
 

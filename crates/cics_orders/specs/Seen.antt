@@ -6,7 +6,7 @@ use Rattle.cics_names.specs.Keyed.{Bytes}
 use Rattle.cics_machine.specs.Machine.{Machine}
 use Rattle.cics_machine.specs.Waits.{wait_of}
 use Rattle.cics_machine.specs.declared.outcomes.Outcome.{Outcome}
-use Rattle.cics_machine.specs.declared.outcomes.Outcome.TheVariants.{Replied, Waiting, Abended, Ended}
+use Rattle.cics_machine.specs.declared.outcomes.Outcome.TheVariants.{Waiting}
 use Rattle.cics_lanes.specs.Orders.{numbered, numbered_from}
 use Rattle.cics_plans.specs.Firsts.{with_first}
 use Rattle.cics_orders.specs.Giving.{is_of, is_last, told_more, with_told, hearing, shut, is_ready, may_give, with_given}
@@ -60,10 +60,8 @@ module _ (told serial : Bool) where
     told_same label o = lanes_told xs label o ∙ ap (with_first (λ z. is_of z label) (told_seen told o)) same ∙ sym (lanes_told ys label o)
 
     pub hearing_same : (label : Bytes) (o : Outcome) → sees (hearing xs label o) ≡ sees (hearing ys label o)
-    hearing_same label (Replied reply) = told_same label (Replied reply)
     hearing_same label (Waiting blocker) = same
-    hearing_same label (Abended code reply) = told_same label (Abended code reply)
-    hearing_same label Ended = told_same label Ended
+    hearing_same label o = told_same label o
 
   lanes_shut : (xs : List Lane) → sees (map shut xs) ≡ map shut (sees xs)
   lanes_shut [] = refl
