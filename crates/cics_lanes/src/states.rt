@@ -1,6 +1,6 @@
 //! What is noted of a state, and the orders that lead to states of one stamp.
 //!
-//! No state is kept. It is made again by the first order that leads to it, from the start.
+//! No state is kept. It is made again from the initial one, by the first order that leads to it.
 
 ghost use Rattle.std.specs.Prelude.{◌≡◌, [], ◌∷◌, ◌++◌, List, IfOk, OnOk};
 ghost use Rattle.cics_lanes.specs.Orders.{after};
@@ -164,9 +164,9 @@ impl Join for Led {
     }
 }
 
-/// Goes to the state after an order from the start. Errors: `NoMemory`.
+/// Goes to the state after an order from the initial state. Errors: `NoMemory`.
 pub fn go_to<W: Walk>(walk: &mut W, order: &[usize]) -> Result<(), NoMemory>
-    ensures { OnOk result (walk.new ≡ after W.lanes (W.start walk.old) order.now) }
+    ensures { OnOk result (walk.new ≡ after W.lanes (W.initial walk.old) order.now) }
 {
     walk.restart()?;
     for i in 0..order.len() {

@@ -8,14 +8,14 @@ ghost use Rattle.cics_lanes.specs.Endings.{Parts};
 
 use cics_names::{Items, NoMemory, Record};
 
-/// A state to which lanes give their lines, and which can go back to its start. The ghost items say
-/// what the calls do. Errors of each call: `NoMemory`.
+/// A state to which lanes give their lines, and which can go back to its initial state. The ghost
+/// items say what the calls do. Errors of each call: `NoMemory`.
 pub trait Walk {
     /// Which lanes may give in a state, and the state after a lane has given its next line.
     ghost lanes: { Lanes Self };
 
     /// The state before the first line.
-    ghost start: { Self → Self };
+    ghost initial: { Self → Self };
 
     /// The parts of the ending in a state.
     ghost ending: { Self → Parts };
@@ -37,43 +37,43 @@ pub trait Walk {
     ghost is_ordered: { IsOrdered lanes };
 
     /// No lane may give at the end of an order of at most so many lines.
-    ghost most_ends: { (s : Self) → All (λ o. lanes.givers (after lanes (start s) o) 0 ≡ [])
-        (orders lanes (most (start s)) (start s)) };
+    ghost most_ends: { (s : Self) → All (λ o. lanes.givers (after lanes (initial s) o) 0 ≡ [])
+        (orders lanes (most (initial s)) (initial s)) };
 
-    /// A line that is given doesn't change the start.
-    ghost start_stays: { (s : Self) (l : ℕ) → start (lanes.given s l) ≡ start s };
+    /// A line that is given doesn't change the initial state.
+    ghost initial_stays: { (s : Self) (l : ℕ) → initial (lanes.given s l) ≡ initial s };
 
-    /// The start of the start is itself.
-    ghost start_is_start: { (s : Self) → start (start s) ≡ start s };
+    /// The initial state of the initial state is itself.
+    ghost initial_is_initial: { (s : Self) → initial (initial s) ≡ initial s };
 
-    /// Two ways from the start that lead to states of one stamp go on alike.
+    /// Two ways from the initial state that lead to states of one stamp go on alike.
     ghost stamps_tell: { (b : Bool) (s : Self) (o p : Order) →
-        IsWay lanes (start s) o → IsWay lanes (start s) p →
-        stamp b (after lanes (start s) o) ≡ stamp b (after lanes (start s) p) →
+        IsWay lanes (initial s) o → IsWay lanes (initial s) p →
+        stamp b (after lanes (initial s) o) ≡ stamp b (after lanes (initial s) p) →
         AreStampedAlike lanes ending breaks (stamp b) b
-        (after lanes (start s) o) (after lanes (start s) p) };
+        (after lanes (initial s) o) (after lanes (initial s) p) };
 
     /// The empty order is serial.
-    ghost serial_starts: { (s : Self) → serial (start s) ≡ true };
+    ghost initial_is_serial: { (s : Self) → serial (initial s) ≡ true };
 
     /// After a lane that does not break it, an order is serial exactly if it was before.
-    ghost keeps_serial: { (s : Self) (o : Order) (l : ℕ) → IsWay lanes (start s) o →
-        IsOneOf l (lanes.givers (after lanes (start s) o) 0) →
-        breaks (after lanes (start s) o) l ≡ false →
-        serial (lanes.given (after lanes (start s) o) l) ≡ serial (after lanes (start s) o) };
+    ghost keeps_serial: { (s : Self) (o : Order) (l : ℕ) → IsWay lanes (initial s) o →
+        IsOneOf l (lanes.givers (after lanes (initial s) o) 0) →
+        breaks (after lanes (initial s) o) l ≡ false →
+        serial (lanes.given (after lanes (initial s) o) l) ≡ serial (after lanes (initial s) o) };
 
     /// After a lane that breaks it no order that ends is serial.
     ghost breaks_serial: { (s : Self) (o : Order) (l : ℕ) (q : Order) →
-        IsWay lanes (start s) o →
-        IsOneOf l (lanes.givers (after lanes (start s) o) 0) →
-        breaks (after lanes (start s) o) l ≡ true →
-        IsWay lanes (lanes.given (after lanes (start s) o) l) q →
-        lanes.givers (after lanes (lanes.given (after lanes (start s) o) l) q) 0 ≡ [] →
-        serial (after lanes (lanes.given (after lanes (start s) o) l) q) ≡ false };
+        IsWay lanes (initial s) o →
+        IsOneOf l (lanes.givers (after lanes (initial s) o) 0) →
+        breaks (after lanes (initial s) o) l ≡ true →
+        IsWay lanes (lanes.given (after lanes (initial s) o) l) q →
+        lanes.givers (after lanes (lanes.given (after lanes (initial s) o) l) q) 0 ≡ [] →
+        serial (after lanes (lanes.given (after lanes (initial s) o) l) q) ≡ false };
 
-    /// Goes back to the start.
+    /// Goes back to the initial state.
     fn restart(&mut self) -> Result<(), NoMemory>
-        ensures { OnOk result (self.new ≡ start self.old) };
+        ensures { OnOk result (self.new ≡ initial self.old) };
 
     /// Returns the most lines of an order.
     fn line_count(&self) -> usize

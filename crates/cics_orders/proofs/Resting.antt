@@ -12,15 +12,15 @@ use Rattle.cics_orders.specs.declared.lanes.Lane.{Lane}
 use Rattle.cics_orders.specs.Ways.{attaches_wait}
 use Rattle.cics_orders.proofs.Draining.{drained_rests}
 
--- ---- The start
+-- ---- The initial state
 
 -- if no command waits, nothing goes on by itself
 none_waits : (m : Machine) → m.waiting ≡ [] → IsAtRest m
 none_waits m none = (ap (λ ws. (woken_first m (first_free m ws)).outcome) none, ap (λ ws. (expired_task m (first_late m ws)).outcome) none)
 
-pub start_rests : (p : Plan) → IsAtRest (initial_state p).machine
+pub initial_rests : (p : Plan) → IsAtRest (initial_state p).machine
 unfolding initial_state
-start_rests p = none_waits (initial_machine p) (attaches_wait (beginning_region (opened p.definitions)) p.tasks)
+initial_rests p = none_waits (initial_machine p) (attaches_wait (beginning_region (opened p.definitions)) p.tasks)
 
 -- ---- A line
 

@@ -338,7 +338,7 @@ after_fits : (s : State) (o : Order) → Fits s → Fits (after lanes s o)
 after_fits s [] fits = fits
 after_fits s (l ∷ o) fits = after_fits (given s l) o (given_fits s l fits)
 
--- ---- The start
+-- ---- The initial state
 
 abbrev or_else : Option Bool → Option Bool → Option Bool
 or_else None other = other
@@ -413,9 +413,9 @@ attaches_up [] m up = up
 attaches_up (t ∷ ts) m up = attaches_up ts (with_task m t) (attach_up m t up)
 
 -- lanes and tasks agree in the initial state
-pub start_fits : (p : Plan) → Fits (initial_state p)
+pub initial_fits : (p : Plan) → Fits (initial_state p)
 unfolding initial_state
-start_fits p = record {
+initial_fits p = record {
   agrees = λ y.
       lanes_more (map task_lane p.tasks) (fresh_lane None p.clock ∷ []) y ∙ or_none (ended_lane (map task_lane p.tasks) y)
       ∙ attaches_fit p.tasks (beginning_region (opened p.definitions)) [] refl (λ y. refl) y;
@@ -466,8 +466,8 @@ ready s fits label false c own is = accepted s fits label c own is
 
 -- after every order a command of a task that is ready is not refused
 pub orders_accept : (p : Plan) (o : Order) → AcceptsReady (after lanes (initial_state p) o)
-orders_accept p o = ready (after lanes (initial_state p) o) (after_fits (initial_state p) o (start_fits p))
+orders_accept p o = ready (after lanes (initial_state p) o) (after_fits (initial_state p) o (initial_fits p))
 
 -- after every order the lanes and the machine agree
 pub orders_agree : (p : Plan) (o : Order) → Agrees (after lanes (initial_state p) o)
-orders_agree p o = (after_fits (initial_state p) o (start_fits p)).agrees
+orders_agree p o = (after_fits (initial_state p) o (initial_fits p)).agrees

@@ -186,7 +186,7 @@ waits_given xs l x ends at (w ∷ ws) idle (first, all) =
     rest : (label : Bytes) → is_of x label ≡ true → is_waiting ws label ≡ false
     rest label own = apart (is_same w.label label) (is_waiting ws label) (idle label own)
 
--- ---- The start
+-- ---- The initial state
 
 pub all_at : {X : Type 0} (test : X → Bool) (xs : List X) (k : ℕ) (x : X) → list_all test xs ≡ true → slice_get xs k ≡ Some x → test x ≡ true
 all_at test [] k x all at = cc

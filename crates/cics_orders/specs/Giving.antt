@@ -234,7 +234,7 @@ given s l = given_by s l (slice_get s.lanes l)
 abbrev pub lanes : Lanes State
 lanes = record { givers = givers; given = given }
 
--- ---- The start
+-- ---- The initial state
 
 -- what is defined after these lines too
 abbrev pub defined_more : OpeningState → List NumberedLine → OpeningState

@@ -31,7 +31,7 @@ use Rattle.cics_orders.specs.EventCases.{after_heard, clock_cases, drained_keeps
 use Rattle.cics_orders.specs.declared.lanes.Lane.{Lane}
 use Rattle.cics_orders.specs.Turns.{is_shutdown, has_shutdown, may_go_on, turn_goes_on, lane_breaks, breaks}
 use Rattle.cics_orders.specs.EndedTasks.{Tells, tells}
-use Rattle.cics_orders.specs.EndedLanes.{Fits, issue_steps, once_steps, line_fits, once_fits, drained_fits, lanes_given, start_fits}
+use Rattle.cics_orders.specs.EndedLanes.{Fits, issue_steps, once_steps, line_fits, once_fits, drained_fits, lanes_given, initial_fits}
 use Rattle.cics_orders.specs.Gists.{Gist, gist, Stays, stays_line, stays_once, Gave, gave, gave_at, gives_line, stays_given}
 use Rattle.cics_orders.specs.GivenLanes.{frame, gist_cores, core_frames, frames_given, frames_initial, all_at}
 use Rattle.cics_orders.specs.Ways.{none_waits}
@@ -117,9 +117,9 @@ fresh_turns (t ∷ ts) clock zero g at = let same : gist (task_lane t) ≡ g = c
 fresh_turns (t ∷ ts) clock (suc j) g at = fresh_turns ts clock j g at
 
 -- the initial state of a plan is sound
-pub start_sound : (p : Plan) → Sound (initial_state p)
+pub initial_sound : (p : Plan) → Sound (initial_state p)
 unfolding initial_state
-start_sound p = record { fits = start_fits p; frames = frames_initial p; turns = λ j g at none. fresh_turns p.tasks p.clock j g at }
+initial_sound p = record { fits = initial_fits p; frames = frames_initial p; turns = λ j g at none. fresh_turns p.tasks p.clock j g at }
 
 -- ---- Serial or not
 

@@ -105,7 +105,7 @@ orders_end (suc n) s few =
     by more [] is may = (is, tt)
     by more (l ∷ ls) is may = all_led s (λ l. orders lanes n (given s l)) (l ∷ ls) may more
 
--- ---- The start
+-- ---- The initial state
 
 left_tasks : (n m : ℕ) (ts : List TaskPlan) (clock : List NumberedLine) → n ≡ m + length clock →
     fold (λ n t. n + length t.lines) n ts ≡ m + left (map gist (map task_lane ts ++ fresh_lane None clock ∷ []))

@@ -1,4 +1,4 @@
--- What the stamp of a state tells: after two ways from one start, states of one stamp are the same.
+-- What the stamp of a state tells: after two ways from one initial state, states of one stamp are the same.
 use Rattle.std.proofs.Common.{◌≡◌, ℕ, ◌==◌, Bool, true, ◌&&◌, List, [], ◌∷◌, ◌++◌, map, Option, None, Some, refl, ap, sym, ◌∙◌}
 use Rattle.std.proofs.lemmas.List.Folds.{flat_map-map}
 use Rattle.std.specs.Prelude.{if◌then◌else◌}

@@ -20,7 +20,7 @@ use Rattle.cics_orders.specs.Stamps.{seen, state_stamp}
 use Rattle.cics_orders.specs.Turns.{has_shutdown, may_go_on, turn_goes_on, lane_breaks, breaks}
 use Rattle.cics_orders.specs.declared.lanes.Lane.{Lane}
 
--- ---- The start
+-- ---- The initial state
 
 -- a plan if it is proper, else one without a line
 abbrev pub proper : Plan → Plan
@@ -30,9 +30,9 @@ proper p = if is_proper p then p else record { definitions = []; tasks = []; clo
 abbrev pub proper_state : State → State
 proper_state s = record s { plan = proper s.plan }
 
--- the start of the orders of a state's plan
-abbrev pub start_of : State → State
-start_of s = initial_state (proper s.plan)
+-- the initial state of the orders of a state's plan
+abbrev pub initial_of : State → State
+initial_of s = initial_state (proper s.plan)
 
 proper_by : (p : Plan) (b : Bool) → is_proper p ≡ b → is_proper (if b then p else record { definitions = []; tasks = []; clock = [] }) ≡ true
 proper_by p true is = is
@@ -47,22 +47,22 @@ pub proper_stays : (p : Plan) → is_proper p ≡ true → proper p ≡ p
 proper_stays p is = ap (λ b. if b then p else record { definitions = []; tasks = []; clock = [] }) is
 
 -- the orders of a proper plan start in its initial state
-pub start_is : (p : Plan) → is_proper p ≡ true →
+pub initial_of_is : (p : Plan) → is_proper p ≡ true →
     initial_state (proper p) ≡ record { plan = p; machine = initial_machine p; lanes = map frame (initial_lanes p); last = None; is_serial = true }
-start_is p is = ap initial_state (proper_stays p is) ∙ initial_is p
+initial_of_is p is = ap initial_state (proper_stays p is) ∙ initial_is p
 
--- a line that is given doesn't change the start
-pub given_start : (s : State) (l : ℕ) → start_of (given s l) ≡ start_of s
-given_start s l = ap (λ p. initial_state (proper p)) (plan_stays s l)
+-- a line that is given doesn't change the initial state
+pub given_initial : (s : State) (l : ℕ) → initial_of (given s l) ≡ initial_of s
+given_initial s l = ap (λ p. initial_state (proper p)) (plan_stays s l)
 
--- the start of the start is itself
-pub start_start : (s : State) → start_of (start_of s) ≡ start_of s
+-- the initial state of the initial state is itself
+pub initial_initial : (s : State) → initial_of (initial_of s) ≡ initial_of s
 unfolding initial_state
-start_start s = ap initial_state (proper_stays (proper s.plan) (proper_is s.plan))
+initial_initial s = ap initial_state (proper_stays (proper s.plan) (proper_is s.plan))
 
 -- each order ends within its lines
-pub starts_end : (s : State) → All (λ o. givers (after lanes (start_of s) o) 0 ≡ []) (orders lanes (line_count (start_of s).plan) (start_of s))
-starts_end s = most_ends (proper_state s)
+pub initial_ends : (s : State) → All (λ o. givers (after lanes (initial_of s) o) 0 ≡ []) (orders lanes (line_count (initial_of s).plan) (initial_of s))
+initial_ends s = most_ends (proper_state s)
 
 -- ---- The same lanes break a serial order
 
@@ -126,10 +126,10 @@ same_alike told b ending ends s t same = record {
   broken = λ is l one. broken_same told b s t same is l;
 }
 
--- two ways from the start that lead to states of one stamp go on alike
+-- two ways from the initial state that lead to states of one stamp go on alike
 pub stamps_tell : (told b : Bool) (ending : State → Parts) → ((s t : State) → SameState told b s t → ending s ≡ ending t) → (s : State) (o q : Order) →
-    IsWay lanes (start_of s) o → IsWay lanes (start_of s) q → state_stamp told b (after lanes (start_of s) o) ≡ state_stamp told b (after lanes (start_of s) q) →
-    AreStampedAlike lanes ending breaks (state_stamp told b) b (after lanes (start_of s) o) (after lanes (start_of s) q)
+    IsWay lanes (initial_of s) o → IsWay lanes (initial_of s) q → state_stamp told b (after lanes (initial_of s) o) ≡ state_stamp told b (after lanes (initial_of s) q) →
+    AreStampedAlike lanes ending breaks (state_stamp told b) b (after lanes (initial_of s) o) (after lanes (initial_of s) q)
 stamps_tell told b ending ends s o q way_o way_q e =
-    same_alike told b ending ends (after lanes (start_of s) o) (after lanes (start_of s) q)
+    same_alike told b ending ends (after lanes (initial_of s) o) (after lanes (initial_of s) q)
     (same_after told b (proper s.plan) (proper_is s.plan) o q way_o way_q e)

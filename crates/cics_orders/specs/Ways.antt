@@ -99,7 +99,7 @@ more_in_order (next ∷ lines) o order = more_in_order lines (defined_by o (line
 opened_in_order : (lines : List NumberedLine) → IsOpeningInOrder (opened lines)
 opened_in_order lines = more_in_order lines nothing_defined (record { files = refl; records = λ f. refl; queues = refl })
 
--- ---- The start
+-- ---- The initial state
 
 task_steady : (m : Machine) (t : TaskPlan) → IsSteady m → IsSteady (with_task m t)
 unfolding with_task attaching
@@ -286,7 +286,7 @@ module _ (begun : OpeningState) (fr : List Lane) (s : State) (l : ℕ) (x : Lane
 
 -- ---- Ways
 
--- what holds after each way from the start of a proper plan
+-- what holds after each way from the initial state of a proper plan
 pub record Holds (p : Plan) (s : State) : Type 0 where
   pub plan : s.plan ≡ p
   pub steady : IsSteady s.machine
@@ -300,9 +300,9 @@ one_of P (k ∷ ks) l (first, each) (inl same) = subst P (sym same) first
 one_of P (k ∷ ks) l (first, each) (inr one) = one_of P ks l each one
 
 module _ (p : Plan) (proper : is_proper p ≡ true) where
-  holds_start : Holds p (initial_state p)
+  holds_initial : Holds p (initial_state p)
   unfolding initial_state
-  holds_start =
+  holds_initial =
       let begun = beginning_region (opened p.definitions) in
       record {
         plan = refl;
@@ -329,4 +329,4 @@ module _ (p : Plan) (proper : is_proper p ≡ true) where
 
   -- after each way
   pub holds_along : (o : Order) → IsWay lanes (initial_state p) o → Holds p (after lanes (initial_state p) o)
-  holds_along o way = holds_after (initial_state p) o holds_start way
+  holds_along o way = holds_after (initial_state p) o holds_initial way

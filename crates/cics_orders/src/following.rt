@@ -69,14 +69,14 @@ impl<T: Tells> Walk for Following<T> {
     ghost use Rattle.cics_orders.specs.Giving.{lanes, line_count};
     ghost use Rattle.cics_orders.specs.OrderLaws.{lanes_ordered};
     ghost use Rattle.cics_orders.specs.Stamps.{state_stamp};
-    ghost use Rattle.cics_orders.specs.StampLaws.{proper_state, start_of, given_start};
-    ghost use Rattle.cics_orders.specs.StampLaws.{start_start, starts_end, stamps_tell};
+    ghost use Rattle.cics_orders.specs.StampLaws.{proper_state, initial_of, given_initial};
+    ghost use Rattle.cics_orders.specs.StampLaws.{initial_initial, initial_ends, stamps_tell};
     ghost use Rattle.cics_orders.specs.Turns.{breaks};
-    ghost use Rattle.cics_orders.specs.TurnLaws.{serial_starts, keeps_serial, breaks_serial};
+    ghost use Rattle.cics_orders.specs.TurnLaws.{initial_is_serial, keeps_serial, breaks_serial};
 
     ghost lanes = { lanes };
 
-    ghost start = { start_of };
+    ghost initial = { initial_of };
 
     ghost ending = { T.told };
 
@@ -90,15 +90,15 @@ impl<T: Tells> Walk for Following<T> {
 
     ghost is_ordered = { lanes_ordered };
 
-    ghost most_ends = { starts_end };
+    ghost most_ends = { initial_ends };
 
-    ghost start_stays = { given_start };
+    ghost initial_stays = { given_initial };
 
-    ghost start_is_start = { start_start };
+    ghost initial_is_initial = { initial_initial };
 
     ghost stamps_tell = { λ b s o p. stamps_tell T.all b T.told (T.alike b) s o p };
 
-    ghost serial_starts = { λ s. serial_starts (proper_state s) };
+    ghost initial_is_serial = { λ s. initial_is_serial (proper_state s) };
 
     ghost keeps_serial = { λ s. keeps_serial (proper_state s) };
 

@@ -9,7 +9,7 @@ ghost use Rattle.cics_orders.specs.Giving.{State, initial_state, line_count, is_
 ghost use Rattle.cics_orders.specs.Giving.{ends_turn, is_end, is_lane, counted, after_line};
 ghost use Rattle.cics_orders.specs.Giving.{drained, drained_once, givers, given};
 ghost use Rattle.cics_orders.specs.Giving.{Takes, IsGivable};
-ghost use Rattle.cics_orders.specs.StampLaws.{start_of};
+ghost use Rattle.cics_orders.specs.StampLaws.{initial_of};
 ghost use Rattle.cics_orders.specs.Stamps.{state_stamp};
 ghost use Rattle.cics_orders.specs.Turns.{turn_goes_on, breaks};
 ghost use Rattle.cics_plans.specs.Proper.{is_proper};
@@ -205,9 +205,9 @@ impl Walker {
     /// Errors: `NoMemory`.
     ///
     /// Cost: O(definitions + tasks + lanes).
-    #[tactic(auto, using(crate::specs::StampLaws::start_is))]
+    #[tactic(auto, using(crate::specs::StampLaws::initial_of_is))]
     pub fn restart(&mut self) -> Result<(), NoMemory>
-        ensures { OnOk result (self.new ≡ start_of self.old) }
+        ensures { OnOk result (self.new ≡ initial_of self.old) }
     {
         self.lanes = fresh_lanes(self.alloc, self.fresh.as_slice())?;
         self.region = initial_region(&self.opening, self.plan.tasks.as_slice())?;

@@ -16,11 +16,11 @@ use Rattle.cics_search.specs.Levels.{led_on, live, spread, IsNext}
 use Rattle.cics_lanes.specs.declared.states.Led.{Led}
 use Rattle.cics_search.proofs.Regrouping.{added_all-append}
 
--- no order moves the start
-pub start_after : {S : Type 0} (lanes : Lanes S) (start : S → S) → ((s : S) (l : ℕ) → start (lanes.given s l) ≡ start s) →
-    (s : S) (o : Order) → start (after lanes s o) ≡ start s
-start_after lanes start stays s [] = refl
-start_after lanes start stays s (l ∷ o) = start_after lanes start stays (lanes.given s l) o ∙ stays s l
+-- no order changes the initial state
+pub initial_after : {S : Type 0} (lanes : Lanes S) (initial : S → S) → ((s : S) (l : ℕ) → initial (lanes.given s l) ≡ initial s) →
+    (s : S) (o : Order) → initial (after lanes s o) ≡ initial s
+initial_after lanes initial stays s [] = refl
+initial_after lanes initial stays s (l ∷ o) = initial_after lanes initial stays (lanes.given s l) o ∙ stays s l
 
 -- one value more is added
 pub added_more : {K X : Type 0} (eq : K → K → Bool) (join : X → X → X) (f : ℕ → K × X) (ls : List ℕ) (i : ℕ) (base now next : List (K × X)) (k : K) (x : X) →

@@ -156,8 +156,8 @@ module _ {S : Type 0} (lanes : Lanes S) (breaks : S → ℕ → Bool) (stamp : B
       (each_added_all bytes_eq led_joined led_laws bytes_eq led_joined led_laws (spread lanes breaks stamp b s) (IsEntry lanes breaks stamp b s) leads_on
       (map (λ o. entry lanes breaks stamp b o 1 (after lanes s o)) is.orders) [] tt (are_entries is.orders ways))
 
-  pub first_level : (w : Bool) (es : List (Bytes × Led)) → es ≡ entry lanes breaks stamp b [] 1 s ∷ [] → IsLevel lanes breaks stamp b s 0 w es
-  first_level w es is = record { orders = [] ∷ []; among = inr ([], refl, refl); groups = is; whole = λ _. refl; some = λ _. omega arith }
+  pub initial_level : (w : Bool) (es : List (Bytes × Led)) → es ≡ entry lanes breaks stamp b [] 1 s ∷ [] → IsLevel lanes breaks stamp b s 0 w es
+  initial_level w es is = record { orders = [] ∷ []; among = inr ([], refl, refl); groups = is; whole = λ _. refl; some = λ _. omega arith }
 
   -- ---- A level isn't empty
 

@@ -11,7 +11,7 @@ use Rattle.cics_lanes.specs.declared.states.Reached.{Reached}
 abbrev pub all_reached : {S : Type 0} → Lanes S → (S → ℕ → Bool) → (Bool → S → Bytes) → Bool → S → List Reached
 all_reached lanes breaks stamp b x = map (λ l. reached lanes breaks stamp b (lanes.given x l)) (lanes_of lanes breaks b x)
 
--- a state to which an order from the start `s` leads
+-- a state to which an order from the initial state `s` leads
 abbrev pub IsMet : {S : Type 0} → Lanes S → S → S → Type 0
 IsMet lanes s x = (o : Order) × IsWay lanes s o × (x ≡ after lanes s o)
 

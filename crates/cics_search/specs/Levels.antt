@@ -28,7 +28,7 @@ pub record IsEntry {S : Type 0} (lanes : Lanes S) (breaks : S → ℕ → Bool) 
   pub lanes_there : e.1.lanes ≡ lanes_of lanes breaks b (after lanes s e.1.first)
   pub ended : e.1.has_ended ≡ is_none_left (lanes.givers (after lanes s e.1.first) 0)
 
--- the entries of the next level that the lanes of a state lead to, from the start `s`
+-- the entries of the next level that the lanes of a state lead to, from the initial state `s`
 abbrev pub led_on : {S : Type 0} → Lanes S → (S → ℕ → Bool) → (Bool → S → Bytes) → Bool → S → Led → List (Bytes × Led)
 led_on lanes breaks stamp b s led =
     map (λ l. entry lanes breaks stamp b (led.first ++ l ∷ []) led.count (lanes.given (after lanes s led.first) l)) led.lanes
@@ -37,7 +37,7 @@ led_on lanes breaks stamp b s led =
 abbrev pub spread : {S : Type 0} → Lanes S → (S → ℕ → Bool) → (Bool → S → Bytes) → Bool → S → Bytes × Led → List (Bytes × Led)
 spread lanes breaks stamp b s e = if e.1.has_ended then e ∷ [] else led_on lanes breaks stamp b s e.1
 
--- a level: the entries of orders from the start `s`, each counted once
+-- a level: the entries of orders from the initial state `s`, each counted once
 abbrev pub level : {S : Type 0} → Lanes S → (S → ℕ → Bool) → (Bool → S → Bytes) → Bool → S → List Order → List (Bytes × Led)
 level lanes breaks stamp b s os =
     added_all bytes_eq led_joined [] (map (λ o. entry lanes breaks stamp b o 1 (after lanes s o)) os)

@@ -76,13 +76,13 @@ fn go_on<W: Walk>(
     from: &Reached,
     is_serial: bool,
 ) -> Result<(), NoMemory>
-    requires met { IsMet W.lanes (W.start walk.old) walk.old }
+    requires met { IsMet W.lanes (W.initial walk.old) walk.old }
     requires from { from.now ≡ reached W.lanes W.breaks W.stamp is_serial walk.old }
-    requires known { IsKnown W.lanes W.breaks W.stamp is_serial (W.start walk.old)
+    requires known { IsKnown W.lanes W.breaks W.stamp is_serial (W.initial walk.old)
         known.old.entries }
-    ensures known { OnOk result (IsKnown W.lanes W.breaks W.stamp is_serial (W.start walk.old)
+    ensures known { OnOk result (IsKnown W.lanes W.breaks W.stamp is_serial (W.initial walk.old)
         known.new.entries) }
-    ensures start { OnOk result (W.start walk.new ≡ W.start walk.old) }
+    ensures initial { OnOk result (W.initial walk.new ≡ W.initial walk.old) }
 {
     let alloc = *known.allocator();
     let mut here = from.copy(alloc)?;
@@ -108,14 +108,14 @@ pub(crate) fn lead_on<W: Walk>(
     entry: &(Stamp, Led),
     is_serial: bool,
 ) -> Result<Items<Reached>, NoMemory>
-    requires entry { IsEntry W.lanes W.breaks W.stamp is_serial (W.start walk.old) entry.now }
-    requires known { IsKnown W.lanes W.breaks W.stamp is_serial (W.start walk.old)
+    requires entry { IsEntry W.lanes W.breaks W.stamp is_serial (W.initial walk.old) entry.now }
+    requires known { IsKnown W.lanes W.breaks W.stamp is_serial (W.initial walk.old)
         known.old.entries }
     ensures states { IfOk result (λ states. states ≡ all_reached W.lanes W.breaks W.stamp
-        is_serial (after W.lanes (W.start walk.old) entry.now.1.first)) }
+        is_serial (after W.lanes (W.initial walk.old) entry.now.1.first)) }
     ensures known { OnOk result (IsKnown W.lanes W.breaks W.stamp is_serial
-        (W.start walk.old) known.new.entries) }
-    ensures start { OnOk result (W.start walk.new ≡ W.start walk.old) }
+        (W.initial walk.old) known.new.entries) }
+    ensures initial { OnOk result (W.initial walk.new ≡ W.initial walk.old) }
 {
     let alloc = *known.allocator();
     let lanes = entry.1.lanes.as_slice();

@@ -172,16 +172,16 @@ impl Search {
         entry: (Stamp, Led),
         next: &mut Level,
     ) -> Result<(), NoMemory>
-        requires entry { IsEntry W.lanes W.breaks W.stamp self.now.is_serial (W.start walk.old)
+        requires entry { IsEntry W.lanes W.breaks W.stamp self.now.is_serial (W.initial walk.old)
             entry }
-        requires known { IsKnown W.lanes W.breaks W.stamp self.now.is_serial (W.start walk.old)
+        requires known { IsKnown W.lanes W.breaks W.stamp self.now.is_serial (W.initial walk.old)
             known.old.entries }
         ensures known { OnOk result (IsKnown W.lanes W.breaks W.stamp self.now.is_serial
-            (W.start walk.old) known.new.entries) }
+            (W.initial walk.old) known.new.entries) }
         ensures next { OnOk result (next.new.entries ≡ added_all bytes_eq led_joined
             next.old.entries (led_on W.lanes W.breaks W.stamp self.now.is_serial
-            (W.start walk.old) entry.1)) }
-        ensures start { OnOk result (W.start walk.new ≡ W.start walk.old) }
+            (W.initial walk.old) entry.1)) }
+        ensures initial { OnOk result (W.initial walk.new ≡ W.initial walk.old) }
     {
         let states = lead_on(walk, known, &entry, self.is_serial)?;
         let led = &entry.1;
@@ -201,16 +201,16 @@ impl Search {
         entry: (Stamp, Led),
         next: &mut Level,
     ) -> Result<(), NoMemory>
-        requires entry { IsEntry W.lanes W.breaks W.stamp self.now.is_serial (W.start walk.old)
+        requires entry { IsEntry W.lanes W.breaks W.stamp self.now.is_serial (W.initial walk.old)
             entry }
-        requires known { IsKnown W.lanes W.breaks W.stamp self.now.is_serial (W.start walk.old)
+        requires known { IsKnown W.lanes W.breaks W.stamp self.now.is_serial (W.initial walk.old)
             known.old.entries }
         ensures known { OnOk result (IsKnown W.lanes W.breaks W.stamp self.now.is_serial
-            (W.start walk.old) known.new.entries) }
+            (W.initial walk.old) known.new.entries) }
         ensures next { OnOk result (next.new.entries ≡ added_all bytes_eq led_joined
             next.old.entries (spread W.lanes W.breaks W.stamp self.now.is_serial
-            (W.start walk.old) entry)) }
-        ensures start { OnOk result (W.start walk.new ≡ W.start walk.old) }
+            (W.initial walk.old) entry)) }
+        ensures initial { OnOk result (W.initial walk.new ≡ W.initial walk.old) }
     {
         if entry.1.has_ended {
             return add(next, entry.0, entry.1);
@@ -227,15 +227,15 @@ impl Search {
         progress: &mut P,
     ) -> Result<Level, NoMemory>
         requires level { (n : ℕ) × IsLevel W.lanes W.breaks W.stamp self.old.is_serial
-            (W.start walk.old) n self.old.is_whole level.entries }
+            (W.initial walk.old) n self.old.is_whole level.entries }
         requires share { 1 ≤ self.old.share }
-        requires known { IsKnown W.lanes W.breaks W.stamp self.old.is_serial (W.start walk.old)
+        requires known { IsKnown W.lanes W.breaks W.stamp self.old.is_serial (W.initial walk.old)
             known.old.entries }
         ensures known { OnOk result (IsKnown W.lanes W.breaks W.stamp self.old.is_serial
-            (W.start walk.old) known.new.entries) }
+            (W.initial walk.old) known.new.entries) }
         ensures next { IfOk result (λ next. IsNext W.lanes W.breaks W.stamp self.old.is_serial
-            (W.start walk.old) self.old.is_whole self.new.is_whole level.entries next.entries) }
-        ensures start { OnOk result (W.start walk.new ≡ W.start walk.old) }
+            (W.initial walk.old) self.old.is_whole self.new.is_whole level.entries next.entries) }
+        ensures initial { OnOk result (W.initial walk.new ≡ W.initial walk.old) }
         ensures serial { OnOk result (self.new.is_serial ≡ self.old.is_serial) }
         ensures limit { OnOk result (self.new.limit ≡ self.old.limit) }
         ensures share { OnOk result (self.new.share ≡ self.old.share) }
@@ -263,10 +263,10 @@ impl Search {
     }
 
     // Returns the level before the first line.
-    fn first_level<W: Walk>(&self, walk: &mut W) -> Result<Level, NoMemory>
+    fn initial_level<W: Walk>(&self, walk: &mut W) -> Result<Level, NoMemory>
         ensures level { IfOk result (λ level. IsLevel W.lanes W.breaks W.stamp self.now.is_serial
-            (W.start walk.old) 0 true level.entries) }
-        ensures start { OnOk result (W.start walk.new ≡ W.start walk.old) }
+            (W.initial walk.old) 0 true level.entries) }
+        ensures initial { OnOk result (W.initial walk.new ≡ W.initial walk.old) }
     {
         walk.restart()?;
         let here = look(self.alloc, walk, self.is_serial)?;
@@ -276,8 +276,8 @@ impl Search {
         Ok(level)
     }
 
-    // Follows orders from the start of a walk. Returns the level of the states after so many
-    // lines.
+    // Follows orders from the initial state of a walk. Returns the level of the states after so
+    // many lines.
     fn run<W: Walk, P: Progress>(
         &mut self,
         walk: &mut W,
@@ -288,13 +288,13 @@ impl Search {
         requires met { self.old.met ≡ 0 }
         requires whole { self.old.is_whole ≡ true }
         ensures level { IfOk result (λ level. IsLevel W.lanes W.breaks W.stamp self.old.is_serial
-            (W.start walk.old) lines self.new.is_whole level.entries) }
-        ensures start { OnOk result (W.start walk.new ≡ W.start walk.old) }
+            (W.initial walk.old) lines self.new.is_whole level.entries) }
+        ensures initial { OnOk result (W.initial walk.new ≡ W.initial walk.old) }
         ensures serial { OnOk result (self.new.is_serial ≡ self.old.is_serial) }
         ensures within { OnOk result (state_count W.lanes W.breaks W.stamp self.old.is_serial
-            (W.start walk.old) lines ≤ self.old.limit → self.new.is_whole ≡ true) }
+            (W.initial walk.old) lines ≤ self.old.limit → self.new.is_whole ≡ true) }
     {
-        let mut level = self.first_level(walk)?;
+        let mut level = self.initial_level(walk)?;
         let mut known = IndexMap::new(self.alloc);
         for _ in 0..lines {
             level = self.next(walk, &mut known, level, progress)?;
@@ -305,9 +305,9 @@ impl Search {
     // Counts the orders of a level for the endings that they lead to.
     fn tally<W: Walk>(&self, walk: &mut W, level: Level, met: &mut Met) -> Result<(), NoMemory>
         ensures met { OnOk result (met.new.entries ≡ added_all are_same tally_joined
-            met.old.entries (map (tallied W.lanes W.ending self.now.is_serial (W.start walk.old))
+            met.old.entries (map (tallied W.lanes W.ending self.now.is_serial (W.initial walk.old))
             level.entries)) }
-        ensures start { OnOk result (W.start walk.new ≡ W.start walk.old) }
+        ensures initial { OnOk result (W.initial walk.new ≡ W.initial walk.old) }
     {
         for (_, led) in level {
             go_to(walk, led.first.as_slice())?;
@@ -317,8 +317,8 @@ impl Search {
         Ok(())
     }
 
-    // Follows orders of so many lines from the start of a walk, and counts them for the endings to
-    // which they lead. Returns whether it left out no state.
+    // Follows orders of so many lines from the initial state of a walk, and counts them for the
+    // endings to which they lead. Returns whether it left out no state.
     fn count_orders<W: Walk, P: Progress>(
         mut self,
         walk: &mut W,
@@ -330,12 +330,12 @@ impl Search {
         requires met { self.met ≡ 0 }
         requires whole { self.is_whole ≡ true }
         ensures told { IfOk result (λ is_whole. (es : List (List ℕ × Led)) ×
-            IsLevel W.lanes W.breaks W.stamp self.is_serial (W.start walk.old) lines is_whole es ×
+            IsLevel W.lanes W.breaks W.stamp self.is_serial (W.initial walk.old) lines is_whole es ×
             (met.new.entries ≡ added_all are_same tally_joined met.old.entries
-            (map (tallied W.lanes W.ending self.is_serial (W.start walk.old)) es))) }
-        ensures start { OnOk result (W.start walk.new ≡ W.start walk.old) }
+            (map (tallied W.lanes W.ending self.is_serial (W.initial walk.old)) es))) }
+        ensures initial { OnOk result (W.initial walk.new ≡ W.initial walk.old) }
         ensures within { IfOk result (λ is_whole. state_count W.lanes W.breaks W.stamp
-            self.is_serial (W.start walk.old) lines ≤ self.limit → is_whole ≡ true) }
+            self.is_serial (W.initial walk.old) lines ≤ self.limit → is_whole ≡ true) }
     {
         let level = self.run(walk, lines, progress)?;
         self.tally(walk, level, met)?;
@@ -343,7 +343,7 @@ impl Search {
     }
 }
 
-/// Follows the orders from the start of a walk. Returns the endings that they lead to.
+/// Follows the orders from the initial state of a walk. Returns the endings that they lead to.
 ///
 /// States of one stamp are followed once, by the first order that leads there, and the number of
 /// orders is kept. Each ending stands once, with the first order that leads to it, and how many
@@ -367,11 +367,11 @@ pub fn explore<W: Walk, P: Progress>(
     progress: &mut P,
 ) -> Result<Report, NoMemory>
     ensures report { IfOk result (λ report. IsReport W.lanes W.ending W.serial
-        (W.most (W.start walk.old)) (W.start walk.old) report) }
+        (W.most (W.initial walk.old)) (W.initial walk.old) report) }
     ensures within { IfOk result (λ report. state_count W.lanes W.breaks W.stamp false
-        (W.start walk.old) (W.most (W.start walk.old)) ≤ limit → report.is_whole ≡ true) }
+        (W.initial walk.old) (W.most (W.initial walk.old)) ≤ limit → report.is_whole ≡ true) }
     ensures serial_within { IfOk result (λ report. state_count W.lanes W.breaks W.stamp true
-        (W.start walk.old) (W.most (W.start walk.old)) ≤ limit →
+        (W.initial walk.old) (W.most (W.initial walk.old)) ≤ limit →
         report.has_all_serial ≡ true) }
 {
     walk.restart()?;

@@ -8,7 +8,7 @@ use Rattle.cics_lanes.proofs.states.go_to.Goals as goal
 pub loop-i-preserved : goal.loop-i-preserved
 loop-i-preserved g c =
     let lanes = g.W.Walk.lanes in
-    let s = g.W.Walk.start c.args.walk.now in
+    let s = g.W.Walk.initial c.args.walk.now in
     let o = c.args.order.now in
     let i = c.loop-i.i in
     c.in_ok-give.ensures ∙ ap (λ t. lanes.given t (get_or o i 0)) c.loop-i.invariant

@@ -5,15 +5,15 @@ use Rattle.cics_search.specs.Reports.{IsReport}
 use Rattle.cics_plans.specs.declared.plans.Plan.{Plan}
 use Rattle.cics_plans.specs.Proper.{is_proper}
 use Rattle.cics_orders.specs.Giving.{State, lanes, initial_state, line_count}
-use Rattle.cics_orders.specs.StampLaws.{start_of, proper_stays}
+use Rattle.cics_orders.specs.StampLaws.{initial_of, proper_stays}
 use Rattle.cics_orders.specs.Stamps.{state_stamp}
 use Rattle.cics_orders.specs.Turns.{breaks}
 use Rattle.cics_orders.proofs.following.explore_script.Goals as goal
 
 -- a walk starts in the initial state of its plan
-begins : (p : Plan) (s : State) → is_proper p ≡ true → s ≡ initial_state p → start_of s ≡ initial_state p
+begins : (p : Plan) (s : State) → is_proper p ≡ true → s ≡ initial_state p → initial_of s ≡ initial_state p
 unfolding initial_state
-begins p s proper is = ap start_of is ∙ ap initial_state (proper_stays p proper)
+begins p s proper is = ap initial_of is ∙ ap initial_state (proper_stays p proper)
 
 pub returns-clause-report : goal.returns-clause-report
 unfolding initial_state

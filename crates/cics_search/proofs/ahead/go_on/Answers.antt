@@ -12,7 +12,7 @@ pub loop-preserved : goal.loop-preserved
 loop-preserved g c =
     let w = g.W.Walk in
     let t = c.args.walk.now in
-    let s = w.start t in
+    let s = w.initial t in
     let b = c.args.is_serial in
     let inv = c.loop.invariant in
     let here = c.loop.here in
@@ -22,7 +22,7 @@ loop-preserved g c =
     let next = sym (get_or_from_slice_get here.lanes (length rs) lane 0 c.in-Some.ensures) in
     let given = c.in_ok-give.ensures in
     record {
-      start = ap w.start given ∙ w.start_stays c.loop.walk lane ∙ inv.start;
+      initial = ap w.initial given ∙ w.initial_stays c.loop.walk lane ∙ inv.initial;
       met = met_more w.lanes w.breaks w.stamp w.ending b s (w.stamps_tell b t) c.loop.walk c.give.new.self (length rs) here.lanes inv.met (ap (λ r. r.lanes) inv.here) short
           (given ∙ ap (w.lanes.given c.loop.walk) next);
       here = c.in_ok-there.ensures;

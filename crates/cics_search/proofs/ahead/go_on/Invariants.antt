@@ -7,9 +7,9 @@ use Rattle.cics_search.proofs.ahead.go_on.Given as goal
 abbrev pub invariant-loop : goal.invariant-loop
 invariant-loop g l =
     let w = g.W.Walk in
-    let s = w.start l.fn.walk in
+    let s = w.initial l.fn.walk in
     record {
-      start : w.start l.walk ≡ s;
+      initial : w.initial l.walk ≡ s;
       met : IsMet w.lanes s l.walk;
       here : l.here ≡ reached w.lanes w.breaks w.stamp l.is_serial l.walk;
       known : IsKnown w.lanes w.breaks w.stamp l.is_serial s l.known.entries;

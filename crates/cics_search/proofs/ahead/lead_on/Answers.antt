@@ -5,7 +5,7 @@ use Rattle.cics_lanes.specs.States.{lanes_of, reached}
 use Rattle.cics_search.specs.Ahead.{all_reached, IsKnown, IsMet}
 use Rattle.cics_lanes.specs.declared.states.Reached.{Reached}
 use Rattle.cics_search.proofs.Advancing.{known_put, known_first, front_more, met_more}
-use Rattle.cics_search.proofs.Following.{start_after}
+use Rattle.cics_search.proofs.Following.{initial_after}
 use Rattle.cics_search.proofs.ahead.lead_on.Goals as goal
 
 -- what is known of the entry's stamp is taken
@@ -13,11 +13,11 @@ pub loop-i-init : goal.loop-i-init
 loop-i-init g c =
     let w = g.W.Walk in
     let t = c.args.walk.now in
-    let s = w.start t in
+    let s = w.initial t in
     let b = c.args.is_serial in
     let e = c.requires.entry in
     record {
-      start = refl;
+      initial = refl;
       known = known_put w.lanes w.breaks w.stamp w.ending b s (w.stamps_tell b t) c.args.known.now.entries c.take-states.new.known.entries c.args.entry.now.0 None c.requires.known
           c.take-states.ensures.taken.0 tt;
       count = sym c.len-i.ensures;
@@ -30,14 +30,14 @@ pub go_on-requires-clause-met : goal.go_on-requires-clause-met
 go_on-requires-clause-met g c =
     let w = g.W.Walk in
     let t = c.args.walk.now in
-    let s = w.start t in
+    let s = w.initial t in
     let b = c.args.is_serial in
     let x = after w.lanes s c.args.entry.now.1.first in
     let ls = c.as_slice-lanes.result.now in
     let lane = get_or ls c.loop-i.i 0 in
-    let back = c.in_ok-go_to.ensures ∙ ap (after w.lanes (w.start c.loop-i.walk)) c.as_slice.ensures ∙ ap (λ z. after w.lanes z c.args.entry.now.1.first) c.loop-i.invariant.start in
+    let back = c.in_ok-go_to.ensures ∙ ap (after w.lanes (w.initial c.loop-i.walk)) c.as_slice.ensures ∙ ap (λ z. after w.lanes z c.args.entry.now.1.first) c.loop-i.invariant.initial in
     let given : c.give.new.self ≡ w.lanes.given x lane = c.in_ok-give.ensures ∙ ap (λ z. w.lanes.given z lane) back in
-    let begun : w.start c.give.new.self ≡ s = ap w.start given ∙ w.start_stays x lane ∙ start_after w.lanes w.start w.start_stays s c.args.entry.now.1.first ∙ w.start_is_start t in
+    let begun : w.initial c.give.new.self ≡ s = ap w.initial given ∙ w.initial_stays x lane ∙ initial_after w.lanes w.initial w.initial_stays s c.args.entry.now.1.first ∙ w.initial_is_initial t in
     subst (λ z. IsMet w.lanes z c.give.new.self) (sym begun)
     (met_more w.lanes w.breaks w.stamp w.ending b s (w.stamps_tell b t) x c.give.new.self c.loop-i.i ls (c.args.entry.now.1.first, c.requires.entry.way, refl)
     (c.as_slice-lanes.ensures ∙ c.requires.entry.lanes_there) (omega arith) given)
@@ -46,13 +46,13 @@ pub go_on-requires-clause-known : goal.go_on-requires-clause-known
 go_on-requires-clause-known g c =
     let w = g.W.Walk in
     let t = c.args.walk.now in
-    let s = w.start t in
+    let s = w.initial t in
     let b = c.args.is_serial in
     let x = after w.lanes s c.args.entry.now.1.first in
     let lane = get_or c.as_slice-lanes.result.now c.loop-i.i 0 in
-    let back = c.in_ok-go_to.ensures ∙ ap (after w.lanes (w.start c.loop-i.walk)) c.as_slice.ensures ∙ ap (λ z. after w.lanes z c.args.entry.now.1.first) c.loop-i.invariant.start in
+    let back = c.in_ok-go_to.ensures ∙ ap (after w.lanes (w.initial c.loop-i.walk)) c.as_slice.ensures ∙ ap (λ z. after w.lanes z c.args.entry.now.1.first) c.loop-i.invariant.initial in
     let given : c.give.new.self ≡ w.lanes.given x lane = c.in_ok-give.ensures ∙ ap (λ z. w.lanes.given z lane) back in
-    let begun : w.start c.give.new.self ≡ s = ap w.start given ∙ w.start_stays x lane ∙ start_after w.lanes w.start w.start_stays s c.args.entry.now.1.first ∙ w.start_is_start t in
+    let begun : w.initial c.give.new.self ≡ s = ap w.initial given ∙ w.initial_stays x lane ∙ initial_after w.lanes w.initial w.initial_stays s c.args.entry.now.1.first ∙ w.initial_is_initial t in
     subst (λ z. IsKnown w.lanes w.breaks w.stamp b z c.loop-i.known.entries) (sym begun) c.loop-i.invariant.known
 
 -- the state that a lane more leads to is there
@@ -60,16 +60,16 @@ pub loop-i-preserved : goal.loop-i-preserved
 loop-i-preserved g c =
     let w = g.W.Walk in
     let t = c.args.walk.now in
-    let s = w.start t in
+    let s = w.initial t in
     let b = c.args.is_serial in
     let x = after w.lanes s c.args.entry.now.1.first in
     let inv = c.loop-i.invariant in
     let states = c.loop-i.states in
     let ls = c.as_slice-lanes.result.now in
     let lane = get_or ls c.loop-i.i 0 in
-    let back = c.in_ok-go_to.ensures ∙ ap (after w.lanes (w.start c.loop-i.walk)) c.as_slice.ensures ∙ ap (λ z. after w.lanes z c.args.entry.now.1.first) inv.start in
+    let back = c.in_ok-go_to.ensures ∙ ap (after w.lanes (w.initial c.loop-i.walk)) c.as_slice.ensures ∙ ap (λ z. after w.lanes z c.args.entry.now.1.first) inv.initial in
     let given : c.give.new.self ≡ w.lanes.given x lane = c.in_ok-give.ensures ∙ ap (λ z. w.lanes.given z lane) back in
-    let begun : w.start c.give.new.self ≡ s = ap w.start given ∙ w.start_stays x lane ∙ start_after w.lanes w.start w.start_stays s c.args.entry.now.1.first ∙ w.start_is_start t in
+    let begun : w.initial c.give.new.self ≡ s = ap w.initial given ∙ w.initial_stays x lane ∙ initial_after w.lanes w.initial w.initial_stays s c.args.entry.now.1.first ∙ w.initial_is_initial t in
     let next : ℕ → Reached = λ l. reached w.lanes w.breaks w.stamp b (w.lanes.given x l) in
     let are : ls ≡ lanes_of w.lanes w.breaks b x = c.as_slice-lanes.ensures ∙ c.requires.entry.lanes_there in
     let short : length states < length ls = omega (arith, inv.count) in
@@ -77,7 +77,7 @@ loop-i-preserved g c =
     = c.in_ok-push.ensures.ok
     ∙ ap (λ r. states ++ r ∷ []) (c.in_ok-there.ensures ∙ ap (reached w.lanes w.breaks w.stamp b) given ∙ ap next (λ i. get_or (are i) (sym inv.count i) 0)) in
     record {
-      start = c.in_ok-go_on.ensures.start ∙ begun;
+      initial = c.in_ok-go_on.ensures.initial ∙ begun;
       known = subst (λ z. IsKnown w.lanes w.breaks w.stamp b z c.go_on.new.known.entries) begun c.in_ok-go_on.ensures.known;
       count = ap length more ∙ length_push states _ ∙ ap (λ n. n + 1) inv.count;
       states = subst (λ (rs : List Reached). rs ≡ take (length rs) (all_reached w.lanes w.breaks w.stamp b x)) (sym more)
@@ -89,7 +89,7 @@ pub returns-clause-states : goal.returns-clause-states
 returns-clause-states g c =
     let w = g.W.Walk in
     let b = c.args.is_serial in
-    let x = after w.lanes (w.start c.args.walk.now) c.args.entry.now.1.first in
+    let x = after w.lanes (w.initial c.args.walk.now) c.args.entry.now.1.first in
     let all = all_reached w.lanes w.breaks w.stamp b x in
     let are : c.as_slice-lanes.result.now ≡ lanes_of w.lanes w.breaks b x = c.as_slice-lanes.ensures ∙ c.requires.entry.lanes_there in
     let size : length all ≡ length c.as_slice-lanes.result.now = length-map (lanes_of w.lanes w.breaks b x) (λ l. reached w.lanes w.breaks w.stamp b (w.lanes.given x l)) ∙ ap length (sym are) in

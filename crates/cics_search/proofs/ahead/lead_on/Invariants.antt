@@ -7,9 +7,9 @@ use Rattle.cics_search.proofs.ahead.lead_on.Given as goal
 abbrev pub invariant-loop-i : goal.invariant-loop-i
 invariant-loop-i g l =
     let w = g.W.Walk in
-    let s = w.start l.fn.walk in
+    let s = w.initial l.fn.walk in
     record {
-      start : w.start l.walk ≡ s;
+      initial : w.initial l.walk ≡ s;
       known : IsKnown w.lanes w.breaks w.stamp l.is_serial s l.known.entries;
       count : length l.states ≡ l.i;
       states : l.states ≡ take (length l.states) (all_reached w.lanes w.breaks w.stamp l.is_serial (after w.lanes s l.entry.1.first));

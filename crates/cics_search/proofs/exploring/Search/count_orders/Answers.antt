@@ -11,4 +11,4 @@ returns-clause-told g c =
     let w = g.W.Walk in
     let es = c.in_ok-level.level.entries in
     let step = c.in_ok-level.ensures in
-    (es, step.level, c.in_ok-tally.ensures.met ∙ (λ i. added_all are_same tally_joined c.args.met.now.entries (map (tallied w.lanes w.ending (step.serial i) (step.start i)) es)))
+    (es, step.level, c.in_ok-tally.ensures.met ∙ (λ i. added_all are_same tally_joined c.args.met.now.entries (map (tallied w.lanes w.ending (step.serial i) (step.initial i)) es)))

@@ -11,7 +11,7 @@ use Rattle.cics_search.proofs.exploring.Search.follow.Given as goal
 abbrev pub invariant-loop-reached : goal.invariant-loop-reached
 invariant-loop-reached g l =
     let w = g.W.Walk in
-    let x = after w.lanes (w.start l.fn.walk) l.fn.entry.1.first in
+    let x = after w.lanes (w.initial l.fn.walk) l.fn.entry.1.first in
     record {
       left : into_iter_items l.reached-iterator ≡ map (λ k. reached w.lanes w.breaks w.stamp l.self.is_serial (w.lanes.given x k)) (drop l.at l.fn.entry.1.lanes);
       next : l.next.entries ≡ added_all bytes_eq led_joined l.fn.next.entries

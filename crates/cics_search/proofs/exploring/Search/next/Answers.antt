@@ -19,11 +19,11 @@ pub loop-stamp-init : goal.loop-stamp-init
 loop-stamp-init g c =
     let w = g.W.Walk in
     let t = c.args.walk.now in
-    let s = w.start t in
+    let s = w.initial t in
     let b = c.args.self.now.is_serial in
     let gives = c.into_iter-stamp-iterator.ensures.into_iter_gives.0 in
     record {
-      start = refl;
+      initial = refl;
       known = c.requires.known;
       left = subst (Each (IsEntry w.lanes w.breaks w.stamp b s)) (sym gives)
           (level_entries w.lanes w.breaks w.stamp w.ending b s (w.stamps_tell b t) c.requires.level.0 c.args.self.now.is_whole c.args.level.entries c.requires.level.1);
@@ -44,15 +44,15 @@ loop-stamp-init g c =
 pub loop-stamp-preserved-then-is_kept : goal.loop-stamp-preserved-then-is_kept
 loop-stamp-preserved-then-is_kept g c =
     let w = g.W.Walk in
-    let s = w.start c.args.walk.now in
+    let s = w.initial c.args.walk.now in
     let b = c.args.self.now.is_serial in
     let e : Bytes × Led = (c.in-Some.stamp, c.in-Some.led) in
     let inv = c.loop-stamp.invariant in
     let step = c.in_ok-step.ensures in
     record {
-      start = step.start ∙ inv.start;
-      known = subst (λ t. IsKnown w.lanes w.breaks w.stamp b t c.step.new.known.entries) inv.start
-          (subst (λ (v : Bool). IsKnown w.lanes w.breaks w.stamp v (w.start c.loop-stamp.walk) c.step.new.known.entries) inv.serial step.known);
+      initial = step.initial ∙ inv.initial;
+      known = subst (λ t. IsKnown w.lanes w.breaks w.stamp b t c.step.new.known.entries) inv.initial
+          (subst (λ (v : Bool). IsKnown w.lanes w.breaks w.stamp v (w.initial c.loop-stamp.walk) c.step.new.known.entries) inv.serial step.known);
       left = (subst (Each (IsEntry w.lanes w.breaks w.stamp b s)) c.in-Some.ensures.steps inv.left).1;
       serial = inv.serial;
       limit = inv.limit;
@@ -65,14 +65,14 @@ loop-stamp-preserved-then-is_kept g c =
       some = inv.some ++ e ∷ [];
       part = part_more c.args.self.now.is_whole c.loop-stamp.self.is_whole c.args.level.entries c.loop-stamp.stamp-iterator c.next.new.self inv.some e c.in-Some.ensures.steps inv.part;
       next = spread_more w.lanes w.breaks w.stamp b s inv.some c.step.new.next.entries c.loop-stamp.next.entries e inv.next
-          (step.next ∙ (λ i. added_all bytes_eq led_joined c.loop-stamp.next.entries (spread w.lanes w.breaks w.stamp (inv.serial i) (inv.start i) e)));
+          (step.next ∙ (λ i. added_all bytes_eq led_joined c.loop-stamp.next.entries (spread w.lanes w.breaks w.stamp (inv.serial i) (inv.initial i) e)));
     }
 
 -- an entry more is left out: it isn't the last in which a lane may give
 pub loop-stamp-preserved : goal.loop-stamp-preserved
 loop-stamp-preserved g c =
     let w = g.W.Walk in
-    let s = w.start c.args.walk.now in
+    let s = w.initial c.args.walk.now in
     let b = c.args.self.now.is_serial in
     let e : Bytes × Led = (c.in-Some.stamp, c.in-Some.led) in
     let inv = c.loop-stamp.invariant in
@@ -86,7 +86,7 @@ loop-stamp-preserved g c =
           (λ last. true≢false (sym (l.keeps-is_kept.ensures.last last share) ∙ cut)) in
           record {
             some = inv.some;
-            start = inv.start;
+            initial = inv.initial;
             known = inv.known;
             left = (subst (Each (IsEntry w.lanes w.breaks w.stamp b s)) c.in-Some.ensures.steps inv.left).1;
             serial = inv.serial;

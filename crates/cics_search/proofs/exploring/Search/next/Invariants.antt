@@ -15,10 +15,10 @@ use Rattle.cics_search.proofs.exploring.Search.next.Given as goal
 abbrev pub invariant-loop-stamp : goal.invariant-loop-stamp
 invariant-loop-stamp g l =
     let w = g.W.Walk in
-    let s = w.start l.fn.walk in
+    let s = w.initial l.fn.walk in
     record {
       some : List (Bytes × Led);
-      start : w.start l.walk ≡ s;
+      initial : w.initial l.walk ≡ s;
       known : IsKnown w.lanes w.breaks w.stamp l.fn.self.is_serial s l.known.entries;
       left : Each (IsEntry w.lanes w.breaks w.stamp l.fn.self.is_serial s) l.stamp-iterator;
       serial : l.self.is_serial ≡ l.fn.self.is_serial;

@@ -10,10 +10,10 @@ pub loop-init : goal.loop-init
 loop-init g c =
     let w = g.W.Walk in
     let t = c.args.walk.now in
-    let s = w.start t in
+    let s = w.initial t in
     let b = c.args.self.now.is_serial in
     record {
-      start = c.in_ok-level.ensures.start;
+      initial = c.in_ok-level.ensures.initial;
       known = known_none w.lanes w.breaks w.stamp w.ending b s (w.stamps_tell b t) c.new-known.result.entries c.new-known.ensures.empty;
       serial = refl;
       limit = refl;
@@ -27,21 +27,21 @@ loop-init g c =
 pub loop-preserved : goal.loop-preserved
 loop-preserved g c =
     let w = g.W.Walk in
-    let s = w.start c.args.walk.now in
+    let s = w.initial c.args.walk.now in
     let b = c.args.self.now.is_serial in
     let inv = c.loop.invariant in
     let step = c.in_ok-level-2.ensures in
     let next : IsNext w.lanes w.breaks w.stamp b s c.loop.self.is_whole c.next.new.self.is_whole c.loop.level.entries c.in_ok-level-2.level.entries
-    = subst (λ t. IsNext w.lanes w.breaks w.stamp b t c.loop.self.is_whole c.next.new.self.is_whole c.loop.level.entries c.in_ok-level-2.level.entries) inv.start
-    (subst (λ (v : Bool). IsNext w.lanes w.breaks w.stamp v (w.start c.loop.walk) c.loop.self.is_whole c.next.new.self.is_whole c.loop.level.entries c.in_ok-level-2.level.entries) inv.serial step.next) in
+    = subst (λ t. IsNext w.lanes w.breaks w.stamp b t c.loop.self.is_whole c.next.new.self.is_whole c.loop.level.entries c.in_ok-level-2.level.entries) inv.initial
+    (subst (λ (v : Bool). IsNext w.lanes w.breaks w.stamp v (w.initial c.loop.walk) c.loop.self.is_whole c.next.new.self.is_whole c.loop.level.entries c.in_ok-level-2.level.entries) inv.serial step.next) in
     let more = level_met w.lanes w.breaks w.stamp b s c.loop.counter c.args.self.now.limit c.loop.self.met c.next.new.self.met c.loop.self.is_whole c.next.new.self.is_whole
     c.loop.level.entries c.in_ok-level-2.level.entries inv.level next inv.met inv.within step.met
     (λ fits. step.within (subst (λ (n : ℕ). c.loop.self.met + live c.loop.level.entries ≤ n) (sym inv.limit) fits)) in
     let one : suc c.loop.counter ≡ c.loop.counter + 1 = omega arith in
     record {
-      start = step.start ∙ inv.start;
-      known = subst (λ t. IsKnown w.lanes w.breaks w.stamp b t c.next.new.known.entries) inv.start
-          (subst (λ (v : Bool). IsKnown w.lanes w.breaks w.stamp v (w.start c.loop.walk) c.next.new.known.entries) inv.serial step.known);
+      initial = step.initial ∙ inv.initial;
+      known = subst (λ t. IsKnown w.lanes w.breaks w.stamp b t c.next.new.known.entries) inv.initial
+          (subst (λ (v : Bool). IsKnown w.lanes w.breaks w.stamp v (w.initial c.loop.walk) c.next.new.known.entries) inv.serial step.known);
       serial = step.serial ∙ inv.serial;
       limit = step.limit ∙ inv.limit;
       share = step.share ∙ inv.share;

@@ -7,9 +7,9 @@ use Rattle.cics_search.proofs.exploring.Search.run.Given as goal
 abbrev pub invariant-loop : goal.invariant-loop
 invariant-loop g l =
     let w = g.W.Walk in
-    let s = w.start l.fn.walk in
+    let s = w.initial l.fn.walk in
     record {
-      start : w.start l.walk ≡ s;
+      initial : w.initial l.walk ≡ s;
       known : IsKnown w.lanes w.breaks w.stamp l.fn.self.is_serial s l.known.entries;
       serial : l.self.is_serial ≡ l.fn.self.is_serial;
       limit : l.self.limit ≡ l.fn.self.limit;

@@ -9,9 +9,9 @@ use Rattle.cics_search.proofs.exploring.Search.tally.Given as goal
 abbrev pub invariant-loop-led : goal.invariant-loop-led
 invariant-loop-led g l =
     let w = g.W.Walk in
-    let s = w.start l.fn.walk in
+    let s = w.initial l.fn.walk in
     record {
-      start : w.start l.walk ≡ s;
+      initial : w.initial l.walk ≡ s;
       met : added_all are_same tally_joined l.met.entries (map (tallied w.lanes w.ending l.self.is_serial s) l.led-iterator)
           ≡ added_all are_same tally_joined l.fn.met.entries (map (tallied w.lanes w.ending l.self.is_serial s) l.fn.level.entries);
     }

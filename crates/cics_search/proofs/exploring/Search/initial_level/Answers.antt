@@ -5,21 +5,21 @@ use Rattle.cics_lanes.specs.Groups.{added}
 use Rattle.cics_lanes.specs.States.{led_joined, reached}
 use Rattle.cics_search.specs.Levels.{entry}
 use Rattle.cics_lanes.specs.declared.states.Led.{Led}
-use Rattle.cics_search.proofs.Leveling.{first_level}
-use Rattle.cics_search.proofs.exploring.Search.first_level.Goals as goal
+use Rattle.cics_search.proofs.Leveling.{initial_level}
+use Rattle.cics_search.proofs.exploring.Search.initial_level.Goals as goal
 
--- the start is the only state
+-- the initial state is the only one
 pub returns-clause-level : goal.returns-clause-level
 returns-clause-level g c =
     let w = g.W.Walk in
-    let s = w.start c.args.walk.now in
+    let s = w.initial c.args.walk.now in
     let b = c.args.self.now.is_serial in
     let here = c.in_ok-here.ensures ∙ ap (reached w.lanes w.breaks w.stamp b) c.in_ok-restart.ensures in
     let made : c.led_by-stamp.result ≡ entry w.lanes w.breaks w.stamp b [] 1 s
     = c.led_by-stamp.ensures ∙ (λ i. ((here i).stamp, record { first = c.new.ensures i; lanes = (here i).lanes; has_ended = (here i).has_ended; count = 1 })) in
-    first_level w.lanes w.breaks w.stamp w.ending b s (w.stamps_tell b c.args.walk.now) true c.add.new.met.entries
+    initial_level w.lanes w.breaks w.stamp w.ending b s (w.stamps_tell b c.args.walk.now) true c.add.new.met.entries
     (c.in_ok-add.ensures ∙ ap (λ (es : List (Bytes × Led)). added bytes_eq led_joined es c.led_by-stamp.result.0 c.led_by-stamp.result.1) c.new-level.ensures.empty
     ∙ ap (λ (e : Bytes × Led). e ∷ []) made)
 
-pub returns-clause-start : goal.returns-clause-start
-returns-clause-start g c = let w = g.W.Walk in ap w.start c.in_ok-restart.ensures ∙ w.start_is_start c.args.walk.now
+pub returns-clause-initial : goal.returns-clause-initial
+returns-clause-initial g c = let w = g.W.Walk in ap w.initial c.in_ok-restart.ensures ∙ w.initial_is_initial c.args.walk.now
