@@ -59,9 +59,9 @@ pub record IsTitled (r : Report) (k : ℕ) (e : Reported) : Type 0 where
   pub serial : e.serial < 2 ^ 128
   pub mark : (b : Bool) × (mark_in e.ending ≡ mark b)
 
--- A script is taken apart without a fault, each lane of an order may give when its line comes, and
--- the title's numbers are below 2^128. Then the plain run of the order's script leads where the
--- order does.
+-- A script is taken apart without a fault. Each lane of an order may give when its line comes. The
+-- title's numbers are below 2^128, and its mark is one that endings have. Then the plain run of the
+-- order's script leads where the order does.
 abbrev pub ScriptsLeadThere : Type 0
 ScriptsLeadThere =
     (script : List Bytes) (p : Planned) (r : Report) (k : ℕ) (e : Reported) → planned (taken_apart nothing_taken 1 script) ≡ Ok p →

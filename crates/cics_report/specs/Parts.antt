@@ -6,8 +6,8 @@ use Rattle.cics_names.specs.Keyed.{Bytes}
 use Rattle.cics_lanes.specs.Endings.{Parts, Reported}
 
 -- The first part of an ending is its mark, which its state tells: so endings that are counted as
--- one have the same mark. It sets no endings apart, since the lines of waiting tasks tell the same
--- waits.
+-- one have the same mark. It sets no endings apart, if the lines of waiting tasks tell the same
+-- waits. That isn't proved.
 abbrev pub mark : Bool → Bytes
 mark is_deadlock = if is_deadlock then codes " DEADLOCK" else []
 

@@ -9,8 +9,9 @@ pub fn faults_are_those_of_runs()
     ensures { FaultsAreThoseOfRuns }
 {}
 
-/// The script of an order leads where the order does, if its title's numbers are below 2^128. Its
-/// plain run has no fault, refuses no line of a task, and comes to the region after the order.
+/// The script of an order leads where the order does. Each lane of the order may give when its line
+/// comes. The title's mark is one that endings have, and its numbers are below 2^128. Then the plain
+/// run has no fault, refuses no line of a task, and comes to the region after the order.
 pub fn scripts_lead_there()
     ensures { ScriptsLeadThere }
 {}
