@@ -7,6 +7,6 @@ mod plans;
 mod reading;
 
 pub use defining::define;
-pub use planning::{Planner, plan_of};
+pub use planning::plan_of;
 pub use plans::{Plan, Planned, RefusedLine, ScriptFault, TaskPlan, is_same};
 pub use reading::read;

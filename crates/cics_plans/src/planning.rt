@@ -17,12 +17,12 @@ use cics_units::{DefineFault, Opening};
 use std::alloc::Global;
 use std::marker::Model;
 
-/// The lines of a script so far, taken apart.
-///
-/// Contracts see what the lines define, whether all are definitions or blank, the plan, and the
-/// refused lines. After `NoMemory` a planner is of no more use.
+// The lines of a script so far, taken apart.
+//
+// Contracts see what the lines define, whether all are definitions or blank, the plan, and the
+// refused lines. After `NoMemory` a planner is of no more use.
 #[derive(Drop)]
-pub struct Planner {
+struct Planner {
     alloc: Global,
     // What is defined: it tells the faults of definitions.
     opening: Opening,
@@ -48,7 +48,7 @@ impl Model for Planner {
 }
 
 // Returns the index of the task of a label.
-fn place_of(tasks: &[TaskPlan], label: &Name8) -> Option<usize>
+fn index_of(tasks: &[TaskPlan], label: &Name8) -> Option<usize>
     ensures { result ≡ first_place (λ task. is_task task label.now) tasks.now }
 {
     for i in 0..tasks.len() {
@@ -63,18 +63,15 @@ fn place_of(tasks: &[TaskPlan], label: &Name8) -> Option<usize>
 fn add_line(tasks: &mut Vec<TaskPlan>, label: &Name8, next: (u64, Record)) -> Result<(), NoMemory>
     ensures { OnOk result (tasks.new.items ≡ line_added tasks.old.items label.now next) }
 {
-    match place_of(tasks.as_slice(), label) {
-        Some(at) => {
-            tasks[at].add(next)?;
-            Ok(())
-        }
+    match index_of(tasks.as_slice(), label) {
+        Some(at) => tasks[at].add(next),
         None => Ok(()),
     }
 }
 
 impl Planner {
-    /// Returns a planner of no line.
-    pub fn new(alloc: Global) -> Planner
+    // Returns a planner of no line.
+    fn new(alloc: Global) -> Planner
         ensures { result ≡ nothing_taken }
     {
         Planner {
@@ -88,11 +85,9 @@ impl Planner {
         }
     }
 
-    /// Takes one line more: its number, and its bytes without its line end. Returns its fault, if
-    /// it has one; then nothing changes.
-    ///
-    /// Errors: `NoMemory`.
-    pub fn take(&mut self, number: u64, bytes: &[u8]) -> Result<Option<ScriptFault>, NoMemory>
+    // Takes one line more: its number, and its bytes without its line end. Returns its fault, if
+    // it has one; then nothing changes.
+    fn take(&mut self, number: u64, bytes: &[u8]) -> Result<Option<ScriptFault>, NoMemory>
         ensures { TakesLine (taken_more self.old (number, bytes.now) (line bytes.now)) self.new
             result }
     {
@@ -102,8 +97,8 @@ impl Planner {
         }
     }
 
-    /// Returns what the lines were taken apart into.
-    pub fn finish(self) -> Planned
+    // Returns what the lines were taken apart into.
+    fn finish(self) -> Planned
         ensures { result ≡ record { plan = self.plan; refused = self.refused } }
     {
         Planned {
@@ -181,7 +176,7 @@ impl Planner {
     fn attach(&mut self, task: TaskPlan) -> Result<(), NoMemory>
         ensures { OnOk result (self.new ≡ attached self.old task) }
     {
-        if place_of(&self.tasks, &task.label).is_some() {
+        if index_of(&self.tasks, &task.label).is_some() {
             return self.refuse(task.attach.0, task.label, Refused::DuplicateLabel);
         }
         self.is_opening = false;
@@ -193,7 +188,7 @@ impl Planner {
     fn issue(&mut self, next: (u64, Record), label: Name8) -> Result<(), NoMemory>
         ensures { OnOk result (self.new ≡ issued self.old next label) }
     {
-        if place_of(&self.tasks, &label).is_none() {
+        if index_of(&self.tasks, &label).is_none() {
             return self.refuse(next.0, label, Refused::NoTask);
         }
         self.is_opening = false;

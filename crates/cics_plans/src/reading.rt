@@ -8,6 +8,8 @@ use cics_script::{Line, LineFault, read_line};
 use std::alloc::Global;
 
 /// Returns what the bytes of a line say, or their fault.
+///
+/// Errors: `NoMemory`. Cost: O(bytes).
 pub fn read(alloc: Global, bytes: &[u8]) -> Result<Result<Line, LineFault>, NoMemory>
     ensures { IfOk result (λ says. says ≡ line bytes.now) }
 {
