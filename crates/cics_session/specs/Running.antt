@@ -141,12 +141,12 @@ RunsOver form input rest last old new result =
 abbrev pub most_reads : ℕ
 most_reads = most_bytes + 1
 
--- how many reads failed in a run: the last one, if it says so
-abbrev pub failed_reads_of : Result Status RunFault → ℕ
-failed_reads_of (Err faults.ReadFault) = 1
-failed_reads_of _ = 0
+-- how many reads failed, if that is why a run stopped
+abbrev pub read_failures : RunFault → ℕ
+read_failures faults.ReadFault = 1
+read_failures _ = 0
 
--- how many writes failed in a run: the last one, if it says so
-abbrev pub failed_writes_of : Result Status RunFault → ℕ
-failed_writes_of (Err faults.WriteFault) = 1
-failed_writes_of _ = 0
+-- how many writes failed, if that is why a run stopped
+abbrev pub write_failures : RunFault → ℕ
+write_failures faults.WriteFault = 1
+write_failures _ = 0

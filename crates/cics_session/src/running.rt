@@ -1,9 +1,9 @@
 //! The run of a script.
 
 ghost use Rattle.std.specs.Prelude.{◌≡◌, None};
-ghost use Rattle.cics_session.specs.Streams.{Rises, RisesAtMost};
-ghost use Rattle.cics_session.specs.Running.{RunsOver, plain, most_reads, failed_reads_of};
-ghost use Rattle.cics_session.specs.Running.{failed_writes_of};
+ghost use Rattle.cics_session.specs.Streams.{Rises, RisesAtMost, failures};
+ghost use Rattle.cics_session.specs.Running.{RunsOver, plain, most_reads, read_failures};
+ghost use Rattle.cics_session.specs.Running.{write_failures};
 ghost use Rattle.cics_session.specs.Wanted.{form_of};
 ghost use Rattle.cics_session.specs.Standing.{IsNew, KeepsEnd, ended, fault_of};
 
@@ -120,9 +120,9 @@ pub fn run_over<S: Source, K: Sink>(
 ) -> Result<Status, RunFault>
     requires new { IsNew session.old }
     ensures read_faults { Rises (S.failed source.old) (S.failed source.new)
-        (failed_reads_of result) }
+        (failures read_failures result) }
     ensures write_faults { Rises (K.failed sink.old) (K.failed sink.new)
-        (failed_writes_of result) }
+        (failures write_failures result) }
     ensures asked { RisesAtMost (S.asked source.old) (S.asked source.new) most_reads }
     ensures kept { KeepsEnd (S.remaining source.old) (S.remaining source.new) session.new result }
     ensures whole_run { RunsOver (form_of wanted) (S.remaining source.old) (S.remaining source.new)

@@ -2,6 +2,7 @@
 use Rattle.std.specs.Prelude.{◌≡◌, ℕ, ◌+◌, ◌≤◌, List, length, Option, Result, Ok, Err}
 use Rattle.std.specs.Io.KnownBytes.{Consumes, IsAtEnd}
 use Rattle.cics_session.specs.Running.{most_bytes}
+pub use Rattle.cics_session.specs.Running.{read_failures, write_failures}
 use Rattle.cics_session.specs.declared.running.RunFault.{RunFault}
 use Rattle.cics_session.specs.declared.running.RunFault.TheVariants as faults
 
@@ -17,13 +18,3 @@ StopsBehind bytes faults.WriteFault = ⊥
 abbrev pub Reads : Option (List ℕ) → Option (List ℕ) → List ℕ → Result (Unit {0}) RunFault → Type 0
 Reads input rest script (Ok _) = Consumes input rest script × IsAtEnd rest × (length script ≤ most_bytes)
 Reads input rest script (Err fault) = (bytes : List ℕ) × Consumes input rest bytes × StopsBehind bytes fault
-
--- how many reads failed, if this is why reading stopped
-abbrev pub read_failures : RunFault → ℕ
-read_failures faults.ReadFault = 1
-read_failures _ = 0
-
--- how many writes failed, if this is why reading stopped
-abbrev pub write_failures : RunFault → ℕ
-write_failures faults.WriteFault = 1
-write_failures _ = 0

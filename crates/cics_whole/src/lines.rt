@@ -38,7 +38,7 @@ pub fn next_line(script: &[u8]) -> Option<(&[u8], &[u8])>
 
 /// Returns the lines of a script, each without its line end.
 ///
-/// Errors: `NoMemory`.
+/// Errors: `NoMemory`. Cost: O(bytes).
 pub fn lines_of(alloc: Global, script: &[u8]) -> Result<Items<Record>, NoMemory>
     ensures { IfOk result (λ lines. lines ≡ all_lines script.now) }
 {

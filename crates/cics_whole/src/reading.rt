@@ -1,9 +1,9 @@
 //! A script that is read whole.
 
 ghost use Rattle.std.specs.Prelude.{◌≡◌, ◌++◌, [], OnOk};
-ghost use Rattle.cics_session.specs.Running.{most_reads};
+ghost use Rattle.cics_session.specs.Running.{most_reads, read_failures};
 ghost use Rattle.cics_session.specs.Streams.{Rises, RisesAtMost, failures};
-ghost use Rattle.cics_whole.specs.Reads.{Reads, read_failures};
+ghost use Rattle.cics_whole.specs.Reads.{Reads};
 
 use cics_names::NoMemory;
 use cics_session::{CHUNK, LIMIT, RunFault, Source};
@@ -18,7 +18,9 @@ fn push_chunk(script: &mut Vec<u8>, chunk: &[u8]) -> Result<(), NoMemory>
 
 /// Reads a script to its end: at most `LIMIT` bytes, and one more to see whether there are more.
 ///
-/// Errors: `InputTooLong`; `ReadFault` if a read failed; `NoMemory`.
+/// `script` must be empty.
+///
+/// Errors: `InputTooLong`; `ReadFault` if a read failed; `NoMemory`. Cost: O(bytes that it reads).
 pub fn read_script<S: Source>(source: &mut S, script: &mut Vec<u8>) -> Result<(), RunFault>
     requires { script.old.items ≡ [] }
     ensures reads { Reads (S.remaining source.old) (S.remaining source.new) script.new.items
