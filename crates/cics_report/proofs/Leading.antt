@@ -33,7 +33,7 @@ use Rattle.cics_orders.specs.Giving.{State, hearing, shut, issuing, timing, shut
 use Rattle.cics_search.proofs.Regrouping.{Each}
 use Rattle.cics_orders.specs.GivenLanes.{IsRight}
 use Rattle.cics_orders.specs.declared.lanes.Lane.{Lane}
-use Rattle.cics_report.specs.Leads.{machine_of, IsAccepted, AcceptsLine, LeadsTo}
+use Rattle.cics_report.specs.Leads.{machine_of, IsNotRefused, AcceptsLine, LeadsTo}
 use Rattle.cics_report.proofs.Opening.{bytes_of, goes, played_more, accepts_more, IsAttached}
 
 -- a line of a run has no fault, and leaves the region of this machine
@@ -172,7 +172,8 @@ module _ (m : Machine) (t : TaskPlan) (up : m.is_down ≡ false) (idle : m.waiti
   task_is = ap (λ s. unless_refused m s.outcome s.machine) step_is
 
   attach_accepted : (r : Result Line LineFault) → r ≡ Ok (says.Attach t.label t.transaction t.dtimout) → AcceptsLine m r
-  attach_accepted r is = subst (AcceptsLine m) (sym is) (subst (λ s. IsAccepted s.outcome) (sym step_is) tt)
+  unfolding attaching
+  attach_accepted r is = subst (AcceptsLine m) (sym is) (subst (λ s. IsNotRefused s.outcome) (sym step_is) tt)
 
   attach_runs : (k : ℕ) (stage : Stage) (r : Result Line LineFault) → r ≡ Ok (says.Attach t.label t.transaction t.dtimout) → (region_of stage).machine ≡ m →
       Runs (stages.followed k stage r) new

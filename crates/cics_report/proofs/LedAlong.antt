@@ -32,9 +32,9 @@ use Rattle.cics_orders.specs.Ended.{ended_lane, AcceptsReady}
 use Rattle.cics_orders.specs.EndedLanes.{orders_accept}
 use Rattle.cics_orders.specs.Ways.{Holds, holds_along, label_of_lane, right_command, one_of}
 use Rattle.cics_orders.specs.declared.lanes.Lane.{Lane}
-use Rattle.cics_report.specs.Along.{Along, lines_of, lane_lines, with_given as lane_given, given_more, nothing_given}
+use Rattle.cics_report.specs.Along.{Along, lines_of, lane_lines, with_next, given_more, nothing_given}
 use Rattle.cics_report.specs.Reporting.{script_text}
-use Rattle.cics_report.specs.Leads.{machine_of, IsAccepted, AcceptsLine, AcceptsLines, LeadsTo, ScriptsLeadThere}
+use Rattle.cics_report.specs.Leads.{machine_of, IsNotRefused, AcceptsLine, AcceptsLines, LeadsTo, ScriptsLeadThere}
 use Rattle.cics_report.proofs.ScriptLines.{run_lines, run_bytes, lines_again, all_texts}
 use Rattle.cics_report.proofs.Titles.{title, title_is, is_comment}
 use Rattle.cics_report.proofs.Opening.{bytes_of, planned_sound}
@@ -136,11 +136,10 @@ ended_at (y ∷ ys) (suc l) x label (first, apart) at own = by (ended_at ys l x 
 -- a lane that is ready isn't refused its line
 accepted : (s : State) (l : ℕ) (x : Lane) → AcceptsReady s → AreApart s.lanes → slice_get s.lanes l ≡ Some x → is_ready s.machine x.has_ended x.label ≡ true →
     (r : Result Line LineFault) → IsRight x.label r → AcceptsLine s.machine r
-unfolding issuing
 accepted s l x accepts apart at ready (Ok (says.Issue label c)) right =
     let own : x.label ≡ Some label = right_command x.label label c right in
     let answer = accepts label x.has_ended c (ended_at s.lanes l x label apart at (label_of_lane x.label x label own)) (ap (is_ready s.machine x.has_ended) (sym own) ∙ ready) in
-    subst IsAccepted (sym answer.1) tt
+    subst IsNotRefused (sym answer.1) tt
 accepted s l x accepts apart at ready (Ok (says.Attach label transaction dtimout)) right = not_attach x.label right
   where
     not_attach : (l : Option Bytes) → IsRight l (Ok (says.Attach label transaction dtimout)) → AcceptsLine s.machine (Ok (says.Attach label transaction dtimout))
@@ -179,7 +178,7 @@ module _ (q : Played) (p : Plan) (proper : is_proper p ≡ true) (before : List 
 
       along : given_more p a l ≡ (slice_set a.0 l (x.given + 1), a.1 ++ next ∷ [])
       along =
-          (λ i. lane_given a l (slice_get (lines_same i) (count_same i))) ∙ ap (lane_given a l) is
+          (λ i. with_next a l (slice_get (lines_same i) (count_same i))) ∙ ap (with_next a l) is
           ∙ ap (λ n. (slice_set a.0 l (n + 1), a.1 ++ next ∷ [])) count_same
 
       counts_now : counts (given s l).lanes ≡ slice_set (counts s.lanes) l (x.given + 1)

@@ -20,13 +20,13 @@ abbrev pub lane_lines : Plan → ℕ → List NumberedLine
 lane_lines p l = lines_of p.clock (slice_get p.tasks l)
 
 -- the next line of a lane is added, if it has one left
-abbrev pub with_given : Along → ℕ → Option NumberedLine → Along
-with_given a l None = a
-with_given a l (Some next) = (slice_set a.0 l (get_or a.0 l 0 + 1), a.1 ++ next ∷ [])
+abbrev pub with_next : Along → ℕ → Option NumberedLine → Along
+with_next a l None = a
+with_next a l (Some next) = (slice_set a.0 l (get_or a.0 l 0 + 1), a.1 ++ next ∷ [])
 
 -- a lane gives its next line
 abbrev pub given_more : Plan → Along → ℕ → Along
-given_more p a l = with_given a l (slice_get (lane_lines p l) (get_or a.0 l 0))
+given_more p a l = with_next a l (slice_get (lane_lines p l) (get_or a.0 l 0))
 
 -- no lane has given a line
 abbrev pub nothing_given : Plan → Along

@@ -3,8 +3,6 @@ use Rattle.std.specs.Prelude.{◌≡◌, ◌<◌, ◌^◌, ℕ, Bool, List, [], 
 use Rattle.std.specs.List.{fold}
 use Rattle.cics_names.specs.Keyed.{Bytes}
 use Rattle.cics_machine.specs.Machine.{Machine}
-use Rattle.cics_machine.specs.Steps.{attached, issued}
-use Rattle.cics_machine.specs.Shutdown.{unless_down}
 use Rattle.cics_machine.specs.declared.outcomes.Refused.{Refused}
 use Rattle.cics_script.specs.Lines.{line}
 use Rattle.cics_script.specs.declared.lines.Line.{Line}
@@ -19,7 +17,7 @@ use Rattle.cics_lanes.specs.Endings.{Reported}
 use Rattle.cics_search.specs.declared.exploring.Report.{Report}
 use Rattle.cics_plans.specs.Taking.{nothing_taken, taken_apart, planned}
 use Rattle.cics_plans.specs.declared.plans.Planned.{Planned}
-use Rattle.cics_orders.specs.Giving.{lanes, initial_state}
+use Rattle.cics_orders.specs.Giving.{issuing, attaching, lanes, initial_state}
 use Rattle.cics_report.specs.Parts.{mark, mark_in}
 use Rattle.cics_report.specs.Reporting.{script_text}
 
@@ -28,15 +26,15 @@ abbrev pub machine_of : Played → Machine
 machine_of p = (region_of p.stage).machine
 
 -- an event is not refused
-abbrev pub IsAccepted : {X : Type 0} → Result X Refused → Type 0
-IsAccepted (Ok x) = Unit {0}
-IsAccepted (Err e) = ⊥
+abbrev pub IsNotRefused : {X : Type 0} → Result X Refused → Type 0
+IsNotRefused (Ok x) = Unit {0}
+IsNotRefused (Err e) = ⊥
 
 -- A machine refuses no line of a task: neither its ATTACH nor a command. Of other lines nothing is
 -- said: a CLOCK may go back, and behind a SHUTDOWN the lines of the clock are refused.
 abbrev pub AcceptsLine : Machine → Result Line LineFault → Type 0
-AcceptsLine m (Ok (Attach label transaction dtimout)) = IsAccepted (unless_down m (attached m label dtimout)).outcome
-AcceptsLine m (Ok (Issue label command)) = IsAccepted (unless_down m (issued m label command)).outcome
+AcceptsLine m (Ok (Attach label transaction dtimout)) = IsNotRefused (attaching m label dtimout).outcome
+AcceptsLine m (Ok (Issue label command)) = IsNotRefused (issuing m label command).outcome
 AcceptsLine m _ = Unit {0}
 
 -- a run goes on with these lines, and refuses no line of a task
