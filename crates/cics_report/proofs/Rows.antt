@@ -8,7 +8,7 @@ use Rattle.cics_machine.specs.declared.outcomes.Refused.TheVariants.{NoTask}
 use Rattle.cics_search.specs.declared.exploring.Report.{Report}
 use Rattle.cics_plans.specs.declared.plans.Planned.{Planned}
 use Rattle.cics_report.specs.Parts.{mark}
-use Rattle.cics_report.specs.Reporting.{greatest, report_text, endings_text, script_at}
+use Rattle.cics_report.specs.Reporting.{greatest, report_text, every_text, endings_text, script_at}
 
 -- the label A
 abbrev a : Bytes
@@ -80,7 +80,7 @@ two_endings : report_text planned 200000 two ≡
     ++ codes "ENDING 2 ORDERS 9 SERIAL 2 DEADLOCK\n"
     ++ codes "ORDER B\n"
     ++ codes "OTHER\n"
-unfolding endings_text digits code_of character_of
+unfolding every_text endings_text digits code_of character_of
 two_endings = refl
 
 -- a limit makes lower bounds of all numbers; one ending has all its parts
@@ -92,7 +92,7 @@ cut_off : report_text planned 7 cut ≡
     ++ codes "ENDING 1 ORDERS AT LEAST 7 SERIAL AT LEAST 7\n"
     ++ codes "ORDER\n"
     ++ codes "ONE\n"
-unfolding endings_text digits code_of character_of
+unfolding every_text endings_text digits code_of character_of
 cut_off = refl
 
 -- numbers of serial orders are exact if all of these were followed
@@ -104,7 +104,7 @@ serial_exact : report_text planned 7 cut_but_serial ≡
     ++ codes "ENDING 1 ORDERS AT LEAST 7 SERIAL 2\n"
     ++ codes "ORDER\n"
     ++ codes "ONE\n"
-unfolding endings_text digits code_of character_of
+unfolding every_text endings_text digits code_of character_of
 serial_exact = refl
 
 -- the greatest number that is kept is a lower bound
@@ -118,7 +118,7 @@ counted_far : report_text planned 7 many ≡
     ++ codes "ENDING 2 ORDERS 18446744073709551616 SERIAL 0\n"
     ++ codes "ORDER B\n"
     ++ codes "OTHER\n"
-unfolding endings_text digits code_of character_of
+unfolding every_text endings_text digits code_of character_of
 counted_far = refl
 
 -- the lines of an order stand behind those that define and attach

@@ -103,22 +103,21 @@ abbrev pub heading_text : Report → Reported → List ℕ
 heading_text r e = codes " ORDERS " ++ (both_text r e.orders e.serial ++ (mark_in e.ending ++ codes "\n"))
 
 -- the ending of a number
-abbrev pub number_text : Report → ℕ → Reported → List ℕ
-number_text r k e = codes "ENDING " ++ (decimal k ++ heading_text r e)
+abbrev pub numbered_text : Report → ℕ → Reported → List ℕ
+numbered_text r k e = codes "ENDING " ++ (decimal k ++ heading_text r e)
 
--- its first order, and the parts that not each ending has
+-- its first order, and the parts that some ending lacks
 abbrev pub ending_text : Plan → Parts → Reported → List ℕ
 ending_text p all e = order_text p e.order ++ flat_map (own_text all) (told_in e.ending)
 
 -- the endings from a number on
 unfoldable pub endings_text : Plan → Report → Parts → ℕ → List Reported → List ℕ
 endings_text p r all k [] = []
-endings_text p r all k (e ∷ es) = number_text r k e ++ (ending_text p all e ++ endings_text p r all (k + 1) es)
+endings_text p r all k (e ∷ es) = numbered_text r k e ++ (ending_text p all e ++ endings_text p r all (k + 1) es)
 
--- the parts that each ending has
-abbrev pub every_text : Parts → List ℕ
-every_text [] = []
-every_text (part ∷ parts) = codes "EVERY ENDING\n" ++ (part ++ flat_map (λ p. p) parts)
+-- the parts that each ending has, if there are some
+unfoldable pub every_text : Parts → List ℕ
+every_text parts = if length parts == 0 then [] else codes "EVERY ENDING\n" ++ flat_map (λ p. p) parts
 
 -- the report within a limit
 abbrev pub report_text : Planned → ℕ → Report → List ℕ

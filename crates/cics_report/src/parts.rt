@@ -93,7 +93,7 @@ fn push_own_part(out: &mut Vec<u8>, all: &[Record], part: &Record) -> Result<(),
     Ok(())
 }
 
-/// Appends those of some parts that not each ending has.
+/// Appends those of some parts that some ending lacks.
 pub(crate) fn push_own(out: &mut Vec<u8>, all: &[Record], parts: &[Record]) -> Result<(), NoMemory>
     ensures { OnOk result (out.new.items
         ≡ out.old.items ++ flat_map (own_text all.now) parts.now) }

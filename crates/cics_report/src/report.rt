@@ -3,7 +3,7 @@
 ghost use Rattle.std.specs.Prelude.{◌≡◌, ◌++◌, OnOk};
 ghost use Rattle.std.specs.List.{flat_map};
 ghost use Rattle.cics_report.specs.Reporting.{fault_text, refused_text, word_of, word_text};
-ghost use Rattle.cics_report.specs.Reporting.{order_text, number_text, ending_text, endings_text};
+ghost use Rattle.cics_report.specs.Reporting.{order_text, numbered_text, ending_text, endings_text};
 ghost use Rattle.cics_report.specs.Reporting.{every_text, report_text};
 
 use crate::along::lines_along;
@@ -96,14 +96,14 @@ fn push_numbered(
     ending: &Ending,
 ) -> Result<(), NoMemory>
     ensures { OnOk result (out.new.items
-        ≡ out.old.items ++ number_text report.now number ending.now) }
+        ≡ out.old.items ++ numbered_text report.now number ending.now) }
 {
     push_str(out, "ENDING ")?;
     push_number(out, number)?;
     push_heading(out, report, ending)
 }
 
-// Appends the first order of an ending, and the parts that not each ending has.
+// Appends the first order of an ending, and the parts that some ending lacks.
 fn push_ending(
     out: &mut Vec<u8>,
     plan: &Plan,
@@ -137,22 +137,21 @@ fn push_endings(
 }
 
 // Appends the parts that each ending has.
+#[tactic(auto, unfolding(crate::specs::Reporting::every_text))]
 fn push_every(out: &mut Vec<u8>, all: &[Record]) -> Result<(), NoMemory>
     ensures { OnOk result (out.new.items ≡ out.old.items ++ every_text all.now) }
 {
-    match all.split_first() {
-        Some((first, others)) => {
-            push_str(out, "EVERY ENDING\n")?;
-            out.extend_from_slice(first.bytes())?;
-            push_parts(out, others)
-        }
-        None => Ok(()),
+    if all.is_empty() {
+        return Ok(());
     }
+    push_str(out, "EVERY ENDING\n")?;
+    push_parts(out, all)
 }
 
 /// Appends the report on the orders of a script's lines, which were followed within a limit.
 ///
-/// Errors: `NoMemory`. Cost: O(endings * parts * parts of the first ending) beside the bytes.
+/// Errors: `NoMemory`. Cost: O(endings * parts * parts of the first ending), O(bytes of the lines)
+/// for each order, and the bytes written.
 pub fn push_report(
     out: &mut Vec<u8>,
     planned: &Planned,

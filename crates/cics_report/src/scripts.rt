@@ -80,7 +80,7 @@ fn push_title(
 /// Appends the first order of the ending with this number, as a script. Returns whether there is
 /// such an ending. Endings are numbered from 1 on.
 ///
-/// Errors: `NoMemory`.
+/// Errors: `NoMemory`. Cost: O(bytes that it appends).
 pub fn push_script(
     out: &mut Vec<u8>,
     plan: &Plan,
