@@ -10,21 +10,20 @@ use cics_names::{Items, Name4, Name8, NoMemory, Record};
 use cics_transdata::Recovery;
 use std::alloc::Global;
 
-// Adds the blocks of files or of temporary storage queues. `kind` is what they are called, and
-// `counted` what is counted of each.
+// Adds the blocks of files or of temporary storage queues. `words` are what they are called, and
+// what is counted of each.
 fn add_kept(
     alloc: Global,
     parts: &mut Items<Record>,
-    kind: &str,
-    counted: &str,
+    words: (&str, &str),
     rows: &[(Name8, bool, Items<Record>)],
 ) -> Result<(), NoMemory>
     ensures { OnOk result (parts.new
-        ≡ parts.old ++ map (kept_text kind.now counted.now) rows.now) }
+        ≡ parts.old ++ map (kept_text words.entry.0.now words.entry.1.now) rows.now) }
 {
     for row in rows {
         let mut text = Vec::new(alloc);
-        push_block(&mut text, kind, counted, row)?;
+        push_block(&mut text, words.0, words.1, row)?;
         parts.push(Record::new(text))?;
     }
     Ok(())
@@ -54,7 +53,7 @@ pub(crate) fn add_blocks(
     ensures { OnOk result (parts.new ≡ parts.old ++ blocks region.now.machine) }
 {
     let listing = region.listing()?;
-    add_kept(alloc, parts, "FILE", "RECORDS", listing.files.as_slice())?;
-    add_kept(alloc, parts, "TSQUEUE", "ITEMS", listing.ts.as_slice())?;
+    add_kept(alloc, parts, ("FILE", "RECORDS"), listing.files.as_slice())?;
+    add_kept(alloc, parts, ("TSQUEUE", "ITEMS"), listing.ts.as_slice())?;
     add_transient(alloc, parts, listing.td.as_slice())
 }

@@ -72,7 +72,8 @@ fn is_deadlocked(alloc: Global, region: &Region) -> Result<bool, NoMemory>
 /// task in the order of attach. If `with_told`, what a task was told of each of its lines that was
 /// answered follows its line.
 ///
-/// Errors: `NoMemory`.
+/// Errors: `NoMemory`. Cost: that of `deadlocks` and of `Region::listing`, and O(bytes of the
+/// parts).
 pub fn parts_of(
     alloc: Global,
     region: &Region,

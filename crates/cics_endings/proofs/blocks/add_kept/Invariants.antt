@@ -3,4 +3,4 @@ use Rattle.cics_listing.specs.Listings.{kept_text}
 use Rattle.cics_endings.proofs.blocks.add_kept.Given as goal
 
 abbrev pub invariant-loop-row : goal.invariant-loop-row
-invariant-loop-row l = l.parts ≡ l.fn.parts ++ map (kept_text l.kind l.counted) (take l.row-index l.rows)
+invariant-loop-row l = l.parts ≡ l.fn.parts ++ map (kept_text l.words.0.now l.words.1.now) (take l.row-index l.rows)
