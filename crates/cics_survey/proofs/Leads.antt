@@ -15,23 +15,24 @@ use Rattle.cics_report.specs.Parts.{mark_in}
 use Rattle.cics_report.specs.Reporting.{ending_at, script_text}
 use Rattle.cics_session.specs.Lines.{all_lines}
 use Rattle.cics_session.specs.Running.{start}
+use Rattle.cics_session.specs.declared.running.Orders.{Orders}
 use Rattle.cics_report.specs.Leads.{IsTitled, LeadsTo}
 use Rattle.cics_report.proofs.LedAlong.{scripts_lead}
-use Rattle.cics_survey.specs.Surveys.{told_of, IsReportOf}
+use Rattle.cics_survey.specs.Surveys.{parts_at, IsReportOf}
 use Rattle.cics_survey.specs.Leads.{EndingScriptsLeadThere}
 
-module _ (p : Plan) (with_told : Bool) where
+module _ (p : Plan) (w : Orders) where
   abbrev comes_to : Order → State
   comes_to o = after lanes (initial_state p) o
 
   -- a run is told by the state after its order
   abbrev IsRun : Run → Type 0
-  IsRun x = IsWay lanes (initial_state p) x.order × (x.ending ≡ told_of with_told (comes_to x.order))
+  IsRun x = IsWay lanes (initial_state p) x.order × (x.ending ≡ parts_at w.told (comes_to x.order))
 
   -- an ending is that of its order, and its numbers are kept
   record IsEnding (e : Reported) : Type 0 where
     way : IsWay lanes (initial_state p) e.order
-    told : e.ending ≡ told_of with_told (comes_to e.order)
+    told : e.ending ≡ parts_at w.told (comes_to e.order)
     orders : e.orders < 2 ^ 128
     serial : e.serial < 2 ^ 128
 
@@ -40,10 +41,10 @@ module _ (p : Plan) (with_told : Bool) where
       subst (Each (IsWay lanes (initial_state p))) (all_followed lanes (λ s l. false) (line_count p) (initial_state p))
       (are_ways lanes (λ s l. false) false (line_count p) (initial_state p))
 
-  are_runs : (os : List Order) → Each (IsWay lanes (initial_state p)) os → Each IsRun (runs lanes (told_of with_told) (λ s. s.is_serial) (initial_state p) os)
+  are_runs : (os : List Order) → Each (IsWay lanes (initial_state p)) os → Each IsRun (runs lanes (parts_at w.told) (λ s. s.is_serial) (initial_state p) os)
   are_runs os ways =
-      each_mapped IsRun (λ o. run_to (told_of with_told) (λ s. s.is_serial) o (comes_to o)) os
-      (each_on (IsWay lanes (initial_state p)) (λ o. IsRun (run_to (told_of with_told) (λ s. s.is_serial) o (comes_to o))) os (λ o way. (way, refl)) ways)
+      each_mapped IsRun (λ o. run_to (parts_at w.told) (λ s. s.is_serial) o (comes_to o)) os
+      (each_on (IsWay lanes (initial_state p)) (λ o. IsRun (run_to (parts_at w.told) (λ s. s.is_serial) o (comes_to o))) os (λ o way. (way, refl)) ways)
 
   are_firsts : (rs : List Run) → Each IsRun rs → Each IsRun (firsts rs)
   are_firsts [] all = tt
@@ -54,16 +55,16 @@ module _ (p : Plan) (with_told : Bool) where
   one_of (x ∷ es) zero e (one, all) at = let same : x ≡ e = cc in subst IsEnding same one
   one_of (x ∷ es) (suc k) e (one, all) at = one_of es k e all at
 
-  are_endings : (r : Report) → IsReportOf p with_told r → Each IsEnding r.endings
+  are_endings : (r : Report) → IsReportOf p w r → Each IsEnding r.endings
   are_endings r is =
       let all = orders lanes (line_count p) (initial_state p) in
-      let rs = runs lanes (told_of with_told) (λ s. s.is_serial) (initial_state p) is.followed in
-      let ss = runs lanes (told_of with_told) (λ s. s.is_serial) (initial_state p) is.serially in
+      let rs = runs lanes (parts_at w.told) (λ s. s.is_serial) (initial_state p) is.report.followed in
+      let ss = runs lanes (parts_at w.told) (λ s. s.is_serial) (initial_state p) is.report.serially in
       let serial_ways = each_filter (IsWay lanes (initial_state p)) (λ o. (comes_to o).is_serial) all all_ways in
       let found = each_append IsRun rs ss
-      (are_runs is.followed (each_among (IsWay lanes (initial_state p)) is.followed all is.among all_ways))
-      (are_runs is.serially (each_among (IsWay lanes (initial_state p)) is.serially (filter (λ o. (comes_to o).is_serial) all) is.serially_among serial_ways)) in
-      subst (Each IsEnding) (sym is.endings)
+      (are_runs is.report.followed (each_among (IsWay lanes (initial_state p)) is.report.followed all is.report.among all_ways))
+      (are_runs is.report.serially (each_among (IsWay lanes (initial_state p)) is.report.serially (filter (λ o. (comes_to o).is_serial) all) is.report.serially_among serial_ways)) in
+      subst (Each IsEnding) (sym is.report.endings)
       (each_mapped IsEnding (reported_of_both rs ss) (firsts (rs ++ ss))
       (each_on IsRun (λ x. IsEnding (reported_of_both rs ss x)) (firsts (rs ++ ss)) (joins rs ss) (are_firsts (rs ++ ss) found)))
     where
@@ -79,14 +80,14 @@ module _ (p : Plan) (with_told : Bool) where
       by false at = (at, omega (arith, slice_get_within r.endings (k - 1) e at))
 
 pub endings_lead : EndingScriptsLeadThere
-endings_lead script p with_told r k e text planned is few at written =
+endings_lead script p w r k e text planned is few at written =
     record { told = ending.told; leads = subst (λ t. LeadsTo start (after lanes (initial_state p.plan) e.order).machine (all_lines t)) same leads }
   where
     found : (slice_get r.endings (k - 1) ≡ Some e) × (k ≤ length r.endings)
-    found = at_number p.plan with_told r k e at
+    found = at_number p.plan w r k e at
 
-    ending : IsEnding p.plan with_told e
-    ending = one_of p.plan with_told r.endings (k - 1) e (are_endings p.plan with_told r is) found.0
+    ending : IsEnding p.plan w e
+    ending = one_of p.plan w r.endings (k - 1) e (are_endings p.plan w r is) found.0
 
     titled : IsTitled r k e
     titled = record {

@@ -3,6 +3,7 @@ use Rattle.std.specs.Prelude.{◌≡◌, ◌<◌, ◌^◌, ℕ, Bool, List, leng
 use Rattle.cics_names.specs.Keyed.{Bytes}
 use Rattle.cics_session.specs.Lines.{all_lines}
 use Rattle.cics_session.specs.Running.{start}
+use Rattle.cics_session.specs.declared.running.Orders.{Orders}
 use Rattle.cics_lanes.specs.Orders.{after}
 use Rattle.cics_lanes.specs.Endings.{Reported}
 use Rattle.cics_search.specs.declared.exploring.Report.{Report}
@@ -12,18 +13,18 @@ use Rattle.cics_plans.specs.declared.plans.Planned.{Planned}
 use Rattle.cics_orders.specs.Giving.{lanes, initial_state}
 use Rattle.cics_report.specs.Reporting.{ending_at, script_at}
 use Rattle.cics_report.specs.Leads.{LeadsTo}
-use Rattle.cics_survey.specs.Surveys.{told_of, IsReportOf}
+use Rattle.cics_survey.specs.Surveys.{parts_at, IsReportOf}
 
 -- A text is a script of an ending. The ending tells the state after its order. The plain run has no
 -- fault, refuses no line of a task, and comes to the region of that state.
 pub record LeadsToEnding (p : Plan) (with_told : Bool) (e : Reported) (text : List ℕ) : Type 0 where
-  pub told : e.ending ≡ told_of with_told (after lanes (initial_state p) e.order)
+  pub told : e.ending ≡ parts_at with_told (after lanes (initial_state p) e.order)
   pub leads : LeadsTo start (after lanes (initial_state p) e.order).machine (all_lines text)
 
 -- If a script is taken apart without a fault and its orders are reported on, the script of each
 -- ending leads to it. A vector holds the endings, so there are fewer than 2^128.
 abbrev pub EndingScriptsLeadThere : Type 0
 EndingScriptsLeadThere =
-    (script : List Bytes) (p : Planned) (with_told : Bool) (r : Report) (k : ℕ) (e : Reported) (text : List ℕ) →
-    planned (taken_apart nothing_taken 1 script) ≡ Ok p → IsReportOf p.plan with_told r → length r.endings < 2 ^ 128 →
-    ending_at r.endings k ≡ Some e → script_at p.plan r k ≡ Some text → LeadsToEnding p.plan with_told e text
+    (script : List Bytes) (p : Planned) (w : Orders) (r : Report) (k : ℕ) (e : Reported) (text : List ℕ) →
+    planned (taken_apart nothing_taken 1 script) ≡ Ok p → IsReportOf p.plan w r → length r.endings < 2 ^ 128 →
+    ending_at r.endings k ≡ Some e → script_at p.plan r k ≡ Some text → LeadsToEnding p.plan w.told e text

@@ -34,7 +34,7 @@ Writes w s before now status = by w.ending where
 
 -- a text is what is wanted of the orders of a script that was taken apart, or the line of its fault
 abbrev pub IsPrintedOf : Result Planned (ℕ × ScriptFault) → Orders → List ℕ → Surveyed → Type 0
-IsPrintedOf (Ok p) w text status = (s : Survey) × IsSurvey (Ok p) w.told (Ok s) × Writes w s [] text status
+IsPrintedOf (Ok p) w text status = (s : Survey) × IsSurvey (Ok p) w (Ok s) × Writes w s [] text status
 IsPrintedOf (Err (number, fault)) w text status = (text ≡ fault_text number fault) × (status ≡ surveyed.LineFault)
 
 -- a text is what is wanted of the orders of a script

@@ -5,7 +5,7 @@ ghost use Rattle.cics_plans.specs.Proper.{is_proper};
 ghost use Rattle.cics_plans.specs.Taking.{nothing_taken, taken_apart, planned};
 ghost use Rattle.cics_survey.specs.Surveys.{IsReportOf, IsSurvey};
 
-use crate::tellers::{Answers, States};
+use crate::tellers::{States, WithAnswers};
 use cics_names::{NoMemory, Record};
 use cics_orders::{ToldPlan, explore_script};
 use cics_plans::{Plan, Planned, ScriptFault, plan_of};
@@ -28,10 +28,10 @@ fn follow<P: Progress>(
     progress: &mut P,
 ) -> Result<Report, NoMemory>
     requires { is_proper plan ≡ true }
-    ensures { IfOk result (IsReportOf plan wanted.told) }
+    ensures { IfOk result (IsReportOf plan wanted) }
 {
     if wanted.told {
-        let teller = Answers { alloc };
+        let teller = WithAnswers { alloc };
         explore_script(alloc, ToldPlan { plan, teller }, wanted.limit, progress)
     } else {
         let teller = States { alloc };
@@ -51,8 +51,7 @@ pub fn survey_script<P: Progress>(
     wanted: Orders,
     progress: &mut P,
 ) -> Result<Result<Survey, (u64, ScriptFault)>, NoMemory>
-    ensures { IfOk result (IsSurvey (planned (taken_apart nothing_taken 1 lines.now))
-        wanted.told) }
+    ensures { IfOk result (IsSurvey (planned (taken_apart nothing_taken 1 lines.now)) wanted) }
 {
     let planned = match plan_of(alloc, lines)? {
         Ok(planned) => planned,

@@ -13,16 +13,16 @@ pub(crate) struct States {
 
 /// Tells an ending with what tasks were told.
 #[derive(Drop)]
-pub(crate) struct Answers {
+pub(crate) struct WithAnswers {
     pub(crate) alloc: Global,
 }
 
 impl Tells for States {
     ghost use Rattle.std.specs.Prelude.{false};
     ghost use Rattle.cics_endings.specs.Alike.{parts_alike};
-    ghost use Rattle.cics_survey.specs.Surveys.{told_of};
+    ghost use Rattle.cics_survey.specs.Surveys.{parts_at};
 
-    ghost told = { told_of false };
+    ghost told = { parts_at false };
 
     ghost all = { false };
 
@@ -37,12 +37,12 @@ impl Tells for States {
     }
 }
 
-impl Tells for Answers {
+impl Tells for WithAnswers {
     ghost use Rattle.std.specs.Prelude.{true};
     ghost use Rattle.cics_endings.specs.Alike.{parts_alike};
-    ghost use Rattle.cics_survey.specs.Surveys.{told_of};
+    ghost use Rattle.cics_survey.specs.Surveys.{parts_at};
 
-    ghost told = { told_of true };
+    ghost told = { parts_at true };
 
     ghost all = { true };
 
