@@ -16,9 +16,9 @@ use Rattle.cics_survey.specs.declared.surveys.Survey.{Survey}
 use Rattle.cics_survey.specs.declared.running.Surveyed.{Surveyed}
 use Rattle.cics_survey.specs.declared.running.Surveyed.TheVariants as surveyed
 
--- how an ending was told, if there is one
-abbrev pub ending_of : Survey → Bool → Surveyed
-ending_of s is_there = if is_there then surveyed.Done else surveyed.NoEnding (length s.report.endings)
+-- how a script was told, by whether the ending is there
+abbrev pub status_of : Survey → Bool → Surveyed
+status_of s is_there = if is_there then surveyed.Done else surveyed.NoEnding (length s.report.endings)
 
 -- the script of an ending stands behind what was there, if there is one
 abbrev pub WritesEnding : Survey → Option (List ℕ) → List ℕ → List ℕ → Surveyed → Type 0

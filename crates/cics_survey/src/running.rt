@@ -1,10 +1,9 @@
 //! A script that is read, and what is written of its orders.
 
 ghost use Rattle.std.specs.Prelude.{◌≡◌, [], IfOk};
-ghost use Rattle.cics_session.specs.Running.{most_reads};
+ghost use Rattle.cics_session.specs.Running.{most_reads, read_failures, write_failures};
 ghost use Rattle.cics_session.specs.Streams.{Rises, RisesAtMost, failures};
-ghost use Rattle.cics_whole.specs.Reads.{read_failures, write_failures};
-ghost use Rattle.cics_survey.specs.Written.{ending_of, Writes, IsPrinted, Surveys};
+ghost use Rattle.cics_survey.specs.Written.{status_of, Writes, IsPrinted, Surveys};
 
 use crate::surveys::{Survey, survey_script};
 use cics_names::NoMemory;
@@ -26,8 +25,8 @@ pub enum Surveyed {
 }
 
 // Returns how a script was told, by whether the ending is there.
-fn ending_of(survey: &Survey, is_there: bool) -> Surveyed
-    ensures { result ≡ ending_of survey.now is_there }
+fn status_of(survey: &Survey, is_there: bool) -> Surveyed
+    ensures { result ≡ status_of survey.now is_there }
 {
     if is_there {
         Surveyed::Done
@@ -45,7 +44,7 @@ fn push_survey(out: &mut Vec<u8>, survey: &Survey, wanted: Orders) -> Result<Sur
         return Ok(Surveyed::Done);
     };
     let is_there = push_script(out, &survey.planned.plan, &survey.report, number)?;
-    Ok(ending_of(survey, is_there))
+    Ok(status_of(survey, is_there))
 }
 
 // Appends to a text what is wanted of a script's orders.
@@ -84,8 +83,8 @@ impl<P: Progress> Surveyor<P> {
     /// all orders are followed. Of a script with a fault it writes the line that a run writes of
     /// it. Tells `progress` how far it is, after each state that is followed.
     ///
-    /// Errors: those of `run_over`. It returns a read or a write fault only if that very call
-    /// failed, and tries none again. Cost: that of `survey_script`, and O(endings) for each ending.
+    /// Errors: `InputTooLong`; `ReadFault` or `WriteFault` if that very call failed, which isn't
+    /// tried again; `NoMemory`. Cost: that of `survey_script` and of `push_report`.
     pub fn run_orders<S: Source, K: Sink>(
         &mut self,
         source: &mut S,
@@ -101,10 +100,7 @@ impl<P: Progress> Surveyor<P> {
             (K.contents sink.old) (K.contents sink.new) result }
     {
         let mut script = Vec::new(self.alloc);
-        match read_script(source, &mut script) {
-            Ok(()) => {}
-            Err(fault) => return Err(fault),
-        }
+        read_script(source, &mut script)?;
         let mut text = Vec::new(self.alloc);
         let status = match push_orders(&mut text, &script, wanted, &mut self.progress) {
             Ok(status) => status,
