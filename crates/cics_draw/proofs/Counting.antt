@@ -1,7 +1,7 @@
 -- What is counted of reads and writes, and which line is kept.
 use Rattle.std.proofs.Common.{◌≡◌, ℕ, Bool, true, false, List, refl, Option, Ok}
 use Rattle.std.specs.Io.KnownBytes.{Consumes}
-use Rattle.cics_session.specs.Running.{is_faulty}
+use Rattle.cics_session.specs.Running.{is_faulty, read_failures, write_failures}
 use Rattle.cics_session.specs.Streams.{Rises}
 use Rattle.cics_session.specs.declared.running.RunFault.{RunFault}
 use Rattle.cics_session.specs.declared.running.RunFault.TheVariants as faults
@@ -9,7 +9,7 @@ use Rattle.cics_session.specs.declared.session.Session.{Session}
 use Rattle.cics_session.proofs.Counting.{rises-nothing}
 use Rattle.cics_picture.specs.declared.drawing.Undrawn.{Undrawn}
 use Rattle.cics_picture.specs.declared.drawing.Undrawn.TheVariants as undrawns
-use Rattle.cics_whole.specs.Reads.{StopsBehind, read_failures, write_failures}
+use Rattle.cics_whole.specs.Reads.{StopsBehind}
 use Rattle.cics_draw.specs.Pictures.{KeepsLast, KeepsFault, failures_of, undrawn, run_status}
 
 -- reading writes nothing

@@ -1,10 +1,9 @@
 //! A script that is read and its picture that is written.
 
 ghost use Rattle.std.specs.Prelude.{◌≡◌};
-ghost use Rattle.cics_session.specs.Running.{most_reads};
+ghost use Rattle.cics_session.specs.Running.{most_reads, read_failures, write_failures};
 ghost use Rattle.cics_session.specs.Standing.{IsNew};
 ghost use Rattle.cics_session.specs.Streams.{Rises, RisesAtMost, failures};
-ghost use Rattle.cics_whole.specs.Reads.{read_failures, write_failures};
 ghost use Rattle.cics_draw.specs.Pictures.{Pictures, KeepsFault, failures_of, undrawn, run_status};
 
 use crate::drawing::draw_script;

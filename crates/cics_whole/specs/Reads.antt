@@ -2,7 +2,6 @@
 use Rattle.std.specs.Prelude.{◌≡◌, ℕ, ◌+◌, ◌≤◌, List, length, Option, Result, Ok, Err}
 use Rattle.std.specs.Io.KnownBytes.{Consumes, IsAtEnd}
 use Rattle.cics_session.specs.Running.{most_bytes}
-pub use Rattle.cics_session.specs.Running.{read_failures, write_failures}
 use Rattle.cics_session.specs.declared.running.RunFault.{RunFault}
 use Rattle.cics_session.specs.declared.running.RunFault.TheVariants as faults
 
