@@ -2,8 +2,8 @@
 use Rattle.std.specs.Prelude.{◌≡◌, ℕ, Some, None, false, [], ◌∷◌, refl}
 use Rattle.cics_names.specs.Keyed.{Bytes}
 use Rattle.cics_names.specs.declared.commands.Verb.TheVariants.{Enq}
-use Rattle.cics_history.specs.Openings.{nothing_defined}
-use Rattle.cics_machine.specs.Machine.{Machine, beginning_region}
+use Rattle.cics_history.specs.Openings.{initial_opening}
+use Rattle.cics_machine.specs.Machine.{Machine, initial_region}
 use Rattle.cics_machine.specs.Steps.{attached, issued}
 use Rattle.cics_deadlock.specs.Circles.{circles}
 use Rattle.cics_deadlock.specs.Deadlocks.{deadlocks}
@@ -28,7 +28,7 @@ enq m label value = (issued m label (record { verb = Enq (value ∷ []) 1 false;
 
 -- T1 has taken 1, T2 has taken 2, and T3 has taken 3
 abbrev began : Machine
-began = enq (enq (enq (with (with (with (beginning_region nothing_defined) t1) t2) t3) t1 1) t2 2) t3 3
+began = enq (enq (enq (with (with (with (initial_region initial_opening) t1) t2) t3) t1 1) t2 2) t3 3
 
 -- T1 asks for 2, and T2 for 1
 abbrev two : Machine

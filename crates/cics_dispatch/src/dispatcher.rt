@@ -21,7 +21,7 @@ ghost use Rattle.std.specs.Prelude.{slice_get};
 ghost use Rattle.std.specs.Prelude.{IfErr, IfSome, IfNone, Result, Ok, Err};
 ghost use Rattle.std.specs.Option.{option_copied};
 ghost use Rattle.cics_machine.specs.Machine.{units_after, definition_of};
-ghost use Rattle.cics_machine.specs.Machine.{RegionValue, beginning_region, task_at, abended};
+ghost use Rattle.cics_machine.specs.Machine.{RegionValue, initial_region, task_at, abended};
 ghost use Rattle.cics_machine.specs.Machine.{is_waiting};
 ghost use Rattle.cics_machine.specs.Machine.{unit_closed, state_after};
 ghost use Rattle.cics_machine.specs.Checks.{fault_of};
@@ -115,7 +115,7 @@ fn end_unit(units: &mut Units, unit: Option<UnitId>, ending: Ending)
 impl Dispatcher {
     /// Returns the region of an opening, as `Region::new` does.
     pub fn new(opening: Opening) -> Result<Dispatcher, Opening>
-        ensures machine { IfOk result (λ region. region.machine ≡ beginning_region opening) }
+        ensures machine { IfOk result (λ region. region.machine ≡ initial_region opening) }
         ensures kept { IfOk result IsRegionKept }
         ensures err { IfErr result (λ back. back ≡ opening) }
     {

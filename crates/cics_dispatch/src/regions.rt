@@ -5,7 +5,7 @@ ghost use Rattle.std.specs.Prelude.{IfOk, IfErr, IfSome, OnOk};
 ghost use Rattle.std.specs.Bool.{OnTrue};
 ghost use Rattle.cics_history.specs.Events.{is_live};
 ghost use Rattle.cics_history.specs.Headline.{HoldsCommitted};
-ghost use Rattle.cics_machine.specs.Machine.{beginning_region};
+ghost use Rattle.cics_machine.specs.Machine.{initial_region};
 ghost use Rattle.cics_machine.specs.Stamps.{region_stamp};
 ghost use Rattle.cics_machine.specs.Steps.{attached, issued};
 ghost use Rattle.cics_machine.specs.Waking.{clock_set, woken, expired, IsAtRest};
@@ -102,7 +102,7 @@ impl Region {
     ///
     /// Errors: the opening, if memory is refused.
     pub fn new(opening: Opening) -> Result<Region, Opening>
-        ensures machine { IfOk result (λ region. region.machine ≡ beginning_region opening) }
+        ensures machine { IfOk result (λ region. region.machine ≡ initial_region opening) }
         ensures headline { IfOk result IsHeadlineRegion }
         ensures serializable { IfOk result IsSerializableRegion }
         ensures err { IfErr result (λ back. back ≡ opening) }

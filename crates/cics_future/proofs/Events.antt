@@ -11,10 +11,10 @@ use Rattle.cics_history.specs.Openings.{IsOpeningInOrder}
 use Rattle.cics_history.specs.Isolation.{store_by}
 use Rattle.cics_history.specs.declared.ops.UnitState.TheVariants.{BackedOut}
 use Rattle.cics_history.proofs.Outcomes.{same_function}
-use Rattle.cics_history.proofs.States.{beginning-IsSound}
+use Rattle.cics_history.proofs.States.{initial_units-IsSound}
 use Rattle.cics_history.proofs.Stores.{initial-canonical}
-use Rattle.cics_history.proofs.SerialRuns.{beginning-IsInOrder}
-use Rattle.cics_machine.specs.Machine.{Machine, Task, Suspended, beginning_region, task_at, label_of, is_waiting, not_waiting, with_waiting, unit_closed, timed_out}
+use Rattle.cics_history.proofs.SerialRuns.{initial_units-IsInOrder}
+use Rattle.cics_machine.specs.Machine.{Machine, Task, Suspended, initial_region, task_at, label_of, is_waiting, not_waiting, with_waiting, unit_closed, timed_out}
 use Rattle.cics_machine.specs.Tasks.{own_label, own_unit, had_by, IsOwn}
 use Rattle.cics_machine.specs.Steps.{Stepped, checked, issue_refusal, refused_or, issued_by, issued, new_task, with_new_task, attached}
 use Rattle.cics_machine.specs.Checks.{fault_of}
@@ -41,11 +41,11 @@ same_itself m steady = record {
   alike = record { opening = refl; tasks = refl; own = λ label. refl; stores = λ gone. refl; next = refl; waiting = refl; clock = refl; down = refl };
 }
 
-pub same_begins : (o : OpeningState) → IsOpeningInOrder o → HaveSameFuture (beginning_region o) (beginning_region o)
+pub same_begins : (o : OpeningState) → IsOpeningInOrder o → HaveSameFuture (initial_region o) (initial_region o)
 same_begins o order =
-    same_itself (beginning_region o)
+    same_itself (initial_region o)
     (record {
-      units = record { canonical = initial-canonical o order; sound = beginning-IsSound o order; order = beginning-IsInOrder o order; reads = tt; counts = tt };
+      units = record { canonical = initial-canonical o order; sound = initial_units-IsSound o order; order = initial_units-IsInOrder o order; reads = tt; counts = tt };
       tasks = kept_begins o;
       owned = owned_begins o;
     })

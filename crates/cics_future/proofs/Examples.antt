@@ -4,10 +4,10 @@ use Rattle.std.specs.Prelude.{◌≡◌, ℕ, Bool, true, false, cond, Option, S
 use Rattle.std.proofs.Common.{ap, arith}
 use Rattle.cics_names.specs.Keyed.{Bytes, is_same}
 use Rattle.cics_names.specs.declared.commands.Verb.TheVariants.{Enq}
-use Rattle.cics_history.specs.Openings.{nothing_defined}
+use Rattle.cics_history.specs.Openings.{initial_opening}
 use Rattle.cics_history.specs.State.{EnqCount}
 use Rattle.cics_history.specs.Stamps.{unit_stamp, shared_stamp}
-use Rattle.cics_machine.specs.Machine.{Machine, Task, beginning_region}
+use Rattle.cics_machine.specs.Machine.{Machine, Task, initial_region}
 use Rattle.cics_machine.specs.Blockers.{unit_of}
 use Rattle.cics_machine.specs.Steps.{attached, issued}
 use Rattle.cics_machine.specs.Tasks.{own_unit, had_by}
@@ -29,7 +29,7 @@ enq m label value = (issued m label (record { verb = Enq (value ∷ []) 1 false;
 
 -- two tasks
 abbrev began : Machine
-began = (attached (attached (beginning_region nothing_defined) t1 0).machine t2 0).machine
+began = (attached (attached (initial_region initial_opening) t1 0).machine t2 0).machine
 
 -- T1 takes 1 and T2 takes 2, in either order: T1's unit is 0 or 1
 abbrev first : Machine

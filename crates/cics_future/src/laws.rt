@@ -8,7 +8,7 @@ ghost use Rattle.cics_names.specs.declared.commands.Command.{Command};
 ghost use Rattle.cics_history.specs.State.{OpeningState};
 ghost use Rattle.cics_history.specs.Openings.{IsOpeningInOrder};
 ghost use Rattle.cics_history.specs.Holding.{store_of};
-ghost use Rattle.cics_machine.specs.Machine.{Machine, beginning_region};
+ghost use Rattle.cics_machine.specs.Machine.{Machine, initial_region};
 ghost use Rattle.cics_machine.specs.Steps.{attached, issued};
 ghost use Rattle.cics_machine.specs.Waking.{clock_set, woken, expired};
 ghost use Rattle.cics_machine.specs.Shutdown.{unless_down, shut_down};
@@ -26,7 +26,7 @@ ghost use Rattle.cics_future.specs.Compared.{LookAlike};
 /// - `wakes`, `expires`: the steps that a region takes by itself.
 pub fn events_keep_the_future()
     ensures begins { (o : OpeningState) → IsOpeningInOrder o →
-        HaveSameFuture (beginning_region o) (beginning_region o) }
+        HaveSameFuture (initial_region o) (initial_region o) }
     ensures attaches { (m n : Machine) (label : Bytes) (dtimout : ℕ) → HaveSameFuture m n →
         AreSameSteps (unless_down m (attached m label dtimout))
         (unless_down n (attached n label dtimout)) }

@@ -9,7 +9,7 @@ use Rattle.cics_history.specs.Resources.{bytes_of, is_one}
 use Rattle.cics_history.specs.declared.resources.Resource.TheVariants.{FileKey, FilePrefix, TdRead as ReadingEnd, TdWrite as WritingEnd, User}
 use Rattle.cics_ksds.specs.declared.definition.FileDef.{FileDef}
 use Rattle.cics_transdata.specs.declared.queues.Recovery.TheVariants.{Logical}
-use Rattle.cics_history.specs.State.{OpeningState, UnitsState, beginning}
+use Rattle.cics_history.specs.State.{OpeningState, UnitsState, initial_units}
 use Rattle.cics_history.specs.Headline.{kept}
 use Rattle.cics_history.specs.Holding.{store_of, held_by, awaited, value_holder}
 use Rattle.cics_history.specs.Execution.{place_at, item_asked}
@@ -56,13 +56,13 @@ opening = record {
 
 -- the state after these events, and what a cell holds then by the history and in place
 abbrev after : List Event → UnitsState
-after events = run (beginning opening) events
+after events = run (initial_units opening) events
 
 abbrev replayed : List Event → Cell → Content
 replayed events x = content (store_of (after events)) x
 
 abbrev placed : List Event → Cell → Content
-placed events x = content_in_place opening (run_in_place (beginning opening) (parts_opened opening) events) x
+placed events x = content_in_place opening (run_in_place (initial_units opening) (parts_opened opening) events) x
 
 abbrev answers : UnitsState → List Condition
 answers s = map (λ e. e.answer.condition) s.trace

@@ -7,7 +7,7 @@ use Rattle.cics_names.specs.KeyedLaws.{is_same-self}
 use Rattle.cics_history.specs.declared.resources.Resource.TheVariants.{TdRead as ReadingEnd, TdWrite as WritingEnd}
 use Rattle.cics_history.specs.declared.resources.Resource.{Resource}
 use Rattle.cics_history.specs.declared.ops.Op.TheVariants.{TdRead}
-use Rattle.cics_history.specs.State.{OpeningState, queue_logical, Store, initial_store, UnitsState, beginning}
+use Rattle.cics_history.specs.State.{OpeningState, queue_logical, Store, initial_store, UnitsState, initial_units}
 use Rattle.cics_history.specs.Openings.{IsOpeningInOrder}
 use Rattle.cics_history.specs.Store.{apply}
 use Rattle.cics_history.specs.Headline.{outcome_of, is_open, is_backed_out, kept}
@@ -26,8 +26,8 @@ use Rattle.cics_history.specs.Ends.{AreBackedOut, IsUnheld, Marks, AreMarked, Ar
 use Rattle.cics_history.specs.InPlace.{Parts, content_in_place, parts_opened, parts_executed, happens_in_place, run_in_place, IsInPlace}
 use Rattle.cics_history.proofs.Executes.{alone, alone-own, alone-ended}
 use Rattle.cics_history.proofs.Waiting.{covers, none_either, committed-content, free_end, MayRun_from}
-use Rattle.cics_history.proofs.States.{acting_open, entered-IsSound, happens-IsSound, run-IsSound, run-opening, beginning-IsSound, one_at_each_end}
-use Rattle.cics_history.proofs.Places.{ended_by_set, beginning-IsPlaceOf, entered-IsPlaceOf, commit-IsPlaceOf, back_out-IsPlaceOf, ready_of}
+use Rattle.cics_history.proofs.States.{acting_open, entered-IsSound, happens-IsSound, run-IsSound, run-opening, initial_units-IsSound, one_at_each_end}
+use Rattle.cics_history.proofs.Places.{ended_by_set, initial_units-IsPlaceOf, entered-IsPlaceOf, commit-IsPlaceOf, back_out-IsPlaceOf, ready_of}
 use Rattle.cics_history.proofs.Outcomes.{same_outcomes}
 use Rattle.cics_history.proofs.SameHistory.{enqueue-same, dequeue-same, unlock-same, ts_reading-same}
 use Rattle.cics_history.proofs.PrefixImages.{images_by-AreImages}
@@ -38,8 +38,8 @@ use Rattle.cics_history.proofs.Stores.{same_store, initial-canonical, replay-can
 
 -- ---- The queues through each call
 
-pub beginning-AreMarksOf : (o : OpeningState) → AreMarksOf (beginning o) (marks_opened o)
-beginning-AreMarksOf o = opened-AreMarked o (outcome_of [])
+pub initial_units-AreMarksOf : (o : OpeningState) → AreMarksOf (initial_units o) (marks_opened o)
+initial_units-AreMarksOf o = opened-AreMarked o (outcome_of [])
 
 pub entered-AreMarksOf : (s : UnitsState) (p : Marks) (u : Option ℕ) (op : Op) → IsSound s →
     AreMarksOf s p → may_act s u ≡ true → awaited s u op ≡ None →
@@ -266,13 +266,13 @@ run-IsInPlace s p (e ∷ es) i h =
 
 -- the parts after these events
 abbrev pub parts_after : OpeningState → List Event → Parts
-parts_after o es = run_in_place (beginning o) (parts_opened o) es
+parts_after o es = run_in_place (initial_units o) (parts_opened o) es
 
 pub in_place_after : (o : OpeningState) (es : List Event) → IsOpeningInOrder o →
-    IsInPlace (run (beginning o) es) (parts_after o es)
+    IsInPlace (run (initial_units o) es) (parts_after o es)
 in_place_after o es order =
-    run-IsInPlace (beginning o) (parts_opened o) es (beginning-IsSound o order)
-    (beginning-IsPlaceOf o, beginning-AreMarksOf o)
+    run-IsInPlace (initial_units o) (parts_opened o) es (initial_units-IsSound o order)
+    (initial_units-IsPlaceOf o, initial_units-AreMarksOf o)
 
 -- each cell in place holds what replaying what is kept gives
 in_place_content : (s : UnitsState) (p : Parts) → IsInPlace s p → (x : Cell) →
@@ -288,37 +288,37 @@ in_place_content s p h (Td q) =
     ] refl
 
 pub cells_stay : (o : OpeningState) (es : List Event) (x : Cell) → IsOpeningInOrder o →
-    content_in_place o (parts_after o es) x ≡ content (store_of (run (beginning o) es)) x
+    content_in_place o (parts_after o es) x ≡ content (store_of (run (initial_units o) es)) x
 cells_stay o es x order =
-    subst (λ z. content_in_place z (parts_after o es) x ≡ content (store_of (run (beginning o) es)) x)
-    (run-opening (beginning o) es)
-    (in_place_content (run (beginning o) es) (parts_after o es) (in_place_after o es order) x)
+    subst (λ z. content_in_place z (parts_after o es) x ≡ content (store_of (run (initial_units o) es)) x)
+    (run-opening (initial_units o) es)
+    (in_place_content (run (initial_units o) es) (parts_after o es) (in_place_after o es order) x)
 
 -- and the images of each open unit are ready, each in its turn
 pub images_stay_ready : (o : OpeningState) (es : List Event) (v : ℕ) → IsOpeningInOrder o →
-    is_live (run (beginning o) es) v ≡ true →
+    is_live (run (initial_units o) es) v ≡ true →
     AllReady (parts_after o es).place.cells ((parts_after o es).place.images v)
 images_stay_ready o es v order live =
-    ready_of (run (beginning o) es) (parts_after o es).place v (in_place_after o es order).0 live
+    ready_of (run (initial_units o) es) (parts_after o es).place v (in_place_after o es order).0 live
 
 pub mark_images_stay_ready : (o : OpeningState) (es : List Event) (v : ℕ) → IsOpeningInOrder o →
-    is_live (run (beginning o) es) v ≡ true →
+    is_live (run (initial_units o) es) v ≡ true →
     AllMarksReady (parts_after o es).marks.queues ((parts_after o es).marks.images v)
 mark_images_stay_ready o es v order live =
-    marks_ready_of (run (beginning o) es) (parts_after o es).marks v
-    (run-IsSound (beginning o) es (beginning-IsSound o order)) (in_place_after o es order).1 live
+    marks_ready_of (run (initial_units o) es) (parts_after o es).marks v
+    (run-IsSound (initial_units o) es (initial_units-IsSound o order)) (in_place_after o es order).1 live
 
 -- a store in order that holds what is in place is the replay, as whole maps
 pub whole_stays : (o : OpeningState) (es : List Event) (held : Store) → IsOpeningInOrder o →
     IsCanonical held →
     ((x : Cell) → content held x ≡ content_in_place o (parts_after o es) x) →
-    held ≡ store_of (run (beginning o) es)
+    held ≡ store_of (run (initial_units o) es)
 whole_stays o es held order c h =
-    same_store held (store_of (run (beginning o) es)) c after (λ x. h x ∙ cells_stay o es x order)
+    same_store held (store_of (run (initial_units o) es)) c after (λ x. h x ∙ cells_stay o es x order)
   where
-    after : IsCanonical (store_of (run (beginning o) es))
+    after : IsCanonical (store_of (run (initial_units o) es))
     after =
-        let s = run (beginning o) es in
+        let s = run (initial_units o) es in
         replay-canonical (initial_store s.opening) (kept s.opening s.trace s.outcomes)
-        (subst (λ z. IsCanonical (initial_store z)) (sym (run-opening (beginning o) es))
+        (subst (λ z. IsCanonical (initial_store z)) (sym (run-opening (initial_units o) es))
         (initial-canonical o order))

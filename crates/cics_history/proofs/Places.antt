@@ -5,7 +5,7 @@ use Rattle.std.proofs.lemmas.Bool.{false≢true, cases_Bool, cond_both, eqb-true
 use Rattle.std.proofs.lemmas.Option.{unwrap_or-slice_get}
 use Rattle.std.proofs.lemmas.List.{get_or-set_same}
 use Rattle.cics_names.specs.Keyed.{Bytes}
-use Rattle.cics_history.specs.State.{OpeningState, UnitsState, beginning}
+use Rattle.cics_history.specs.State.{OpeningState, UnitsState, initial_units}
 use Rattle.cics_history.specs.Store.{apply}
 use Rattle.cics_history.specs.Headline.{outcome_of, is_open, is_backed_out}
 use Rattle.cics_history.specs.Holding.{store_of, awaited}
@@ -159,8 +159,8 @@ ended_by_set outs v oc less =
       | inr other ↦ rw other (sym (outcome_of-set outs v n oc (eqb-false n v other)))
     ])
 
-pub beginning-IsPlaceOf : (o : OpeningState) → IsPlaceOf (beginning o) (placed o)
-beginning-IsPlaceOf o = record {
+pub initial_units-IsPlaceOf : (o : OpeningState) → IsPlaceOf (initial_units o) (placed o)
+initial_units-IsPlaceOf o = record {
   in_place = λ x plain. refl;
   leads = λ x plain r u on fin f stay. refl;
   named = λ x u n. refl;

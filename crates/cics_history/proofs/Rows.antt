@@ -5,8 +5,8 @@ use Rattle.cics_names.specs.Keyed.{Bytes}
 use Rattle.cics_names.specs.declared.conditions.Condition.TheVariants.{Normal, Duprec, Notfnd, Qzero, Itemerr, Qiderr}
 use Rattle.cics_ksds.specs.declared.definition.FileDef.{FileDef}
 use Rattle.cics_transdata.specs.declared.queues.Recovery.TheVariants.{Logical, Unrecovered}
-use Rattle.cics_history.specs.State.{OpeningState, UnitsState, beginning}
-use Rattle.cics_history.specs.Openings.{nothing_defined, with_file, with_record, with_queue, with_prefix, with_td_record}
+use Rattle.cics_history.specs.State.{OpeningState, UnitsState, initial_units}
+use Rattle.cics_history.specs.Openings.{initial_opening, with_file, with_record, with_queue, with_prefix, with_td_record}
 use Rattle.cics_history.specs.Store.{only, with_content, numbered}
 use Rattle.cics_history.specs.Headline.{kept}
 use Rattle.cics_history.specs.Holding.{store_of, committed_for, held_by}
@@ -49,18 +49,18 @@ abbrev pub k2 : Bytes
 k2 = codes "0002"
 
 abbrev pub defined : OpeningState
-defined = with_queue (with_prefix (with_file (with_record (with_file nothing_defined acct accounts) acct (codes "0001aa")) log entries) r_names) tdq1 Logical
+defined = with_queue (with_prefix (with_file (with_record (with_file initial_opening acct accounts) acct (codes "0001aa")) log entries) r_names) tdq1 Logical
 
 abbrev start : UnitsState
-start = beginning defined
+start = initial_units defined
 
 -- with a second account
 abbrev start_2 : UnitsState
-start_2 = beginning (with_record defined acct (codes "0002bb"))
+start_2 = initial_units (with_record defined acct (codes "0002bb"))
 
 -- with a record in the queue
 abbrev loaded : UnitsState
-loaded = beginning (with_td_record defined tdq1 (codes "r1"))
+loaded = initial_units (with_td_record defined tdq1 (codes "r1"))
 
 -- ---- Backout of files
 
@@ -160,7 +160,7 @@ free_at_the_end = refl
 
 -- an unrecoverable file's record is held by the open update read alone
 abbrev log_read : UnitsState
-log_read = after_execution (beginning (with_record defined log (codes "0001log"))) None (ReadUpdate log k1)
+log_read = after_execution (initial_units (with_record defined log (codes "0001log"))) None (ReadUpdate log k1)
 
 log_waits : execution log_read None (Delete log k1) ≡ MustWait 0
 log_waits = refl
@@ -279,7 +279,7 @@ third_gets_nothing = refl
 
 -- a queue that isn't LOGICAL has no ends to wait for, and a record that was read from it is lost
 abbrev plain : UnitsState
-plain = after_execution (beginning (with_td_record (with_queue nothing_defined tdq1 Unrecovered) tdq1 (codes "r1"))) None (TdRead tdq1)
+plain = after_execution (initial_units (with_td_record (with_queue initial_opening tdq1 Unrecovered) tdq1 (codes "r1"))) None (TdRead tdq1)
 
 no_wait : execution plain None (TdRead tdq1) ≡ Answered 1 (only Qzero)
 no_wait = refl

@@ -7,7 +7,7 @@ use Rattle.cics_names.specs.declared.conditions.Condition.{Condition}
 use Rattle.cics_names.specs.declared.conditions.Condition.TheVariants.{Normal, Notfnd, Qzero}
 use Rattle.cics_ksds.specs.declared.definition.FileDef.{FileDef}
 use Rattle.cics_transdata.specs.declared.queues.Recovery.TheVariants.{Logical}
-use Rattle.cics_history.specs.State.{OpeningState, Store, initial_store, UnitsState, beginning}
+use Rattle.cics_history.specs.State.{OpeningState, Store, initial_store, UnitsState, initial_units}
 use Rattle.cics_history.specs.Store.{apply}
 use Rattle.cics_history.specs.Holding.{store_of}
 use Rattle.cics_history.specs.declared.ops.Entry.{Entry}
@@ -43,14 +43,14 @@ opening = record {
 }
 
 abbrev after : List Event → UnitsState
-after events = run (beginning opening) events
+after events = run (initial_units opening) events
 
 -- the list of those that committed, as the state keeps it, and as the events say
 abbrev order : List Event → List ℕ
 order events = (after events).commits
 
 abbrev committing : List Event → List ℕ
-committing events = commit_order (beginning opening) events
+committing events = commit_order (initial_units opening) events
 
 -- the conditions that the tasks were given
 abbrev given : List Entry → List Condition

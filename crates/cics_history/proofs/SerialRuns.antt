@@ -7,7 +7,7 @@ use Rattle.std.proofs.lemmas.Option.{unwrap_or-slice_get, slice_get_past}
 use Rattle.std.proofs.lemmas.List.{get_or-set_same, append-nil, append_assoc}
 use Rattle.std.proofs.lemmas.List.Folds.{list_any-append}
 use Rattle.cics_names.specs.Keyed.{Bytes, value_at}
-use Rattle.cics_history.specs.State.{OpeningState, Store, initial_store, UnitsState, UnitsValue, beginning}
+use Rattle.cics_history.specs.State.{OpeningState, Store, initial_store, UnitsState, UnitsValue, initial_units}
 use Rattle.cics_history.specs.Openings.{IsOpeningInOrder}
 use Rattle.cics_history.specs.Store.{apply, is_recoverable}
 use Rattle.cics_history.specs.Headline.{outcome_of, is_open, is_backed_out, is_committed, is_kept, kept, committed_entries, replay, Agrees, IsSameRecoverable}
@@ -27,7 +27,7 @@ use Rattle.cics_history.proofs.Replays.{Each_more, replay-at}
 use Rattle.cics_history.proofs.Stores.{same_file, same_queue, initial-canonical, replay-canonical}
 use Rattle.cics_history.proofs.Outcomes.{outcome_of-with, outcome_of-set}
 use Rattle.cics_history.proofs.Waiting.{MayRun_from}
-use Rattle.cics_history.proofs.States.{acting_open, happens-IsSound, beginning-IsSound, run-IsSound, run-opening}
+use Rattle.cics_history.proofs.States.{acting_open, happens-IsSound, initial_units-IsSound, run-IsSound, run-opening}
 use Rattle.cics_history.proofs.SameHistory.{enqueue-same, ts_reading-same, enqueue-commits, ts_reading-commits}
 use Rattle.cics_history.proofs.SerialLists.{eqb-turned, or_neither}
 use Rattle.cics_history.proofs.SerialTurns.{turns_permute, distinct_behind}
@@ -197,8 +197,8 @@ module _ (s : UnitsState) (i : IsInOrder s) where
 
 -- ---- Runs
 
-pub beginning-IsInOrder : (o : OpeningState) → IsOpeningInOrder o → IsInOrder (beginning o)
-beginning-IsInOrder o order = record {
+pub initial_units-IsInOrder : (o : OpeningState) → IsOpeningInOrder o → IsInOrder (initial_units o)
+initial_units-IsInOrder o order = record {
   ordered = (initial-canonical o order).records;
   commits = record {
     committed = λ n. sym (ap (λ c. is_committed (unwrap_or c Open)) (slice_get_past [] n (omega arith)));
@@ -258,8 +258,8 @@ run-commits s (e ∷ events) =
     ∙ append_assoc s.commits (committed_by s e) (commit_order (happens s e) events)
 
 -- the list that is kept is that of the events
-pub order_after : (o : OpeningState) (events : List Event) → (run (beginning o) events).commits ≡ commit_order (beginning o) events
-order_after o events = run-commits (beginning o) events
+pub order_after : (o : OpeningState) (events : List Event) → (run (initial_units o) events).commits ≡ commit_order (initial_units o) events
+order_after o events = run-commits (initial_units o) events
 
 -- ---- What it says
 
@@ -374,10 +374,10 @@ serializable_of v i known c stands =
 
 -- so it is after every run
 pub serializable_after : (o : OpeningState) (events : List Event) → IsOpeningInOrder o →
-    let s = run (beginning o) events in IsSerializable (record { state = s; store = store_of s })
+    let s = run (initial_units o) events in IsSerializable (record { state = s; store = store_of s })
 serializable_after o events c =
-    let s = run (beginning o) events in
+    let s = run (initial_units o) events in
     serializable_of (record { state = s; store = store_of s })
-    (run-IsInOrder (beginning o) events (beginning-IsSound o c) (beginning-IsInOrder o c))
-    (run-IsSound (beginning o) events (beginning-IsSound o c)).known
-    (subst (λ p. IsCanonical (initial_store p)) (sym (run-opening (beginning o) events)) (initial-canonical o c)) refl
+    (run-IsInOrder (initial_units o) events (initial_units-IsSound o c) (initial_units-IsInOrder o c))
+    (run-IsSound (initial_units o) events (initial_units-IsSound o c)).known
+    (subst (λ p. IsCanonical (initial_store p)) (sym (run-opening (initial_units o) events)) (initial-canonical o c)) refl

@@ -9,7 +9,7 @@ use Rattle.cics_tempstor.specs.Queues.{has_item}
 use Rattle.cics_history.specs.Store.{ts_queue, apply}
 use Rattle.cics_history.specs.Execution.{count_at, enq_of, after_enqueued, after_enqueue, after_dequeue, after_unlock, after_ts_reading, unit_or_next, outcomes_with, entered, state_of, after_execution, after_end}
 use Rattle.cics_history.specs.declared.ops.Enqueued.TheVariants.{Taken, CountFull}
-use Rattle.cics_history.specs.State.{OpeningState, initial_store, UnitsState, beginning}
+use Rattle.cics_history.specs.State.{OpeningState, initial_store, UnitsState, initial_units}
 use Rattle.cics_history.specs.Openings.{IsOpeningInOrder}
 use Rattle.cics_history.specs.Headline.{outcome_of, is_open, kept, Agrees}
 use Rattle.cics_history.specs.Holding.{store_of, uses_of, held_by, owned, blocker_at, blocker_among, writer_awaited, awaited, value_holder, conflicts, is_other}
@@ -219,8 +219,8 @@ pub run-IsSound : (s : UnitsState) (es : List Event) → IsSound s → IsSound (
 run-IsSound s [] i = i
 run-IsSound s (e ∷ es) i = run-IsSound (happens s e) es (happens-IsSound s e i)
 
-pub beginning-IsSound : (o : OpeningState) → IsOpeningInOrder o → IsSound (beginning o)
-beginning-IsSound o order = record {
+pub initial_units-IsSound : (o : OpeningState) → IsOpeningInOrder o → IsSound (initial_units o)
+initial_units-IsSound o order = record {
   isolated = record {
     ordered = (initial-canonical o order).records;
     answers = λ fin f. tt;
@@ -261,12 +261,12 @@ pub run-opening : (s : UnitsState) (es : List Event) → (run s es).opening ≡ 
 run-opening s [] = refl
 run-opening s (e ∷ es) = run-opening (happens s e) es ∙ happens-opening s e
 
-pub agrees : (o : OpeningState) (es : List Event) → IsOpeningInOrder o → let s = run (beginning o) es in
+pub agrees : (o : OpeningState) (es : List Event) → IsOpeningInOrder o → let s = run (initial_units o) es in
     Agrees (initial_store o) (kept o s.trace s.outcomes)
 agrees o es order =
-    let s = run (beginning o) es in
-    subst (λ p. Agrees (initial_store p) (kept p s.trace s.outcomes)) (run-opening (beginning o) es)
-    (agrees_of s (run-IsSound (beginning o) es (beginning-IsSound o order)))
+    let s = run (initial_units o) es in
+    subst (λ p. Agrees (initial_store p) (kept p s.trace s.outcomes)) (run-opening (initial_units o) es)
+    (agrees_of s (run-IsSound (initial_units o) es (initial_units-IsSound o order)))
 
 -- one holder for each resource is one unit at each end of a recoverable cell
 pub one_at_each_end : (s : UnitsState) → IsHeldByOne s →
@@ -285,8 +285,8 @@ pub one_at_each_end_of : (s : UnitsState) → IsSound s →
     IsOneAtEachEnd s.opening s.trace (outcome_of s.outcomes)
 one_at_each_end_of s i = one_at_each_end s i.one
 
-pub one_holder_after : (o : OpeningState) (es : List Event) → IsOpeningInOrder o → IsHeldByOne (run (beginning o) es)
-one_holder_after o es order = (run-IsSound (beginning o) es (beginning-IsSound o order)).one
+pub one_holder_after : (o : OpeningState) (es : List Event) → IsOpeningInOrder o → IsHeldByOne (run (initial_units o) es)
+one_holder_after o es order = (run-IsSound (initial_units o) es (initial_units-IsSound o order)).one
 
 pub holder_found : (s : UnitsState) (u : Option ℕ) (r : Resource) (n : ℕ) → IsSound s → is_prefix r ≡ false →
     is_other u n ≡ true → list_any (conflicts r) (held_by s n) ≡ true →

@@ -9,8 +9,8 @@ use Rattle.cics_transdata.specs.declared.queues.Recovery.{Recovery}
 use Rattle.cics_history.specs.State.{OpeningState, FileOpening, QueueOpening}
 
 -- nothing is defined at first
-abbrev pub nothing_defined : OpeningState
-nothing_defined = record { files = []; prefixes = []; queues = [] }
+abbrev pub initial_opening : OpeningState
+initial_opening = record { files = []; prefixes = []; queues = [] }
 
 -- a record size is 1 to 32,767
 abbrev pub is_record_size : ℕ → Bool

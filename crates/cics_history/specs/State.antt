@@ -120,5 +120,5 @@ pub record UnitsValue : Type 0 where
   pub store : Store
 
 -- the initial state: no command executed, no unit, and nothing owned
-abbrev pub beginning : OpeningState → UnitsState
-beginning o = record { opening = o; trace = []; outcomes = []; commits = []; reads = []; counts = []; next = [] }
+abbrev pub initial_units : OpeningState → UnitsState
+initial_units o = record { opening = o; trace = []; outcomes = []; commits = []; reads = []; counts = []; next = [] }

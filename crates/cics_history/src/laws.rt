@@ -30,7 +30,7 @@ ghost use Rattle.cics_transdata.specs.Undo.{IsReadyImage, undone as undone_queue
 ghost use Rattle.cics_transdata.specs.Undo.{read_image, deleted_image};
 ghost use Rattle.cics_transdata.specs.declared.images.TdImage.{TdImage};
 ghost use Rattle.cics_history.specs.State.{OpeningState, queue_logical, Store, initial_store};
-ghost use Rattle.cics_history.specs.State.{UnitsState, UnitsValue, beginning};
+ghost use Rattle.cics_history.specs.State.{UnitsState, UnitsValue, initial_units};
 ghost use Rattle.cics_history.specs.Openings.{IsOpeningInOrder};
 ghost use Rattle.cics_history.specs.Store.{apply, counted_answer};
 ghost use Rattle.cics_history.specs.Headline.{outcome_of, is_open, is_backed_out, kept, replay};
@@ -72,7 +72,7 @@ ghost use Rattle.cics_history.specs.InPlace.{content_in_place, parts_opened, run
 /// interleaving.
 pub fn answers_stay()
     ensures { (o : OpeningState) (events : List Event) → IsOpeningInOrder o →
-        let s = run (beginning o) events in
+        let s = run (initial_units o) events in
         Agrees (initial_store o) (kept o s.trace s.outcomes) }
 {}
 
@@ -91,20 +91,20 @@ pub fn answers_stay()
 ///   marked as read.
 pub fn parts_stay()
     ensures cells { (o : OpeningState) (events : List Event) (x : Cell) → IsOpeningInOrder o →
-        content_in_place o (run_in_place (beginning o) (parts_opened o) events) x
-        ≡ content (store_of (run (beginning o) events)) x }
+        content_in_place o (run_in_place (initial_units o) (parts_opened o) events) x
+        ≡ content (store_of (run (initial_units o) events)) x }
     ensures whole { (o : OpeningState) (events : List Event) (held : Store) → IsOpeningInOrder o →
         IsCanonical held →
         ((x : Cell) → content held x ≡ content_in_place o
-        (run_in_place (beginning o) (parts_opened o) events) x) →
-        held ≡ store_of (run (beginning o) events) }
+        (run_in_place (initial_units o) (parts_opened o) events) x) →
+        held ≡ store_of (run (initial_units o) events) }
     ensures images { (o : OpeningState) (events : List Event) (unit : ℕ) → IsOpeningInOrder o →
-        is_live (run (beginning o) events) unit ≡ true →
-        let p = run_in_place (beginning o) (parts_opened o) events in
+        is_live (run (initial_units o) events) unit ≡ true →
+        let p = run_in_place (initial_units o) (parts_opened o) events in
         AllReady p.place.cells (p.place.images unit) }
     ensures marks { (o : OpeningState) (events : List Event) (unit : ℕ) → IsOpeningInOrder o →
-        is_live (run (beginning o) events) unit ≡ true →
-        let p = run_in_place (beginning o) (parts_opened o) events in
+        is_live (run (initial_units o) events) unit ≡ true →
+        let p = run_in_place (initial_units o) (parts_opened o) events in
         AllMarksReady p.marks.queues (p.marks.images unit) }
 {}
 
@@ -146,11 +146,11 @@ pub fn runs_alone()
 ///   committed units alone give what stands, and so do their entries in order of execution.
 pub fn units_are_serializable()
     ensures order { (o : OpeningState) (events : List Event) →
-        (run (beginning o) events).commits ≡ commit_order (beginning o) events }
+        (run (initial_units o) events).commits ≡ commit_order (initial_units o) events }
     ensures opening { (o : OpeningState) (events : List Event) →
-        (run (beginning o) events).opening ≡ o }
+        (run (initial_units o) events).opening ≡ o }
     ensures serializable { (o : OpeningState) (events : List Event) → IsOpeningInOrder o →
-        let s = run (beginning o) events in
+        let s = run (initial_units o) events in
         IsSerializable (record { state = s; store = store_of s }) }
 {}
 
@@ -158,7 +158,7 @@ pub fn units_are_serializable()
 /// end, and no other call changes the list. `serializable` follows, if the state is sound and the
 /// store is the replay.
 pub fn calls_keep_the_order()
-    ensures begins { (o : OpeningState) → IsOpeningInOrder o → IsInOrder (beginning o) }
+    ensures begins { (o : OpeningState) → IsOpeningInOrder o → IsInOrder (initial_units o) }
     ensures executes { (s : UnitsState) (unit : Option ℕ) (op : Op) → IsSound s → IsInOrder s →
         may_act s unit ≡ true → IsInOrder (after_execution s unit op) }
     ensures commits { (s : UnitsState) (unit : ℕ) → IsInOrder s → is_live s unit ≡ true →
@@ -193,7 +193,7 @@ pub fn calls_keep_the_order()
 /// - `none`: if no other unit owns something that conflicts with it, there is no blocker.
 pub fn each_resource_has_one_holder()
     ensures one { (o : OpeningState) (events : List Event) → IsOpeningInOrder o →
-        IsHeldByOne (run (beginning o) events) }
+        IsHeldByOne (run (initial_units o) events) }
     ensures ends { (s : UnitsState) → IsSound s →
         IsOneAtEachEnd s.opening s.trace (outcome_of s.outcomes) }
     ensures found { (s : UnitsState) (asking : Option ℕ) (r : Resource) (holder : ℕ) → IsSound s →
@@ -271,7 +271,7 @@ pub fn commands_act_by_cells()
 /// Each call keeps the open units isolated, and at most one owner for each resource (`IsSound`).
 /// The unit that executes, ends or enqueues is open, or begins. `agrees` follows.
 pub fn calls_keep_apart()
-    ensures begins { (o : OpeningState) → IsOpeningInOrder o → IsSound (beginning o) }
+    ensures begins { (o : OpeningState) → IsOpeningInOrder o → IsSound (initial_units o) }
     ensures executes { (s : UnitsState) (unit : Option ℕ) (op : Op) → IsSound s →
         may_act s unit ≡ true →
         IsSound (after_execution s unit op) }
@@ -300,7 +300,7 @@ pub fn calls_keep_apart()
 /// - `prefix`: the images of DELETE GENERIC are those of the records under its prefix, that of the
 ///   last key newest. At each key the cells hold what the store holds.
 pub fn calls_keep_places()
-    ensures begins { (o : OpeningState) → IsPlaceOf (beginning o) (placed o) }
+    ensures begins { (o : OpeningState) → IsPlaceOf (initial_units o) (placed o) }
     ensures executes { (s : UnitsState) (p : Place) (unit : Option ℕ) (op : Op) (new : List Image) →
         IsSound s → IsPlaceOf s p →
         may_act s unit ≡ true → awaited s unit op ≡ None → AreImages op p.cells new →
@@ -337,7 +337,7 @@ pub fn calls_keep_places()
 /// - `sees`: a task whose read needn't wait sees a record exactly if the queue shows one. So its
 ///   read marks what a read of all shown records marks.
 pub fn calls_keep_marks()
-    ensures begins { (o : OpeningState) → AreMarksOf (beginning o) (marks_opened o) }
+    ensures begins { (o : OpeningState) → AreMarksOf (initial_units o) (marks_opened o) }
     ensures executes { (s : UnitsState) (p : Marks) (unit : Option ℕ) (op : Op) → IsSound s →
         AreMarksOf s p →
         may_act s unit ≡ true → awaited s unit op ≡ None →

@@ -6,7 +6,7 @@ use Rattle.cics_names.specs.declared.conditions.Condition.{Condition}
 use Rattle.cics_ksds.specs.declared.definition.FileDef.{FileDef}
 use Rattle.cics_transdata.specs.declared.queues.Recovery.TheVariants.{Logical}
 use Rattle.cics_history.specs.State.{OpeningState}
-use Rattle.cics_history.specs.Openings.{nothing_defined, with_file, with_record, with_prefix, with_queue}
+use Rattle.cics_history.specs.Openings.{initial_opening, with_file, with_record, with_prefix, with_queue}
 use Rattle.cics_machine.specs.Replies.{plain}
 use Rattle.cics_names.specs.declared.commands.Verb.{Verb}
 use Rattle.cics_names.specs.declared.commands.Verb.TheVariants.{Read, Write, Delete}
@@ -69,7 +69,7 @@ keyed recoverable = record { key_length = 4; key_offset = 0; record_size = 32767
 
 -- ACCT, recoverable, with 0001aa, and LOG, unrecoverable, empty
 abbrev pub both_files : OpeningState
-both_files = with_file (with_record (with_file nothing_defined acct (keyed true)) acct record_1) log (keyed false)
+both_files = with_file (with_record (with_file initial_opening acct (keyed true)) acct record_1) log (keyed false)
 
 -- both files, recoverable temporary storage under R, and the LOGICAL queue TDQ1
 abbrev pub files_and_queues : OpeningState

@@ -4,7 +4,7 @@ use Rattle.std.specs.Prelude.{◌≡◌, ℕ, true, false, Some, None, List, [],
 use Rattle.cics_names.specs.Keyed.{Bytes, Map}
 use Rattle.cics_names.specs.declared.conditions.Condition.TheVariants.{Normal, Dsiderr, Notfnd, Duprec, Invreq, Endfile, Lengerr}
 use Rattle.cics_history.specs.State.{OpeningState}
-use Rattle.cics_history.specs.Openings.{nothing_defined, with_file, with_record}
+use Rattle.cics_history.specs.Openings.{initial_opening, with_file, with_record}
 use Rattle.cics_replay.specs.declared.listings.TaskState.TheVariants.{Idle, HasUnit, IsWaiting}
 use Rattle.cics_machine.specs.Replies.{giving}
 use Rattle.cics_machine.specs.Machine.{timed_out}
@@ -202,7 +202,7 @@ from_the_end : journal two_accounts (
 from_the_end = refl
 
 -- the order of the keys is that of their codes: a, A, 0
-in_order : journal (with_record (with_record (with_record (with_file nothing_defined acct (record (keyed true) { key_length = 1 })) acct (0xF0 ∷ [])) acct (0xC1 ∷ [])) acct (0x81 ∷ [])) (
+in_order : journal (with_record (with_record (with_record (with_file initial_opening acct (record (keyed true) { key_length = 1 })) acct (0xF0 ∷ [])) acct (0xC1 ∷ [])) acct (0x81 ∷ [])) (
     does t1 (StartBr acct (0 ∷ []) None false false) ∷ next ∷ next ∷ next ∷ next ∷ []
     ) ≡ told t1 normal ∷ told t1 (given (0x81 ∷ []) (0x81 ∷ [])) ∷ told t1 (given (0xC1 ∷ []) (0xC1 ∷ [])) ∷ told t1 (given (0xF0 ∷ []) (0xF0 ∷ [])) ∷ told t1 (replied Endfile) ∷ []
 in_order = refl

@@ -5,7 +5,7 @@ use Rattle.cics_names.specs.Keyed.{Bytes}
 use Rattle.cics_names.specs.declared.conditions.AbendCode.{AbendCode}
 use Rattle.cics_history.specs.State.{OpeningState, Store}
 use Rattle.cics_history.specs.Holding.{store_of}
-use Rattle.cics_machine.specs.Machine.{Machine, beginning_region}
+use Rattle.cics_machine.specs.Machine.{Machine, initial_region}
 use Rattle.cics_machine.specs.Steps.{Stepped, attached, issued}
 use Rattle.cics_machine.specs.Waking.{clock_set, woken, expired}
 use Rattle.cics_machine.specs.Shutdown.{unless_down, shut_down}
@@ -90,7 +90,7 @@ run m (e ∷ es) =
 
 -- T1 and T2 may wait 5 seconds
 abbrev pub two_tasks : OpeningState → Machine
-two_tasks o = (run (beginning_region o) (attaches t1 5 ∷ attaches t2 5 ∷ [])).machine
+two_tasks o = (run (initial_region o) (attaches t1 5 ∷ attaches t2 5 ∷ [])).machine
 
 -- what a script prints after its two ATTACH lines, what it ends with, and the store then
 abbrev pub journal : OpeningState → List Event → List Line

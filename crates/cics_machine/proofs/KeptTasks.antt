@@ -22,7 +22,7 @@ use Rattle.cics_history.specs.declared.ops.Done.TheVariants.{Answered}
 use Rattle.cics_history.specs.declared.ops.Enqueued.TheVariants.{Taken, CountFull}
 use Rattle.cics_history.specs.declared.ops.UnitState.{UnitState}
 use Rattle.cics_history.specs.declared.ops.UnitState.TheVariants.{BackedOut}
-use Rattle.cics_machine.specs.Machine.{Machine, Task, Suspended, beginning_region, task_at, replaced, is_waiting, not_waiting, with_task, with_units, with_waiting, with_unit, with_browses, units_after, unit_closed, abended}
+use Rattle.cics_machine.specs.Machine.{Machine, Task, Suspended, initial_region, task_at, replaced, is_waiting, not_waiting, with_task, with_units, with_waiting, with_unit, with_browses, units_after, unit_closed, abended}
 use Rattle.cics_machine.specs.Steps.{new_task, with_new_task, unlocked, dequeued}
 use Rattle.cics_machine.specs.Tasks.{own_label, own_unit, had_at, IsOwn, HasNoOwner}
 use Rattle.cics_machine.specs.KeptTasks.{IsReady, IsWaitKept, AreTasksKept}
@@ -167,12 +167,12 @@ module _ (m n : Machine) (t owner : Task) (at : ℕ) (kept : AreTasksKept m) (pl
 -- ---- The tasks, the waiting commands and the clock
 
 -- a region begins without tasks
-pub kept_begins : (o : OpeningState) → AreTasksKept (beginning_region o)
+pub kept_begins : (o : OpeningState) → AreTasksKept (initial_region o)
 kept_begins o = record {
   labels = record { one = λ i j x p q. absurd (no_task own_label i x p) };
   owners = record { one = λ i j x p q. absurd (no_task own_unit i x p) };
   open_units = λ i t u placed own. absurd (no_place i t placed);
-  waits = All-nil (IsWaitKept (beginning_region o));
+  waits = All-nil (IsWaitKept (initial_region o));
 }
   where
     no_place : (i : ℕ) (t : Task) → slice_get [] i ≡ Some t → ⊥

@@ -9,7 +9,7 @@ use Rattle.cics_browse.specs.Positions.{Position}
 use Rattle.cics_tempstor.specs.Queues.{has_item}
 use Rattle.cics_history.specs.Resources.{most_count}
 use Rattle.cics_machine.proofs.Elements.{get-set, get-pushed}
-use Rattle.cics_history.specs.State.{OpeningState, UnitsState, beginning}
+use Rattle.cics_history.specs.State.{OpeningState, UnitsState, initial_units}
 use Rattle.cics_history.specs.Store.{ts_queue}
 use Rattle.cics_history.specs.Headline.{outcome_of, is_open}
 use Rattle.cics_history.specs.Holding.{store_of, awaited, value_holder}
@@ -21,7 +21,7 @@ use Rattle.cics_history.specs.declared.ops.Done.TheVariants.{Answered, MustWait}
 use Rattle.cics_history.specs.declared.ops.Enqueued.TheVariants.{Taken, CountFull}
 use Rattle.cics_history.specs.declared.ops.UnitState.{UnitState}
 use Rattle.cics_history.specs.declared.ops.UnitState.TheVariants.{Open, Committed, BackedOut}
-use Rattle.cics_machine.specs.Machine.{Machine, Task, Suspended, beginning_region, replaced, with_task, with_units, with_waiting, with_unit, with_browses, units_after, unit_closed, abended, not_waiting}
+use Rattle.cics_machine.specs.Machine.{Machine, Task, Suspended, initial_region, replaced, with_task, with_units, with_waiting, with_unit, with_browses, units_after, unit_closed, abended, not_waiting}
 use Rattle.cics_waits.specs.Notes.{is_unit}
 use Rattle.cics_machine.specs.Steps.{new_task, with_new_task, unlocked, dequeued}
 use Rattle.cics_machine.specs.Tasks.{IsOwn, HasNoOwner, own_label, had_by, had_at}
@@ -159,9 +159,9 @@ owned_stepped m n t owner at there labels owned label tasks each = record {
     by u (inr own) none = none.other at owner (replaced_there t owner label m.tasks at labels there) own
 
 -- a region begins without a unit
-pub owned_begins : (o : OpeningState) → AreUnitsOwned (beginning_region o)
+pub owned_begins : (o : OpeningState) → AreUnitsOwned (initial_region o)
 owned_begins o = record {
-  owned = λ u live none. none_some (live_there (beginning o) u live);
+  owned = λ u live none. none_some (live_there (initial_units o) u live);
 }
 
 -- with one more task each task has the unit that it had

@@ -6,7 +6,7 @@ use Rattle.cics_names.specs.declared.conditions.AbendCode.{AbendCode}
 use Rattle.cics_ksds.specs.declared.definition.FileDef.{FileDef}
 use Rattle.cics_waits.specs.Notes.{is_unit}
 use Rattle.cics_browse.specs.Positions.{Position}
-use Rattle.cics_history.specs.State.{OpeningState, Store, UnitsState, beginning}
+use Rattle.cics_history.specs.State.{OpeningState, Store, UnitsState, initial_units}
 use Rattle.cics_history.specs.Holding.{store_of}
 use Rattle.cics_history.specs.Execution.{after_end}
 use Rattle.cics_history.specs.declared.ops.Op.{Op}
@@ -48,8 +48,8 @@ pub record RegionValue : Type 0 where
   pub store : Store
 
 -- a region begins with no task, and the clock at 0
-abbrev pub beginning_region : OpeningState → Machine
-beginning_region o = record { units = beginning o; tasks = []; waiting = []; clock = 0; is_down = false }
+abbrev pub initial_region : OpeningState → Machine
+initial_region o = record { units = initial_units o; tasks = []; waiting = []; clock = 0; is_down = false }
 
 -- the task of a label, if there is one
 abbrev pub task_at : List Task → Bytes → Option Task

@@ -5,7 +5,7 @@ use Rattle.cics_names.specs.Keyed.{Bytes, value_at}
 use Rattle.cics_ksds.specs.declared.definition.FileDef.{FileDef}
 use Rattle.cics_transdata.specs.declared.queues.Recovery.TheVariants.{Physical}
 use Rattle.cics_history.specs.State.{OpeningState, has_prefix_in, file_recoverable, queue_logical, unpadded, initial_store}
-use Rattle.cics_history.specs.Openings.{nothing_defined, with_file, with_record, with_queue, with_td_record}
+use Rattle.cics_history.specs.Openings.{initial_opening, with_file, with_record, with_queue, with_td_record}
 use Rattle.cics_opening.specs.Faults.{file_fault, load_fault, load_td_fault}
 use Rattle.cics_opening.specs.declared.opening.DefineFault.TheVariants.{Duplicate, BadKey, BadLength, NotThere}
 use lib.Chars.{codes}
@@ -21,17 +21,17 @@ abbrev definition : FileDef
 definition = record { key_length = 4; key_offset = 2; record_size = 10; recoverable = true }
 
 abbrev defined : OpeningState
-defined = with_file nothing_defined acct definition
+defined = with_file initial_opening acct definition
 
 -- files stand in the order of their names, whatever the order of their definitions
-files_in_order : with_file (with_file nothing_defined log definition) acct definition ≡ with_file (with_file nothing_defined acct definition) log definition
+files_in_order : with_file (with_file initial_opening log definition) acct definition ≡ with_file (with_file initial_opening acct definition) log definition
 files_in_order = refl
 
 -- records stand in the order of their keys, and a queue's in the order in which they were loaded
 records_in_order : (initial_store (with_record (with_record defined acct (codes "xx0002")) acct (codes "xx0001y"))).files ≡ (acct, (codes "0001", codes "xx0001y") ∷ (codes "0002", codes "xx0002") ∷ []) ∷ []
 records_in_order = refl
 
-queue_in_order : (initial_store (with_td_record (with_td_record (with_queue nothing_defined log Physical) log (codes "r2")) log (codes "r1"))).td ≡ (log, codes "r2" ∷ codes "r1" ∷ []) ∷ []
+queue_in_order : (initial_store (with_td_record (with_td_record (with_queue initial_opening log Physical) log (codes "r2")) log (codes "r1"))).td ≡ (log, codes "r2" ∷ codes "r1" ∷ []) ∷ []
 queue_in_order = refl
 
 -- ---- a file's definition

@@ -145,7 +145,7 @@ impl Model for Opening {
 
 impl Opening {
     ghost use Rattle.cics_names.specs.Keyed.{has_key, is_key_in};
-    ghost use Rattle.cics_history.specs.Openings.{nothing_defined, with_file, with_record};
+    ghost use Rattle.cics_history.specs.Openings.{initial_opening, with_file, with_record};
     ghost use Rattle.cics_history.specs.Openings.{with_prefix, with_queue, with_td_record};
     ghost use Rattle.cics_history.specs.Openings.{HasLawfulKeys, IsOpeningInOrder};
     ghost use Rattle.cics_history.specs.Store.{is_recoverable};
@@ -159,7 +159,7 @@ impl Opening {
 
     /// Returns an opening that defines nothing. `alloc` gives the memory for all that follows.
     pub fn new(alloc: Global) -> Opening
-        ensures { result ≡ nothing_defined }
+        ensures { result ≡ initial_opening }
     {
         Opening {
             files: Files::new(alloc),

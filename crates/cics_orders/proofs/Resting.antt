@@ -1,7 +1,7 @@
 -- After each line of an order nothing goes on by itself.
 use Rattle.std.proofs.Common.{◌≡◌, ℕ, [], ◌∷◌, Option, None, Some, ap}
 use Rattle.std.specs.Prelude.{slice_get}
-use Rattle.cics_machine.specs.Machine.{Machine, beginning_region}
+use Rattle.cics_machine.specs.Machine.{Machine, initial_region}
 use Rattle.cics_machine.specs.Waking.{woken_first, first_free, expired_task, first_late, IsAtRest}
 use Rattle.cics_script.specs.Lines.{line}
 use Rattle.cics_lanes.specs.Orders.{Order, after}
@@ -20,7 +20,7 @@ none_waits m none = (ap (λ ws. (woken_first m (first_free m ws)).outcome) none,
 
 pub initial_rests : (p : Plan) → IsAtRest (initial_state p).machine
 unfolding initial_state
-initial_rests p = none_waits (initial_machine p) (attaches_wait (beginning_region (opened p.definitions)) p.tasks)
+initial_rests p = none_waits (initial_machine p) (attaches_wait (initial_region (opened p.definitions)) p.tasks)
 
 -- ---- A line
 

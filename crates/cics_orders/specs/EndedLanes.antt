@@ -6,7 +6,7 @@ use Rattle.cics_names.specs.Keyed.{Bytes, is_same}
 use Rattle.cics_names.specs.KeyedLaws.{is_same-self, is_same-eq}
 use Rattle.cics_names.specs.declared.commands.Command.{Command}
 use Rattle.cics_history.specs.declared.ops.UnitState.TheVariants.{BackedOut}
-use Rattle.cics_machine.specs.Machine.{Machine, Task, Suspended, task_at, is_waiting, not_waiting, with_waiting, unit_closed, abended, timed_out, beginning_region}
+use Rattle.cics_machine.specs.Machine.{Machine, Task, Suspended, task_at, is_waiting, not_waiting, with_waiting, unit_closed, abended, timed_out, initial_region}
 use Rattle.cics_machine.specs.Steps.{Stepped, new_task, attach_refusal, with_new_task, refused_or, issued_by, checked, by_op}
 use Rattle.cics_machine.specs.Checks.{fault_of}
 use Rattle.cics_machine.specs.Blockers.{waiting_command}
@@ -26,7 +26,7 @@ use Rattle.cics_lanes.specs.Orders.{Order, after}
 use Rattle.cics_plans.specs.Taking.{NumberedLine}
 use Rattle.cics_plans.specs.declared.plans.Plan.{Plan}
 use Rattle.cics_plans.specs.declared.plans.TaskPlan.{TaskPlan}
-use Rattle.cics_orders.specs.Giving.{State, is_labelled, is_of, is_last, told_more, with_told, hearing, shut, issuing, shutting, attaching, left_by, after_line, late, resumed, drain_step, told_by, drained_once, drained, with_given, counted, ends_turn, given_line, given_by, given, lanes, opened, unless_refused, with_task, task_lane, fresh_lane, initial_state}
+use Rattle.cics_orders.specs.Giving.{State, is_labelled, is_of, is_last, told_more, with_told, hearing, shut, issuing, shutting, attaching, left_by, after_line, late, resumed, drain_step, told_by, drained_once, drained, with_given, counted, ends_turn, given_line, given_by, given, lanes, opened, unless_refused, with_task, task_lane, initial_lane, initial_state}
 use Rattle.cics_orders.specs.EventCases.{step_of, after_heard, issue_cases, clock_cases, attach_cases, drained_keeps}
 use Rattle.cics_orders.specs.declared.lanes.Lane.{Lane}
 use Rattle.cics_orders.specs.Ended.{ended_task, ended_lane, Agrees, IsAccepted, AcceptsReady}
@@ -417,10 +417,10 @@ pub initial_fits : (p : Plan) → Fits (initial_state p)
 unfolding initial_state
 initial_fits p = record {
   agrees = λ y.
-      lanes_more (map task_lane p.tasks) (fresh_lane None p.clock ∷ []) y ∙ or_none (ended_lane (map task_lane p.tasks) y)
-      ∙ attaches_fit p.tasks (beginning_region (opened p.definitions)) [] refl (λ y. refl) y;
-  awake = λ x waits. let clash : false ≡ true = ap (λ ws. is_waiting ws x) (sym (attaches_wait (beginning_region (opened p.definitions)) p.tasks)) ∙ waits in cc;
-  down = λ is x alive. let clash : false ≡ true = sym (attaches_up p.tasks (beginning_region (opened p.definitions)) refl) ∙ is in cc;
+      lanes_more (map task_lane p.tasks) (initial_lane None p.clock ∷ []) y ∙ or_none (ended_lane (map task_lane p.tasks) y)
+      ∙ attaches_fit p.tasks (initial_region (opened p.definitions)) [] refl (λ y. refl) y;
+  awake = λ x waits. let clash : false ≡ true = ap (λ ws. is_waiting ws x) (sym (attaches_wait (initial_region (opened p.definitions)) p.tasks)) ∙ waits in cc;
+  down = λ is x alive. let clash : false ≡ true = sym (attaches_up p.tasks (initial_region (opened p.definitions)) refl) ∙ is in cc;
 }
 
 -- ---- Whoever is ready is not refused

@@ -15,7 +15,7 @@ use Rattle.cics_plans.specs.Proper.{is_command_of, is_timing, has_own_lines, are
 use Rattle.cics_plans.proofs.Proper.{has_first, proper_parts}
 use Rattle.cics_plans.specs.declared.plans.Plan.{Plan}
 use Rattle.cics_plans.specs.declared.plans.TaskPlan.{TaskPlan}
-use Rattle.cics_orders.specs.Giving.{is_of, hearing, shut, with_given, fresh_lane, task_lane, initial_lanes, initial_machine, initial_state}
+use Rattle.cics_orders.specs.Giving.{is_of, hearing, shut, with_given, initial_lane, task_lane, initial_lanes, initial_machine, initial_state}
 use Rattle.cics_orders.specs.Gists.{Gist, gist, gists_hearing, gists_shut}
 use Rattle.cics_orders.specs.declared.lanes.Lane.{Lane}
 use Rattle.cics_orders.specs.Stamps.{seen}
@@ -23,7 +23,7 @@ use Rattle.cics_orders.specs.GivenWaits.{said, last_command, command_of, AreGive
 
 -- a lane before its first line
 abbrev pub frame : Lane → Lane
-frame x = fresh_lane x.label x.lines
+frame x = initial_lane x.label x.lines
 
 -- the core of a lane of this gist
 abbrev core_of : Gist → Lane
@@ -195,7 +195,7 @@ all_at test (y ∷ ys) (suc k) x all at = all_at test ys k x (and_parts (test y)
 
 module _ (clock : List NumberedLine) where
   abbrev all_lanes : List TaskPlan → List Lane
-  all_lanes ts = map task_lane ts ++ fresh_lane None clock ∷ []
+  all_lanes ts = map task_lane ts ++ initial_lane None clock ∷ []
 
   none_have : (ts : List TaskPlan) (label : Bytes) → has_task ts label ≡ false → NoneOf (all_lanes ts) label
   none_have [] label none = (refl, tt)
@@ -226,7 +226,7 @@ apart_initial p proper = apart_tasks p.clock p.tasks (proper_parts p proper).dis
 pub right_initial : (p : Plan) → is_proper p ≡ true → AreRight (initial_lanes p)
 right_initial p proper = right_tasks p.clock p.tasks (proper_parts p proper).own (proper_parts p proper).clock
 
-frames_tasks : (clock : List NumberedLine) (ts : List TaskPlan) → map frame (map task_lane ts ++ fresh_lane None clock ∷ []) ≡ map task_lane ts ++ fresh_lane None clock ∷ []
+frames_tasks : (clock : List NumberedLine) (ts : List TaskPlan) → map frame (map task_lane ts ++ initial_lane None clock ∷ []) ≡ map task_lane ts ++ initial_lane None clock ∷ []
 frames_tasks clock [] = refl
 frames_tasks clock (t ∷ ts) = ap (λ xs. task_lane t ∷ xs) (frames_tasks clock ts)
 

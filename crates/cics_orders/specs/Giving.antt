@@ -6,8 +6,8 @@ use Rattle.cics_names.specs.declared.commands.Command.{Command}
 use Rattle.cics_names.specs.declared.commands.Verb.{Verb}
 use Rattle.cics_names.specs.declared.commands.Verb.TheVariants.{Syncpoint, Rollback, Return, Abend}
 use Rattle.cics_history.specs.State.{OpeningState}
-use Rattle.cics_history.specs.Openings.{nothing_defined}
-use Rattle.cics_machine.specs.Machine.{Machine, beginning_region}
+use Rattle.cics_history.specs.Openings.{initial_opening}
+use Rattle.cics_machine.specs.Machine.{Machine, initial_region}
 use Rattle.cics_machine.specs.Steps.{Stepped, attached, issued}
 use Rattle.cics_machine.specs.Blockers.{waiting_command}
 use Rattle.cics_machine.specs.Waking.{clock_set, woken, expired}
@@ -242,7 +242,7 @@ defined_more o lines = fold (λ o next. defined_by o (line next.1)) o lines
 
 -- what these lines define and load
 abbrev pub opened : List NumberedLine → OpeningState
-opened lines = defined_more nothing_defined lines
+opened lines = defined_more initial_opening lines
 
 -- an event that is refused changes nothing
 abbrev pub unless_refused : {X : Type 0} → Machine → Result X Refused → Machine → Machine
@@ -255,19 +255,19 @@ with_task m t = let step = attaching m t.label t.dtimout in unless_refused m ste
 
 -- the machine before the first order's first line: each task is attached
 abbrev pub initial_machine : Plan → Machine
-initial_machine p = fold with_task (beginning_region (opened p.definitions)) p.tasks
+initial_machine p = fold with_task (initial_region (opened p.definitions)) p.tasks
 
 -- a lane before its first line
-abbrev pub fresh_lane : Option Bytes → List NumberedLine → Lane
-fresh_lane label lines = record { label = label; lines = lines; given = 0; told = []; has_ended = false; is_in_turn = false }
+abbrev pub initial_lane : Option Bytes → List NumberedLine → Lane
+initial_lane label lines = record { label = label; lines = lines; given = 0; told = []; has_ended = false; is_in_turn = false }
 
 -- the lane of a task
 abbrev pub task_lane : TaskPlan → Lane
-task_lane t = fresh_lane (Some t.label) t.lines
+task_lane t = initial_lane (Some t.label) t.lines
 
 -- a lane for each task in the order of attach, the clock's last
 abbrev pub initial_lanes : Plan → List Lane
-initial_lanes p = map task_lane p.tasks ++ fresh_lane None p.clock ∷ []
+initial_lanes p = map task_lane p.tasks ++ initial_lane None p.clock ∷ []
 
 -- the state that each order starts from
 unfoldable pub initial_state : Plan → State

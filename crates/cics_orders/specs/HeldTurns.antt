@@ -25,7 +25,7 @@ use Rattle.cics_plans.specs.Taking.{NumberedLine, has_task}
 use Rattle.cics_plans.specs.Proper.{is_command_of, is_timing, has_own_lines, are_distinct, is_proper}
 use Rattle.cics_plans.specs.declared.plans.Plan.{Plan}
 use Rattle.cics_plans.specs.declared.plans.TaskPlan.{TaskPlan}
-use Rattle.cics_orders.specs.Giving.{State, is_labelled, is_of, told_more, with_told, hearing, after_line, drained_once, drained, may_give, is_ready, givers, is_lane, with_given, counted, ends_turn, given, lanes, task_lane, fresh_lane, initial_lanes, initial_state}
+use Rattle.cics_orders.specs.Giving.{State, is_labelled, is_of, told_more, with_told, hearing, after_line, drained_once, drained, may_give, is_ready, givers, is_lane, with_given, counted, ends_turn, given, lanes, task_lane, initial_lane, initial_lanes, initial_state}
 use Rattle.cics_plans.proofs.Proper.{Proper, proper_parts, has_first}
 use Rattle.cics_orders.specs.EventCases.{after_heard, clock_cases, drained_keeps}
 use Rattle.cics_orders.specs.declared.lanes.Lane.{Lane}
@@ -110,8 +110,8 @@ pub after_sound : (s : State) (o : Order) → Sound s → Sound (after lanes s o
 after_sound s [] sound = sound
 after_sound s (l ∷ o) sound = after_sound (given s l) o (sound_given s l sound)
 
-fresh_turns : (ts : List TaskPlan) (clock : List NumberedLine) (j : ℕ) (g : Gist) → slice_get (map gist (map task_lane ts ++ fresh_lane None clock ∷ [])) j ≡ Some g → g.is_in_turn ≡ false
-fresh_turns [] clock zero g at = let same : gist (fresh_lane None clock) ≡ g = cc in sym (ap (λ (g : Gist). g.is_in_turn) same)
+fresh_turns : (ts : List TaskPlan) (clock : List NumberedLine) (j : ℕ) (g : Gist) → slice_get (map gist (map task_lane ts ++ initial_lane None clock ∷ [])) j ≡ Some g → g.is_in_turn ≡ false
+fresh_turns [] clock zero g at = let same : gist (initial_lane None clock) ≡ g = cc in sym (ap (λ (g : Gist). g.is_in_turn) same)
 fresh_turns [] clock (suc j) g at = cc
 fresh_turns (t ∷ ts) clock zero g at = let same : gist (task_lane t) ≡ g = cc in sym (ap (λ (g : Gist). g.is_in_turn) same)
 fresh_turns (t ∷ ts) clock (suc j) g at = fresh_turns ts clock j g at
@@ -446,10 +446,10 @@ abbrev FromTask : List TaskPlan → ℕ → Lane → Type 0
 FromTask ts j f = (t : TaskPlan) × (slice_get ts j ≡ Some t) × (task_lane t ≡ f)
 
 abbrev FromClock : List TaskPlan → List NumberedLine → ℕ → Lane → Type 0
-FromClock ts clock j f = (j ≡ length ts) × (fresh_lane None clock ≡ f)
+FromClock ts clock j f = (j ≡ length ts) × (initial_lane None clock ≡ f)
 
-from_plan : (ts : List TaskPlan) (clock : List NumberedLine) (j : ℕ) (f : Lane) → slice_get (map task_lane ts ++ fresh_lane None clock ∷ []) j ≡ Some f → FromTask ts j f ⊎ FromClock ts clock j f
-from_plan [] clock zero f at = let same : fresh_lane None clock ≡ f = cc in inr (refl, same)
+from_plan : (ts : List TaskPlan) (clock : List NumberedLine) (j : ℕ) (f : Lane) → slice_get (map task_lane ts ++ initial_lane None clock ∷ []) j ≡ Some f → FromTask ts j f ⊎ FromClock ts clock j f
+from_plan [] clock zero f at = let same : initial_lane None clock ≡ f = cc in inr (refl, same)
 from_plan [] clock (suc j) f at = cc
 from_plan (t ∷ ts) clock zero f at = let same : task_lane t ≡ f = cc in inl (t, refl, same)
 from_plan (t ∷ ts) clock (suc j) f at = by (from_plan ts clock j f at)
@@ -458,7 +458,7 @@ from_plan (t ∷ ts) clock (suc j) f at = by (from_plan ts clock j f at)
     by (inl task) = inl task
     by (inr (is, same)) = inr (ap suc is, same)
 
-lane_count : (ts : List TaskPlan) (clock : List NumberedLine) → length (map task_lane ts ++ fresh_lane None clock ∷ []) ≡ suc (length ts)
+lane_count : (ts : List TaskPlan) (clock : List NumberedLine) → length (map task_lane ts ++ initial_lane None clock ∷ []) ≡ suc (length ts)
 lane_count [] clock = refl
 lane_count (t ∷ ts) clock = ap suc (lane_count ts clock)
 

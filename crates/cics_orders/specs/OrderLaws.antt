@@ -11,7 +11,7 @@ use Rattle.cics_lanes.proofs.Givers.{givers_ordered}
 use Rattle.cics_search.proofs.Regrouping.{Each}
 use Rattle.cics_search.proofs.Ways.{each_append, each_mapped, each_at}
 use Rattle.cics_plans.specs.Taking.{NumberedLine}
-use Rattle.cics_orders.specs.Giving.{State, may_give, is_ready, givers, with_given, ends_turn, given, lanes, task_lane, fresh_lane, initial_lanes, initial_state, line_count}
+use Rattle.cics_orders.specs.Giving.{State, may_give, is_ready, givers, with_given, ends_turn, given, lanes, task_lane, initial_lane, initial_lanes, initial_state, line_count}
 use Rattle.cics_plans.specs.declared.plans.TaskPlan.{TaskPlan}
 use Rattle.cics_orders.specs.Gists.{Gist, gist, Gave, gave, gives_line, stays_given}
 use Rattle.cics_orders.specs.declared.lanes.Lane.{Lane}
@@ -108,7 +108,7 @@ orders_end (suc n) s few =
 -- ---- The initial state
 
 left_tasks : (n m : ℕ) (ts : List TaskPlan) (clock : List NumberedLine) → n ≡ m + length clock →
-    fold (λ n t. n + length t.lines) n ts ≡ m + left (map gist (map task_lane ts ++ fresh_lane None clock ∷ []))
+    fold (λ n t. n + length t.lines) n ts ≡ m + left (map gist (map task_lane ts ++ initial_lane None clock ∷ []))
 left_tasks n m [] clock is = omega (arith, is)
 left_tasks n m (t ∷ ts) clock is = left_tasks (n + length t.lines) (m + length t.lines) ts clock (omega (arith, is)) ∙ omega arith
 

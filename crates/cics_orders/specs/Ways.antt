@@ -9,10 +9,10 @@ use Rattle.cics_names.specs.KeyedLaws.{is_same-self, is_same-eq, value_at-with_v
 use Rattle.cics_names.specs.declared.commands.Command.{Command}
 use Rattle.cics_ksds.specs.Files.{key_of}
 use Rattle.cics_history.specs.State.{OpeningState, FileOpening, QueueOpening}
-use Rattle.cics_history.specs.Openings.{nothing_defined, loaded_file, is_in_order, IsOpeningInOrder}
+use Rattle.cics_history.specs.Openings.{initial_opening, loaded_file, is_in_order, IsOpeningInOrder}
 use Rattle.cics_history.specs.declared.ops.UnitState.TheVariants.{BackedOut}
 use Rattle.cics_history.proofs.Maps.{rising-with_value}
-use Rattle.cics_machine.specs.Machine.{Machine, Task, Suspended, is_waiting, with_waiting, unit_closed, beginning_region}
+use Rattle.cics_machine.specs.Machine.{Machine, Task, Suspended, is_waiting, with_waiting, unit_closed, initial_region}
 use Rattle.cics_machine.specs.Steps.{Stepped, attached}
 use Rattle.cics_machine.specs.Checks.{fault_of}
 use Rattle.cics_machine.specs.Blockers.{waiting_command}
@@ -97,7 +97,7 @@ more_in_order [] o order = order
 more_in_order (next ∷ lines) o order = more_in_order lines (defined_by o (line next.1)) (defined_in_order o order (line next.1))
 
 opened_in_order : (lines : List NumberedLine) → IsOpeningInOrder (opened lines)
-opened_in_order lines = more_in_order lines nothing_defined (record { files = refl; records = λ f. refl; queues = refl })
+opened_in_order lines = more_in_order lines initial_opening (record { files = refl; records = λ f. refl; queues = refl })
 
 -- ---- The initial state
 
@@ -303,7 +303,7 @@ module _ (p : Plan) (proper : is_proper p ≡ true) where
   holds_initial : Holds p (initial_state p)
   unfolding initial_state
   holds_initial =
-      let begun = beginning_region (opened p.definitions) in
+      let begun = initial_region (opened p.definitions) in
       record {
         plan = refl;
         steady = tasks_steady p.tasks begun (same_begins (opened p.definitions) (opened_in_order p.definitions)).first;

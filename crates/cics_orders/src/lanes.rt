@@ -1,9 +1,9 @@
 //! Lanes, and what their tasks are told.
 
 ghost use Rattle.std.specs.Prelude.{◌≡◌, ◌<◌, [], ◌∷◌, ◌++◌, None, IfOk, OnOk, length, map};
-ghost use Rattle.cics_orders.specs.Giving.{fresh_lane, task_lane, is_of, is_last};
+ghost use Rattle.cics_orders.specs.Giving.{initial_lane, task_lane, is_of, is_last};
 ghost use Rattle.cics_orders.specs.GivenLanes.{frame};
-ghost use Rattle.cics_plans.specs.Firsts.{first_place};
+ghost use Rattle.cics_plans.specs.Firsts.{first_index};
 ghost use Rattle.cics_orders.specs.Giving.{told_more, with_told, hearing, with_given, shut};
 
 use crate::lines::Lines;
@@ -42,7 +42,7 @@ pub(crate) fn is_last(outcome: &Outcome) -> bool
 impl Lane {
     // Returns a lane of which no line is given.
     fn new(alloc: Global, label: Option<Name8>, lines: Lines) -> Lane
-        ensures { result ≡ fresh_lane label lines }
+        ensures { result ≡ initial_lane label lines }
     {
         Lane {
             label,
@@ -91,7 +91,7 @@ pub(crate) fn initial_lanes(
     clock: Lines,
 ) -> Result<Vec<Lane>, NoMemory>
     ensures { IfOk result (λ lanes. lanes.items
-        ≡ map task_lane tasks.now ++ fresh_lane None clock ∷ []) }
+        ≡ map task_lane tasks.now ++ initial_lane None clock ∷ []) }
 {
     let mut lanes = Vec::new(alloc);
     for task in tasks {
@@ -115,7 +115,7 @@ pub(crate) fn fresh_lanes(alloc: Global, lanes: &[Lane]) -> Result<Vec<Lane>, No
 
 // Returns the index of the lane of a label.
 fn index_of(lanes: &[Lane], label: &Name8) -> Option<usize>
-    ensures { result ≡ first_place (λ lane. is_of lane label.now) lanes.now }
+    ensures { result ≡ first_index (λ lane. is_of lane label.now) lanes.now }
 {
     for i in 0..lanes.len() {
         if lanes[i].is_of(label) {

@@ -2,7 +2,7 @@
 
 ghost use Rattle.std.specs.Prelude.{◌≡◌, IfOk, OnOk};
 ghost use Rattle.cics_script.specs.Lines.{line};
-ghost use Rattle.cics_machine.specs.Machine.{beginning_region};
+ghost use Rattle.cics_machine.specs.Machine.{initial_region};
 ghost use Rattle.std.specs.List.{fold};
 ghost use Rattle.cics_plans.specs.Defining.{defined_by};
 ghost use Rattle.cics_orders.specs.Giving.{defined_more, opened, with_task};
@@ -61,7 +61,7 @@ fn attach(region: &mut Region, task: &TaskPlan) -> Result<(), NoMemory>
 
 // Returns the region of an opening.
 fn region_of(opening: Opening) -> Result<Region, NoMemory>
-    ensures { IfOk result (λ region. region.machine ≡ beginning_region opening) }
+    ensures { IfOk result (λ region. region.machine ≡ initial_region opening) }
 {
     match Region::new(opening) {
         Ok(region) => Ok(region),
@@ -85,7 +85,7 @@ fn attach_all(region: &mut Region, tasks: &[TaskPlan]) -> Result<(), NoMemory>
 /// Errors: `NoMemory`.
 pub(crate) fn initial_region(opening: &Opening, tasks: &[TaskPlan]) -> Result<Region, NoMemory>
     ensures { IfOk result (λ region. region.machine
-        ≡ fold with_task (beginning_region opening.now) tasks.now) }
+        ≡ fold with_task (initial_region opening.now) tasks.now) }
 {
     let mut region = region_of(opening.copy()?)?;
     attach_all(&mut region, tasks)?;

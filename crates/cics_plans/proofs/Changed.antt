@@ -1,27 +1,27 @@
 -- The first element of a list that is one is changed; each element is.
 use Rattle.std.proofs.Common.{◌≡◌, ◌<◌, ℕ, zero, suc, Bool, true, false, List, [], ◌∷◌, ◌++◌, map, length, take, drop, get_or, Option, None, Some, option_map, refl, ap, sym, ◌∙◌, arith}
 use Rattle.std.specs.Prelude.{slice_set, if◌then◌else◌}
-use Rattle.cics_plans.specs.Firsts.{first_place, with_first}
+use Rattle.cics_plans.specs.Firsts.{first_index, with_first}
 
 -- where none is one, nothing is changed
-pub first_none : {X : Type 0} (is : X → Bool) (change : X → X) (xs : List X) → first_place is xs ≡ None → with_first is change xs ≡ xs
+pub first_none : {X : Type 0} (is : X → Bool) (change : X → X) (xs : List X) → first_index is xs ≡ None → with_first is change xs ≡ xs
 first_none is change [] none = refl
-first_none {X} is change (x ∷ xs) none = by (first_none is change xs) (is x) (first_place is xs) refl none
+first_none {X} is change (x ∷ xs) none = by (first_none is change xs) (is x) (first_index is xs) refl none
   where
-    by : (first_place is xs ≡ None → with_first is change xs ≡ xs) → (b : Bool) (p : Option ℕ) → first_place is xs ≡ p →
+    by : (first_index is xs ≡ None → with_first is change xs ≡ xs) → (b : Bool) (p : Option ℕ) → first_index is xs ≡ p →
         (if b then Some 0 else option_map suc p) ≡ None → (if b then change x ∷ xs else x ∷ with_first is change xs) ≡ x ∷ xs
     by rest true p at none = absurd (grind (arith, none))
     by rest false None at none = ap (λ ys. x ∷ ys) (rest at)
     by rest false (Some n) at none = absurd (grind (arith, none))
 
 -- else the one at that place is
-pub first_at : {X : Type 0} (is : X → Bool) (change : X → X) (xs : List X) (n : ℕ) (d : X) → first_place is xs ≡ Some n →
+pub first_at : {X : Type 0} (is : X → Bool) (change : X → X) (xs : List X) (n : ℕ) (d : X) → first_index is xs ≡ Some n →
     (n < length xs) × (with_first is change xs ≡ slice_set xs n (change (get_or xs n d)))
 first_at is change [] n d place = absurd (grind (arith, place))
-first_at {X} is change (x ∷ xs) n d place = by (first_at is change xs) (is x) (first_place is xs) n refl place
+first_at {X} is change (x ∷ xs) n d place = by (first_at is change xs) (is x) (first_index is xs) n refl place
   where
-    by : ((n : ℕ) (d : X) → first_place is xs ≡ Some n → (n < length xs) × (with_first is change xs ≡ slice_set xs n (change (get_or xs n d)))) →
-        (b : Bool) (p : Option ℕ) (n : ℕ) → first_place is xs ≡ p → (if b then Some 0 else option_map suc p) ≡ Some n →
+    by : ((n : ℕ) (d : X) → first_index is xs ≡ Some n → (n < length xs) × (with_first is change xs ≡ slice_set xs n (change (get_or xs n d)))) →
+        (b : Bool) (p : Option ℕ) (n : ℕ) → first_index is xs ≡ p → (if b then Some 0 else option_map suc p) ≡ Some n →
         (n < length (x ∷ xs)) × ((if b then change x ∷ xs else x ∷ with_first is change xs) ≡ slice_set (x ∷ xs) n (change (get_or (x ∷ xs) n d)))
     by rest true p zero at place = (omega arith, refl)
     by rest true p (suc n) at place = absurd (grind (arith, place))
@@ -34,18 +34,18 @@ first_at {X} is change (x ∷ xs) n d place = by (first_at is change xs) (is x) 
 
 -- the same of a place that is found in a view of the list
 module _ {X : Type 0} (is : X → Bool) (xs seen : List X) (same : seen ≡ xs) where
-  pub within : (n : ℕ) → first_place is seen ≡ Some n → n < length xs
-  within n place = by xs (ap (first_place is) (sym same) ∙ place)
+  pub within : (n : ℕ) → first_index is seen ≡ Some n → n < length xs
+  within n place = by xs (ap (first_index is) (sym same) ∙ place)
     where
-      by : (xs : List X) → first_place is xs ≡ Some n → n < length xs
+      by : (xs : List X) → first_index is xs ≡ Some n → n < length xs
       by [] place = absurd (grind (arith, place))
       by (x ∷ xs) place = (first_at is (λ x. x) (x ∷ xs) n x place).0
 
-  pub changed : (change : X → X) (n : ℕ) (x y : X) → first_place is seen ≡ Some n → x ≡ get_or xs n x → y ≡ change x → slice_set xs n y ≡ with_first is change xs
-  changed change n x y place at new = ap (slice_set xs n) (new ∙ ap change at) ∙ sym (first_at is change xs n x (ap (first_place is) (sym same) ∙ place)).1
+  pub changed : (change : X → X) (n : ℕ) (x y : X) → first_index is seen ≡ Some n → x ≡ get_or xs n x → y ≡ change x → slice_set xs n y ≡ with_first is change xs
+  changed change n x y place at new = ap (slice_set xs n) (new ∙ ap change at) ∙ sym (first_at is change xs n x (ap (first_index is) (sym same) ∙ place)).1
 
-  pub unchanged : (change : X → X) → first_place is seen ≡ None → xs ≡ with_first is change xs
-  unchanged change none = sym (first_none is change xs (ap (first_place is) (sym same) ∙ none))
+  pub unchanged : (change : X → X) → first_index is seen ≡ None → xs ≡ with_first is change xs
+  unchanged change none = sym (first_none is change xs (ap (first_index is) (sym same) ∙ none))
 
 -- a list whose elements are changed one after the other, a step further
 pub map_step : {X : Type 0} (f : X → X) (xs : List X) (i : ℕ) (d : X) → i < length xs →

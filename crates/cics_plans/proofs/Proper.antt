@@ -12,9 +12,9 @@ use Rattle.cics_script.specs.declared.lines.Line.{Line}
 use Rattle.cics_script.specs.declared.lines.Line.TheVariants as says
 use Rattle.cics_script.specs.declared.faults.LineFault.{LineFault}
 use Rattle.cics_script.specs.declared.faults.LineFault.TheVariants.{DefineTooLate}
-use Rattle.cics_plans.specs.Firsts.{first_place}
+use Rattle.cics_plans.specs.Firsts.{first_index}
 use Rattle.cics_plans.specs.Defining.{define_fault, defined_by}
-use Rattle.cics_plans.specs.Taking.{NumberedLine, Taken, nothing_taken, accepted, defined, faulty, is_task, has_task, with_line, line_added, with_refused, attached, issued, timed, taken_more, behind, taken_apart, planned}
+use Rattle.cics_plans.specs.Taking.{NumberedLine, Taken, initial_taken, accepted, defined, faulty, is_task, has_task, with_line, line_added, with_refused, attached, issued, timed, taken_more, behind, taken_apart, planned}
 use Rattle.cics_plans.specs.Proper.{is_command_of, is_timing, has_own_lines, are_distinct, is_proper}
 use Rattle.cics_plans.specs.declared.plans.TaskPlan.{TaskPlan}
 use Rattle.cics_plans.specs.declared.plans.Plan.{Plan}
@@ -67,7 +67,7 @@ here_or false (Some n) = refl
 
 -- the first task has the label, or one behind it
 pub has_first : (t : TaskPlan) (ts : List TaskPlan) (label : Bytes) → has_task (t ∷ ts) label ≡ (if is_same t.label label then true else has_task ts label)
-has_first t ts label = here_or (is_same t.label label) (first_place (λ task. is_task task label) ts)
+has_first t ts label = here_or (is_same t.label label) (first_index (λ task. is_task task label) ts)
 
 -- the label of an other task
 other_way : (a b : Bytes) → is_same a b ≡ false → is_same b a ≡ false
@@ -205,12 +205,12 @@ apart_proper t n (bytes ∷ rest) u proper is =
     by more (Some f) v proper is = cc
 
 -- a script is taken apart into a proper plan
-pub planned_proper : (lines : List Bytes) (p : Planned) → planned (taken_apart nothing_taken 1 lines) ≡ Ok p → is_proper p.plan ≡ true
-planned_proper lines p = by (taken_apart nothing_taken 1 lines) refl
+pub planned_proper : (lines : List Bytes) (p : Planned) → planned (taken_apart initial_taken 1 lines) ≡ Ok p → is_proper p.plan ≡ true
+planned_proper lines p = by (taken_apart initial_taken 1 lines) refl
   where
-    by : (r : Result Taken (ℕ × ScriptFault)) → taken_apart nothing_taken 1 lines ≡ r → planned r ≡ Ok p → is_proper p.plan ≡ true
+    by : (r : Result Taken (ℕ × ScriptFault)) → taken_apart initial_taken 1 lines ≡ r → planned r ≡ Ok p → is_proper p.plan ≡ true
     by (Err f) at is = cc
     by (Ok u) at is =
         let same : record { plan = u.plan; refused = u.refused } ≡ p = cc in
         ap (λ (p : Planned). is_proper p.plan) (sym same)
-        ∙ proper_whole u.plan (apart_proper nothing_taken 1 lines u (record { distinct = refl; own = refl; clock = refl }) at)
+        ∙ proper_whole u.plan (apart_proper initial_taken 1 lines u (record { distinct = refl; own = refl; clock = refl }) at)

@@ -7,7 +7,7 @@ use Rattle.cics_opening.specs.declared.opening.DefineFault.TheVariants.{NotThere
 use Rattle.cics_machine.specs.declared.outcomes.Refused.TheVariants.{NoTask, DuplicateLabel}
 use Rattle.cics_script.specs.declared.faults.LineFault.TheVariants.{DefineTooLate, MissingOption}
 use Rattle.cics_plans.specs.Defining.{defined_by}
-use Rattle.cics_plans.specs.Taking.{nothing_taken, taken_apart, planned}
+use Rattle.cics_plans.specs.Taking.{initial_taken, taken_apart, planned}
 use Rattle.cics_plans.specs.declared.plans.ScriptFault.TheVariants as fault
 
 -- the label A
@@ -20,7 +20,7 @@ t = 0xE3 ∷ 0x40 ∷ 0x40 ∷ 0x40 ∷ []
 
 -- A command before its ATTACH is refused, and so is the second ATTACH of a label. The clock has the lines that set it or shut
 -- the region down.
-apart : planned (taken_apart nothing_taken 1
+apart : planned (taken_apart initial_taken 1
     (codes "* a comment"
     ∷ codes "DEFINE TDQUEUE('Q') LOGICAL"
     ∷ codes "A EXEC CICS SYNCPOINT"
@@ -43,16 +43,16 @@ unfolding taken_apart defined_by code_of
 apart = refl
 
 -- a load of a queue that isn't defined
-no_queue : planned (taken_apart nothing_taken 1 (codes "" ∷ codes "LOAD TDQUEUE('Q') FROM('x')" ∷ codes "ATTACH A" ∷ [])) ≡ Err (2, fault.Definition NotThere)
+no_queue : planned (taken_apart initial_taken 1 (codes "" ∷ codes "LOAD TDQUEUE('Q') FROM('x')" ∷ codes "ATTACH A" ∷ [])) ≡ Err (2, fault.Definition NotThere)
 unfolding taken_apart defined_by code_of
 no_queue = refl
 
 -- a definition behind a line that is refused
-too_late : planned (taken_apart nothing_taken 1 (codes "A EXEC CICS RETURN" ∷ codes "DEFINE TDQUEUE('Q') LOGICAL" ∷ [])) ≡ Err (2, fault.Line DefineTooLate)
+too_late : planned (taken_apart initial_taken 1 (codes "A EXEC CICS RETURN" ∷ codes "DEFINE TDQUEUE('Q') LOGICAL" ∷ [])) ≡ Err (2, fault.Line DefineTooLate)
 unfolding taken_apart defined_by code_of
 too_late = refl
 
 -- a line that lacks an option
-unread : planned (taken_apart nothing_taken 1 (codes "ATTACH A" ∷ codes "DEFINE TDQUEUE('Q') LOGICAL" ∷ [])) ≡ Err (1, fault.Line MissingOption)
+unread : planned (taken_apart initial_taken 1 (codes "ATTACH A" ∷ codes "DEFINE TDQUEUE('Q') LOGICAL" ∷ [])) ≡ Err (1, fault.Line MissingOption)
 unfolding taken_apart defined_by code_of
 unread = refl

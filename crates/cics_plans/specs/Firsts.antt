@@ -2,9 +2,9 @@
 use Rattle.std.specs.Prelude.{ℕ, suc, Bool, if◌then◌else◌, List, [], ◌∷◌, Option, Some, None, option_map}
 
 -- the index of the first that is one
-abbrev pub first_place : {X : Type 0} → (X → Bool) → List X → Option ℕ
-first_place is [] = None
-first_place is (x ∷ xs) = if is x then Some 0 else option_map suc (first_place is xs)
+abbrev pub first_index : {X : Type 0} → (X → Bool) → List X → Option ℕ
+first_index is [] = None
+first_index is (x ∷ xs) = if is x then Some 0 else option_map suc (first_index is xs)
 
 -- the first that is one is changed
 abbrev pub with_first : {X : Type 0} → (X → Bool) → (X → X) → List X → List X

@@ -3,7 +3,7 @@
 use Rattle.std.specs.Prelude.{◌≡◌, ℕ, ◌+◌, Bool, true, false, if◌then◌else◌, List, [], ◌∷◌, ◌++◌, Option, Some, None, is_some, Result, Ok, Err, IfOk}
 use Rattle.cics_names.specs.Keyed.{Bytes, is_same}
 use Rattle.cics_history.specs.State.{OpeningState}
-use Rattle.cics_history.specs.Openings.{nothing_defined}
+use Rattle.cics_history.specs.Openings.{initial_opening}
 use Rattle.cics_opening.specs.declared.opening.DefineFault.{DefineFault}
 use Rattle.cics_machine.specs.declared.outcomes.Refused.{Refused}
 use Rattle.cics_machine.specs.declared.outcomes.Refused.TheVariants.{NoTask, DuplicateLabel}
@@ -12,7 +12,7 @@ use Rattle.cics_script.specs.declared.lines.Line.{Line}
 use Rattle.cics_script.specs.declared.lines.Line.TheVariants.{Blank, Attach, Clock, Issue, Shutdown}
 use Rattle.cics_script.specs.declared.faults.LineFault.{LineFault}
 use Rattle.cics_script.specs.declared.faults.LineFault.TheVariants.{DefineTooLate}
-use Rattle.cics_plans.specs.Firsts.{first_place, with_first}
+use Rattle.cics_plans.specs.Firsts.{first_index, with_first}
 use Rattle.cics_plans.specs.Defining.{define_fault, defined_by}
 use Rattle.cics_plans.specs.declared.plans.TaskPlan.{TaskPlan}
 use Rattle.cics_plans.specs.declared.plans.Plan.{Plan}
@@ -39,8 +39,8 @@ pub record Step : Type 0 where
   pub fault : Option ScriptFault
 
 -- before the first line
-abbrev pub nothing_taken : Taken
-nothing_taken = record { opening = nothing_defined; is_opening = true; plan = record { definitions = []; tasks = []; clock = [] }; refused = [] }
+abbrev pub initial_taken : Taken
+initial_taken = record { opening = initial_opening; is_opening = true; plan = record { definitions = []; tasks = []; clock = [] }; refused = [] }
 
 -- a line without a fault
 abbrev pub good : Taken → Step
@@ -72,7 +72,7 @@ is_task task label = is_same task.label label
 
 -- whether one of these tasks has a label
 abbrev pub has_task : List TaskPlan → Bytes → Bool
-has_task tasks label = is_some (first_place (λ task. is_task task label) tasks)
+has_task tasks label = is_some (first_index (λ task. is_task task label) tasks)
 
 -- a task with a line more
 abbrev pub with_line : TaskPlan → NumberedLine → TaskPlan

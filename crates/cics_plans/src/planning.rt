@@ -2,8 +2,8 @@
 
 ghost use Rattle.std.specs.Prelude.{◌≡◌, OnOk, IfOk};
 ghost use Rattle.cics_script.specs.Lines.{line};
-ghost use Rattle.cics_plans.specs.Firsts.{first_place};
-ghost use Rattle.cics_plans.specs.Taking.{TakesLine, nothing_taken, taken_more, followed};
+ghost use Rattle.cics_plans.specs.Firsts.{first_index};
+ghost use Rattle.cics_plans.specs.Taking.{TakesLine, initial_taken, taken_more, followed};
 ghost use Rattle.cics_plans.specs.Taking.{is_task, line_added, attached, issued};
 ghost use Rattle.cics_plans.specs.Taking.{timed, defined, with_refused, taken_apart, planned};
 
@@ -49,7 +49,7 @@ impl Model for Planner {
 
 // Returns the index of the task of a label.
 fn index_of(tasks: &[TaskPlan], label: &Name8) -> Option<usize>
-    ensures { result ≡ first_place (λ task. is_task task label.now) tasks.now }
+    ensures { result ≡ first_index (λ task. is_task task label.now) tasks.now }
 {
     for i in 0..tasks.len() {
         if is_same(&tasks[i].label, label) {
@@ -72,7 +72,7 @@ fn add_line(tasks: &mut Vec<TaskPlan>, label: &Name8, next: (u64, Record)) -> Re
 impl Planner {
     // Returns a planner of no line.
     fn new(alloc: Global) -> Planner
-        ensures { result ≡ nothing_taken }
+        ensures { result ≡ initial_taken }
     {
         Planner {
             alloc,
@@ -213,7 +213,7 @@ pub fn plan_of(
     alloc: Global,
     lines: &[Record],
 ) -> Result<Result<Planned, (u64, ScriptFault)>, NoMemory>
-    ensures { IfOk result (λ plan. plan ≡ planned (taken_apart nothing_taken 1 lines.now)) }
+    ensures { IfOk result (λ plan. plan ≡ planned (taken_apart initial_taken 1 lines.now)) }
 {
     let mut planner = Planner::new(alloc);
     for i in 0..lines.len() {

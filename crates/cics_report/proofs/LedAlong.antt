@@ -5,7 +5,7 @@ use Rattle.std.proofs.lemmas.List.{map-append}
 use Rattle.std.specs.Prelude.{if◌then◌else◌, is_some, slice_get, slice_set}
 use Rattle.std.specs.List.{fold}
 use Rattle.cics_names.specs.Keyed.{Bytes}
-use Rattle.cics_machine.specs.Machine.{Machine, task_at, beginning_region}
+use Rattle.cics_machine.specs.Machine.{Machine, task_at, initial_region}
 use Rattle.cics_machine.specs.declared.outcomes.Outcome.{Outcome}
 use Rattle.cics_machine.specs.declared.outcomes.Refused.{Refused}
 use Rattle.cics_script.specs.Lines.{line}
@@ -15,24 +15,24 @@ use Rattle.cics_script.specs.declared.faults.LineFault.{LineFault}
 use Rattle.cics_session.specs.Lines.{all_lines}
 use Rattle.cics_session.specs.Running.{Played, next, stepped, start}
 use Rattle.cics_stage.specs.Settling.{region_at}
-use Rattle.cics_stage.specs.Stages.{region_of, first_stage, silent, followed}
+use Rattle.cics_stage.specs.Stages.{region_of, initial_stage, silent, followed}
 use Rattle.cics_lanes.specs.Orders.{Order, after, IsOneOf, IsWay}
 use Rattle.cics_search.proofs.Regrouping.{Each}
 use Rattle.cics_lanes.proofs.Orders.{after-append, way-append}
-use Rattle.cics_plans.specs.Taking.{NumberedLine, nothing_taken, taken_apart, planned}
+use Rattle.cics_plans.specs.Taking.{NumberedLine, initial_taken, taken_apart, planned}
 use Rattle.cics_plans.specs.Proper.{is_proper}
 use Rattle.cics_plans.proofs.Proper.{proper_parts, planned_proper}
 use Rattle.cics_plans.specs.declared.plans.Plan.{Plan}
 use Rattle.cics_plans.specs.declared.plans.Planned.{Planned}
 use Rattle.cics_plans.specs.declared.plans.TaskPlan.{TaskPlan}
-use Rattle.cics_orders.specs.Giving.{State, is_of, hearing, shut, issuing, timing, shutting, left_by, after_line, drain_step, told_by, drained_once, after_step, drained_within, drained, may_give, is_ready, givers, with_given, counted, ends_turn, given_line, given_by, given, lanes, opened, task_lane, fresh_lane, initial_state}
+use Rattle.cics_orders.specs.Giving.{State, is_of, hearing, shut, issuing, timing, shutting, left_by, after_line, drain_step, told_by, drained_once, after_step, drained_within, drained, may_give, is_ready, givers, with_given, counted, ends_turn, given_line, given_by, given, lanes, opened, task_lane, initial_lane, initial_state}
 use Rattle.cics_orders.specs.OrderLaws.{May, numbers_may}
 use Rattle.cics_orders.specs.GivenLanes.{frame, core, core_hearing, core_shut, IsRight, AreApart, AreRight, none_at, apart_frames, right_frames, right_at, apart_initial, right_initial}
 use Rattle.cics_orders.specs.Ended.{ended_lane, AcceptsReady}
 use Rattle.cics_orders.specs.EndedLanes.{orders_accept}
 use Rattle.cics_orders.specs.Ways.{Holds, holds_along, label_of_lane, right_command, one_of}
 use Rattle.cics_orders.specs.declared.lanes.Lane.{Lane}
-use Rattle.cics_report.specs.Along.{Along, lines_of, lane_lines, with_next, given_more, nothing_given}
+use Rattle.cics_report.specs.Along.{Along, lines_of, lane_lines, with_next, given_more, initial_along}
 use Rattle.cics_report.specs.Reporting.{script_text}
 use Rattle.cics_report.specs.Leads.{machine_of, IsNotRefused, AcceptsLine, AcceptsLines, LeadsTo, ScriptsLeadThere}
 use Rattle.cics_report.proofs.ScriptLines.{run_lines, run_bytes, lines_again, all_texts}
@@ -99,7 +99,7 @@ count_at [] l x at = cc
 count_at (y ∷ ys) zero x at = let same : y ≡ x = cc in ap (λ (z : Lane). z.given) same
 count_at (y ∷ ys) (suc l) x at = count_at ys l x at
 
-counts_first : (ts : List TaskPlan) (clock : List NumberedLine) → replicate (length ts + 1) 0 ≡ counts (map task_lane ts ++ fresh_lane None clock ∷ [])
+counts_first : (ts : List TaskPlan) (clock : List NumberedLine) → replicate (length ts + 1) 0 ≡ counts (map task_lane ts ++ initial_lane None clock ∷ [])
 counts_first [] clock = refl
 counts_first (t ∷ ts) clock =
     let longer : length (t ∷ ts) + 1 ≡ suc (length ts + 1) = omega arith in
@@ -112,9 +112,9 @@ frame_at [] l x at = cc
 frame_at (y ∷ ys) zero x at = let same : y ≡ x = cc in ap (λ z. Some (frame z)) same
 frame_at (y ∷ ys) (suc l) x at = frame_at ys l x at
 
-lines_at : (clock : List NumberedLine) (ts : List TaskPlan) (l : ℕ) (x : Lane) → slice_get (map task_lane ts ++ fresh_lane None clock ∷ []) l ≡ Some x →
+lines_at : (clock : List NumberedLine) (ts : List TaskPlan) (l : ℕ) (x : Lane) → slice_get (map task_lane ts ++ initial_lane None clock ∷ []) l ≡ Some x →
     lines_of clock (slice_get ts l) ≡ x.lines
-lines_at clock [] zero x at = let same : fresh_lane None clock ≡ x = cc in ap (λ (z : Lane). z.lines) same
+lines_at clock [] zero x at = let same : initial_lane None clock ≡ x = cc in ap (λ (z : Lane). z.lines) same
 lines_at clock [] (suc l) x at = cc
 lines_at clock (t ∷ ts) zero x at = let same : task_lane t ≡ x = cc in ap (λ (z : Lane). z.lines) same
 lines_at clock (t ∷ ts) (suc l) x at = lines_at clock ts l x at
@@ -232,24 +232,24 @@ module _ (q : Played) (p : Plan) (proper : is_proper p ≡ true) (before : List 
 -- ---- A script
 
 -- a run that nothing is defined in goes the way of an order by its lines
-pub run_leads : (q : Played) → q.fault ≡ None → q.stage ≡ first_stage → (script : List Bytes) (p : Planned) (o : Order) →
-    planned (taken_apart nothing_taken 1 script) ≡ Ok p → IsWay lanes (initial_state p.plan) o →
+pub run_leads : (q : Played) → q.fault ≡ None → q.stage ≡ initial_stage → (script : List Bytes) (p : Planned) (o : Order) →
+    planned (taken_apart initial_taken 1 script) ≡ Ok p → IsWay lanes (initial_state p.plan) o →
     LeadsTo q (after lanes (initial_state p.plan) o).machine (run_lines p.plan o)
 unfolding initial_state
 run_leads q none start script taken o is way =
     let p = taken.plan in
     let proper = planned_proper script taken is in
     let sound = planned_sound q none start script taken is in
-    let m = beginning_region (opened p.definitions) in
+    let m = initial_region (opened p.definitions) in
     let before = bytes_of p.definitions in
     let defined : LeadsTo q m before
     = record { fault = sound.defines.fault; accepts = sound.defines.accepts; region = ap region_of sound.defines.stage } in
     let attached = attaches q p.tasks m before (proper_parts p proper).distinct sound.attaches (record { up = refl; idle = refl; fresh = first p.tasks }) defined in
     let tasks = bytes_of (map (λ t. t.attach) p.tasks) in
-    let led : Led q (initial_state p) (before ++ tasks) (nothing_given p)
+    let led : Led q (initial_state p) (before ++ tasks) (initial_along p)
     = record { counts = counts_first p.tasks p.clock; leads = subst (LeadsTo q (initial_state p).machine) (sym (append-nil (before ++ tasks))) attached } in
-    subst (LeadsTo q (after lanes (initial_state p) o).machine) (append_assoc before tasks (bytes_of (fold (given_more p) (nothing_given p) o).1))
-    (way_led q p proper (before ++ tasks) [] tt (nothing_given p) led o way).leads
+    subst (LeadsTo q (after lanes (initial_state p) o).machine) (append_assoc before tasks (bytes_of (fold (given_more p) (initial_along p) o).1))
+    (way_led q p proper (before ++ tasks) [] tt (initial_along p) led o way).leads
   where
     first : (ts : List TaskPlan) → Each (λ (t : TaskPlan). task_at [] t.label ≡ None) ts
     first [] = tt
@@ -276,8 +276,8 @@ scripts_lead script p r k e is way titled =
     lines : List Bytes
     lines = title r k e ∷ run_lines p.plan e.order
 
-    behind : q ≡ stepped start (title r k e) (silent first_stage)
-    behind = ap (λ says. stepped start (title r k e) (followed 1 first_stage says)) comment
+    behind : q ≡ stepped start (title r k e) (silent initial_stage)
+    behind = ap (λ says. stepped start (title r k e) (followed 1 initial_stage says)) comment
 
     led : LeadsTo q m (run_lines p.plan e.order)
     led = run_leads q (ap (λ (q : Played). q.fault) behind) (ap (λ (q : Played). q.stage) behind) script p e.order is way

@@ -7,7 +7,7 @@ use Rattle.std.specs.Prelude.{if◌then◌else◌, is_some}
 use Rattle.std.specs.List.{fold}
 use Rattle.cics_names.specs.Keyed.{Bytes}
 use Rattle.cics_history.specs.State.{OpeningState}
-use Rattle.cics_history.specs.Openings.{nothing_defined, with_file, with_record, with_prefix, with_queue, with_td_record}
+use Rattle.cics_history.specs.Openings.{initial_opening, with_file, with_record, with_prefix, with_queue, with_td_record}
 use Rattle.cics_opening.specs.declared.opening.DefineFault.{DefineFault}
 use Rattle.cics_machine.specs.Machine.{Machine}
 use Rattle.cics_machine.specs.declared.outcomes.Refused.TheVariants.{DuplicateLabel, NoTask}
@@ -20,7 +20,7 @@ use Rattle.cics_stage.specs.Stages as stages
 use Rattle.cics_stage.specs.declared.stage.Stage.TheVariants.{Opening}
 use Rattle.cics_session.specs.Running.{Played, next, stepped}
 use Rattle.cics_plans.specs.Defining.{define_fault, defined_by}
-use Rattle.cics_plans.specs.Taking.{Taken, NumberedLine, nothing_taken, accepted, defined, faulty, is_task, has_task, with_line, line_added, with_refused, attached, issued, taken_more, behind, taken_apart, planned}
+use Rattle.cics_plans.specs.Taking.{Taken, NumberedLine, initial_taken, accepted, defined, faulty, is_task, has_task, with_line, line_added, with_refused, attached, issued, taken_more, behind, taken_apart, planned}
 use Rattle.cics_plans.specs.declared.plans.Plan.{Plan}
 use Rattle.cics_plans.specs.declared.plans.Planned.{Planned}
 use Rattle.cics_plans.specs.declared.plans.TaskPlan.{TaskPlan}
@@ -129,7 +129,7 @@ module _ (q : Played) (t : Taken) (next : NumberedLine) (sound : Sound q t.openi
       opens : defined_by t.opening (Ok d) ≡ opened (lines ++ next ∷ [])
       opens =
           ap (λ o. defined_by o (Ok d)) sound.opening ∙ ap (defined_by (opened lines)) (sym is)
-          ∙ sym (fold-append (λ o next. defined_by o (line next.1)) nothing_defined lines (next ∷ []))
+          ∙ sym (fold-append (λ o next. defined_by o (line next.1)) initial_opening lines (next ∷ []))
 
       more : define_fault t.opening d ≡ None → Defines q (defined_by t.opening (Ok d)) (bytes_of (lines ++ next ∷ []))
       more none =
@@ -176,15 +176,15 @@ apart_sound q t n (bytes ∷ rest) u sound is =
     by more (Some f) v sound is = cc
 
 -- what a script defines opens its region, and its tasks are attached
-pub planned_sound : (q : Played) → q.fault ≡ None → q.stage ≡ stages.first_stage → (lines : List Bytes) (p : Planned) → planned (taken_apart nothing_taken 1 lines) ≡ Ok p → Sound q (opened p.plan.definitions) p.plan
-planned_sound q none at lines p = by (taken_apart nothing_taken 1 lines) refl
+pub planned_sound : (q : Played) → q.fault ≡ None → q.stage ≡ stages.initial_stage → (lines : List Bytes) (p : Planned) → planned (taken_apart initial_taken 1 lines) ≡ Ok p → Sound q (opened p.plan.definitions) p.plan
+planned_sound q none at lines p = by (taken_apart initial_taken 1 lines) refl
   where
-    first : Sound q nothing_defined nothing_taken.plan
+    first : Sound q initial_opening initial_taken.plan
     first = record { opening = refl; defines = record { fault = none; accepts = tt; stage = at }; attaches = tt }
 
-    by : (r : Result Taken (ℕ × ScriptFault)) → taken_apart nothing_taken 1 lines ≡ r → planned r ≡ Ok p → Sound q (opened p.plan.definitions) p.plan
+    by : (r : Result Taken (ℕ × ScriptFault)) → taken_apart initial_taken 1 lines ≡ r → planned r ≡ Ok p → Sound q (opened p.plan.definitions) p.plan
     by (Err f) apart is = cc
     by (Ok u) apart is =
         let same : record { plan = u.plan; refused = u.refused } ≡ p = cc in
-        let sound = apart_sound q nothing_taken 1 lines u first apart in
+        let sound = apart_sound q initial_taken 1 lines u first apart in
         subst (λ (p : Planned). Sound q (opened p.plan.definitions) p.plan) same (subst (λ o. Sound q o u.plan) sound.opening sound)

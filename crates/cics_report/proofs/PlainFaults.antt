@@ -25,7 +25,7 @@ use Rattle.cics_stage.specs.declared.stage.Fault.{Fault}
 use Rattle.cics_stage.specs.declared.stage.Stage.{Stage}
 use Rattle.cics_stage.specs.declared.stage.Stage.TheVariants.{Opening, Running}
 use Rattle.cics_plans.specs.Defining.{defined_by}
-use Rattle.cics_plans.specs.Taking.{Taken, NumberedLine, nothing_taken, accepted, has_task, with_refused, attached, line_added, issued, timed, taken_more, taken_apart, behind}
+use Rattle.cics_plans.specs.Taking.{Taken, NumberedLine, initial_taken, accepted, has_task, with_refused, attached, line_added, issued, timed, taken_more, taken_apart, behind}
 use Rattle.cics_plans.specs.declared.plans.ScriptFault.{ScriptFault}
 use Rattle.cics_plans.specs.declared.plans.TaskPlan.{TaskPlan}
 use Rattle.cics_report.specs.Reporting.{as_fault}
@@ -158,4 +158,4 @@ both (b ∷ lines) t p none stands =
     (behind_one lines p b s taken.taken taken.fault (both lines) (one (p.number + 1) b t p.stage stands (line b)))
 
 pub faults_are_those : FaultsAreThoseOfRuns
-faults_are_those lines = both lines nothing_taken start refl (refl, refl)
+faults_are_those lines = both lines initial_taken start refl (refl, refl)

@@ -29,9 +29,9 @@ abbrev pub given_more : Plan → Along → ℕ → Along
 given_more p a l = with_next a l (slice_get (lane_lines p l) (get_or a.0 l 0))
 
 -- no lane has given a line
-abbrev pub nothing_given : Plan → Along
-nothing_given p = (replicate (length p.tasks + 1) 0, [])
+abbrev pub initial_along : Plan → Along
+initial_along p = (replicate (length p.tasks + 1) 0, [])
 
 -- the lines of an order
 abbrev pub lines_along : Plan → Order → List NumberedLine
-lines_along p o = (fold (given_more p) (nothing_given p) o).1
+lines_along p o = (fold (given_more p) (initial_along p) o).1

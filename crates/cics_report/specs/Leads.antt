@@ -15,7 +15,7 @@ use Rattle.cics_session.specs.Running.{Played, next, start}
 use Rattle.cics_lanes.specs.Orders.{after, IsWay}
 use Rattle.cics_lanes.specs.Endings.{Reported}
 use Rattle.cics_search.specs.declared.exploring.Report.{Report}
-use Rattle.cics_plans.specs.Taking.{nothing_taken, taken_apart, planned}
+use Rattle.cics_plans.specs.Taking.{initial_taken, taken_apart, planned}
 use Rattle.cics_plans.specs.declared.plans.Planned.{Planned}
 use Rattle.cics_orders.specs.Giving.{issuing, attaching, lanes, initial_state}
 use Rattle.cics_report.specs.Parts.{mark, mark_in}
@@ -62,6 +62,6 @@ pub record IsTitled (r : Report) (k : ℕ) (e : Reported) : Type 0 where
 -- order's script leads where the order does.
 abbrev pub ScriptsLeadThere : Type 0
 ScriptsLeadThere =
-    (script : List Bytes) (p : Planned) (r : Report) (k : ℕ) (e : Reported) → planned (taken_apart nothing_taken 1 script) ≡ Ok p →
+    (script : List Bytes) (p : Planned) (r : Report) (k : ℕ) (e : Reported) → planned (taken_apart initial_taken 1 script) ≡ Ok p →
     IsWay lanes (initial_state p.plan) e.order → IsTitled r k e →
     LeadsTo start (after lanes (initial_state p.plan) e.order).machine (all_lines (script_text p.plan r k e))

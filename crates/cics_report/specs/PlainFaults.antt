@@ -2,7 +2,7 @@
 use Rattle.std.specs.Prelude.{◌≡◌, ℕ, List, Some, None, Result, Ok, Err}
 use Rattle.cics_names.specs.Keyed.{Bytes}
 use Rattle.cics_session.specs.Running.{Played, play}
-use Rattle.cics_plans.specs.Taking.{Taken, nothing_taken, taken_apart}
+use Rattle.cics_plans.specs.Taking.{Taken, initial_taken, taken_apart}
 use Rattle.cics_plans.specs.declared.plans.ScriptFault.{ScriptFault}
 use Rattle.cics_report.specs.Reporting.{as_fault}
 
@@ -14,4 +14,4 @@ HasFaultOf p (Err (number, f)) = (p.number ≡ number) × (p.fault ≡ Some (as_
 
 -- every script, taken apart line by line, has the fault of its plain run or none, as that run
 abbrev pub FaultsAreThoseOfRuns : Type 0
-FaultsAreThoseOfRuns = (lines : List Bytes) → HasFaultOf (play lines) (taken_apart nothing_taken 1 lines)
+FaultsAreThoseOfRuns = (lines : List Bytes) → HasFaultOf (play lines) (taken_apart initial_taken 1 lines)

@@ -4,7 +4,7 @@ use Rattle.std.specs.List.{fold}
 use Rattle.std.specs.Io.KnownBytes.{Appends, Consumes, IsAtEnd}
 use Rattle.cics_session.specs.Lines.{completed, all_lines}
 use Rattle.cics_stage.specs.Journal.{script_line}
-use Rattle.cics_stage.specs.Stages.{step, Step, first_stage, listing_at, replay_at}
+use Rattle.cics_stage.specs.Stages.{step, Step, initial_stage, listing_at, replay_at}
 use Rattle.cics_session.specs.Printing.{AppendsFront}
 use Rattle.cics_session.specs.Streams.{Tells}
 use Rattle.cics_session.specs.declared.running.TheConstants.{CHUNK}
@@ -53,7 +53,7 @@ most_bytes = 16777216
 
 -- before the first line
 abbrev pub start : Played
-start = record { stage = first_stage; number = 0; line = []; journal = []; shown = []; fault = None }
+start = record { stage = initial_stage; number = 0; line = []; journal = []; shown = []; fault = None }
 
 -- some lines, in their order
 abbrev pub play : List (List ℕ) → Played

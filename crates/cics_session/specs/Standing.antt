@@ -4,7 +4,7 @@ use Rattle.std.specs.Io.BufRead.{strip_last}
 use Rattle.std.specs.Io.KnownBytes.{Appends, Consumes}
 use Rattle.cics_session.specs.Lines.{completed, unfinished, all_lines}
 use Rattle.cics_stage.specs.Journal.{script_line}
-use Rattle.cics_stage.specs.Stages.{step, Step, first_stage, region_of}
+use Rattle.cics_stage.specs.Stages.{step, Step, initial_stage, region_of}
 use Rattle.cics_session.specs.Running.{Form, Played, play, has_fault, journal_of, journal, output, is_faulty}
 use Rattle.cics_session.specs.Printing.{AppendsFront, Prints}
 use Rattle.cics_session.specs.declared.running.RunFault.{RunFault}
@@ -19,7 +19,7 @@ use Rattle.cics_stage.specs.declared.stage.Stage.TheVariants.{Running}
 
 -- A session before its first byte.
 pub record IsNew (s : Session) : Type 0 where
-  pub stage : s.stage ≡ first_stage
+  pub stage : s.stage ≡ initial_stage
   pub number : s.number ≡ 0
   pub line : s.line.items ≡ []
   pub pending : s.pending.items ≡ []

@@ -4,10 +4,10 @@ use Rattle.cics_names.specs.Keyed.{Bytes, value_at, has_key, is_key_in}
 use Rattle.cics_transdata.specs.declared.queues.Recovery.{Recovery}
 use Rattle.cics_ksds.specs.declared.definition.FileDef.{FileDef}
 use Rattle.cics_history.specs.State.{OpeningState}
-use Rattle.cics_history.specs.Openings.{nothing_defined, with_file, with_record, with_prefix, with_queue, with_td_record}
+use Rattle.cics_history.specs.Openings.{initial_opening, with_file, with_record, with_prefix, with_queue, with_td_record}
 use Rattle.cics_opening.specs.Faults.{file_fault, load_fault, load_td_fault, fault_if}
 use Rattle.cics_opening.specs.declared.opening.DefineFault.{DefineFault}
-use Rattle.cics_machine.specs.Machine.{Machine, RegionValue, beginning_region}
+use Rattle.cics_machine.specs.Machine.{Machine, RegionValue, initial_region}
 use Rattle.cics_machine.specs.Steps.{attached, issued}
 use Rattle.cics_machine.specs.Waking.{clock_set}
 use Rattle.cics_machine.specs.Shutdown.{unless_down, shut_down}
@@ -49,12 +49,12 @@ abbrev pub faulty : ℕ → Stage → Fault → Step
 faulty number stage fault = record { stage = stage; text = fault_line number fault; fault = Some fault }
 
 -- before the first line nothing is defined
-abbrev pub first_stage : Stage
-first_stage = Opening nothing_defined
+abbrev pub initial_stage : Stage
+initial_stage = Opening initial_opening
 
 -- the region, which is made of the definitions if there is none yet
 abbrev pub region_of : Stage → RegionValue
-region_of (Opening o) = region_at (beginning_region o)
+region_of (Opening o) = region_at (initial_region o)
 region_of (Running r) = r
 
 -- a definition is accepted, or its fault is printed

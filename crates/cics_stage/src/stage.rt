@@ -7,7 +7,7 @@ ghost use Rattle.cics_opening.specs.declared.opening.DefineFault.{DefineFault};
 ghost use Rattle.cics_stage.specs.Journal.{attached_line, outcome_line};
 ghost use Rattle.cics_stage.specs.Journal.{refused_line, clock_line, clock_refused_line};
 ghost use Rattle.cics_stage.specs.Journal.{shutdown_line, shutdown_refused_line};
-ghost use Rattle.cics_stage.specs.Stages.{first_stage, region_of, event};
+ghost use Rattle.cics_stage.specs.Stages.{initial_stage, region_of, event};
 ghost use Rattle.cics_stage.specs.Stages.{task_attached, clock_moved, command_issued, region_shut};
 ghost use Rattle.cics_stage.specs.Stages.{fault_line, followed, step};
 ghost use Rattle.cics_stage.specs.Stages.{defined, told_line, IsAnswered, IsPlayed, Happens};
@@ -62,7 +62,7 @@ impl Drop for Stage {
 impl Stage {
     /// Returns the stage before the first line: nothing is defined.
     pub fn new(alloc: Global) -> Stage
-        ensures { result ≡ first_stage }
+        ensures { result ≡ initial_stage }
     {
         Stage::Opening(Opening::new(alloc))
     }

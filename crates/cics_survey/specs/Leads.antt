@@ -7,7 +7,7 @@ use Rattle.cics_session.specs.declared.running.Orders.{Orders}
 use Rattle.cics_lanes.specs.Orders.{after}
 use Rattle.cics_lanes.specs.Endings.{Reported}
 use Rattle.cics_search.specs.declared.exploring.Report.{Report}
-use Rattle.cics_plans.specs.Taking.{nothing_taken, taken_apart, planned}
+use Rattle.cics_plans.specs.Taking.{initial_taken, taken_apart, planned}
 use Rattle.cics_plans.specs.declared.plans.Plan.{Plan}
 use Rattle.cics_plans.specs.declared.plans.Planned.{Planned}
 use Rattle.cics_orders.specs.Giving.{lanes, initial_state}
@@ -26,5 +26,5 @@ pub record LeadsToEnding (p : Plan) (with_told : Bool) (e : Reported) (text : Li
 abbrev pub EndingScriptsLeadThere : Type 0
 EndingScriptsLeadThere =
     (script : List Bytes) (p : Planned) (w : Orders) (r : Report) (k : ℕ) (e : Reported) (text : List ℕ) →
-    planned (taken_apart nothing_taken 1 script) ≡ Ok p → IsReportOf p.plan w r → length r.endings < 2 ^ 128 →
+    planned (taken_apart initial_taken 1 script) ≡ Ok p → IsReportOf p.plan w r → length r.endings < 2 ^ 128 →
     ending_at r.endings k ≡ Some e → script_at p.plan r k ≡ Some text → LeadsToEnding p.plan w.told e text

@@ -7,7 +7,7 @@ use Rattle.cics_session.specs.Printing.{AppendsFront}
 use Rattle.cics_session.specs.declared.running.Orders.{Orders}
 use Rattle.cics_session.specs.declared.running.RunFault.{RunFault}
 use Rattle.cics_session.specs.declared.running.RunFault.TheVariants as faults
-use Rattle.cics_plans.specs.Taking.{nothing_taken, taken_apart, planned}
+use Rattle.cics_plans.specs.Taking.{initial_taken, taken_apart, planned}
 use Rattle.cics_plans.specs.declared.plans.Planned.{Planned}
 use Rattle.cics_plans.specs.declared.plans.ScriptFault.{ScriptFault}
 use Rattle.cics_report.specs.Reporting.{fault_text, report_text, script_at}
@@ -39,7 +39,7 @@ IsPrintedOf (Err (number, fault)) w text status = (text ≡ fault_text number fa
 
 -- a text is what is wanted of the orders of a script
 abbrev pub IsPrinted : List ℕ → Orders → List ℕ → Surveyed → Type 0
-IsPrinted script w text status = IsPrintedOf (planned (taken_apart nothing_taken 1 (all_lines script))) w text status
+IsPrinted script w text status = IsPrintedOf (planned (taken_apart initial_taken 1 (all_lines script))) w text status
 
 -- What stands in the sink at each answer, where bytes are the bytes that were read:
 -- - without a fault: the whole text;

@@ -2,7 +2,7 @@
 
 ghost use Rattle.std.specs.Prelude.{◌≡◌, true, IfOk};
 ghost use Rattle.cics_plans.specs.Proper.{is_proper};
-ghost use Rattle.cics_plans.specs.Taking.{nothing_taken, taken_apart, planned};
+ghost use Rattle.cics_plans.specs.Taking.{initial_taken, taken_apart, planned};
 ghost use Rattle.cics_survey.specs.Surveys.{IsReportOf, IsSurvey};
 
 use crate::tellers::{States, WithAnswers};
@@ -51,7 +51,7 @@ pub fn survey_script<P: Progress>(
     wanted: Orders,
     progress: &mut P,
 ) -> Result<Result<Survey, (u64, ScriptFault)>, NoMemory>
-    ensures { IfOk result (IsSurvey (planned (taken_apart nothing_taken 1 lines.now)) wanted) }
+    ensures { IfOk result (IsSurvey (planned (taken_apart initial_taken 1 lines.now)) wanted) }
 {
     let planned = match plan_of(alloc, lines)? {
         Ok(planned) => planned,

@@ -13,7 +13,7 @@ use Rattle.cics_enqueue.specs.Table.{Table, released}
 use Rattle.cics_tempstor.specs.Queues.{places_of}
 use Rattle.cics_tempstor.specs.Places.{AreInOrder}
 use Rattle.cics_transdata.specs.Trans.{TransState, is_logical, queue_of}
-use Rattle.cics_history.specs.State.{OpeningState, FileOpening, QueueOpening, file_recoverable, queue_logical, initial_store, UnitsState, UpdateRead, EnqCount, beginning}
+use Rattle.cics_history.specs.State.{OpeningState, FileOpening, QueueOpening, file_recoverable, queue_logical, initial_store, UnitsState, UpdateRead, EnqCount, initial_units}
 use Rattle.cics_history.specs.Openings.{HasLawfulKeys, IsOpeningInOrder}
 use Rattle.cics_history.specs.Store.{apply}
 use Rattle.cics_history.specs.Headline.{is_open, kept, IsHeadline}
@@ -44,8 +44,8 @@ use Rattle.cics_units.specs.Awaiting.{is_logical_in}
 use Rattle.cics_opening.specs.RegionQueues.{opened_queue, opened_queues}
 use Rattle.cics_units.specs.KeptUnits.{AreValid, AreAsDefined, opened_store}
 use Rattle.cics_history.proofs.Stores.{same_store, apply-canonical, replay-canonical, initial-canonical, value_at_each}
-use Rattle.cics_history.proofs.States.{beginning-IsSound, execution-IsSound, unlock-IsSound, end-IsSound, agrees_of}
-use Rattle.cics_history.proofs.SerialRuns.{beginning-IsInOrder, execution-IsInOrder, commit-IsInOrder, backout-IsInOrder, unlock-IsInOrder, serializable_of}
+use Rattle.cics_history.proofs.States.{initial_units-IsSound, execution-IsSound, unlock-IsSound, end-IsSound, agrees_of}
+use Rattle.cics_history.proofs.SerialRuns.{initial_units-IsInOrder, execution-IsInOrder, commit-IsInOrder, backout-IsInOrder, unlock-IsInOrder, serializable_of}
 use Rattle.cics_units.proofs.StoreInPlace.{shows_history, beginning_in_place}
 use Rattle.cics_units.proofs.StoreEnded.{backed_out_ended}
 use Rattle.cics_units.proofs.EndsFirst.{ends_first_ended, ends_first_shows}
@@ -249,12 +249,12 @@ module _ (o : OpeningState) (in_order : IsOpeningInOrder o) (lawful_keys : HasLa
       of_queue (Some y) = refl
 
   -- so the opened store is kept at the beginning
-  opened_kept : AreValid (beginning o) (record { store = opened_store o; images = [] }) []
+  opened_kept : AreValid (initial_units o) (record { store = opened_store o; images = [] }) []
   opened_kept = record {
     in_order = in_order;
     lawful_keys = lawful_keys;
-    sound = beginning-IsSound o in_order;
-    order = beginning-IsInOrder o in_order;
+    sound = initial_units-IsSound o in_order;
+    order = initial_units-IsInOrder o in_order;
     canonical = subst IsCanonical (sym opened_shown) (initial-canonical o in_order);
     place = beginning_in_place o (opened_store o) opened_shown unmarked;
     defined = opened_defined;
@@ -266,8 +266,8 @@ module _ (o : OpeningState) (in_order : IsOpeningInOrder o) (lawful_keys : HasLa
   }
 
   -- a region that begins with what its opening gives keeps it
-  pub kept_begins : (m : StoreValue) → m ≡ opened_store o → AreValid (beginning o) (record { store = m; images = [] }) []
-  kept_begins m opened = subst (λ x. AreValid (beginning o) (record { store = x; images = [] }) []) (sym opened) opened_kept
+  pub kept_begins : (m : StoreValue) → m ≡ opened_store o → AreValid (initial_units o) (record { store = m; images = [] }) []
+  kept_begins m opened = subst (λ x. AreValid (initial_units o) (record { store = x; images = [] }) []) (sym opened) opened_kept
 
 -- ---- A command
 

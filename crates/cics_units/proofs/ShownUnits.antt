@@ -7,7 +7,7 @@ use Rattle.std.specs.List.{list_any}
 use Rattle.std.proofs.lemmas.Bool.{cases_Bool, and_parts, or_left, or_right, false≢true, and_from, lt-ltb}
 use Rattle.cics_tempstor.specs.Queues.{places_of}
 use Rattle.cics_enqueue.specs.Table.{Table, released}
-use Rattle.cics_history.specs.State.{OpeningState, UnitsState, UpdateRead, UnitsValue, beginning}
+use Rattle.cics_history.specs.State.{OpeningState, UnitsState, UpdateRead, UnitsValue, initial_units}
 use Rattle.cics_history.specs.Store.{apply, is_normal, is_recoverable}
 use Rattle.cics_history.specs.Holding.{store_of, awaited}
 use Rattle.cics_history.specs.Execution.{execution, done_of, state_of, has_read, IsOpenUnit, IsOpenOrNone, unit_or_next, outcomes_with, reads_after, is_read_of, read_at, commits_with, entered, after_execution, after_unlock, after_end, is_ready_op}
@@ -143,8 +143,8 @@ read_short (r ∷ rs) u f short =
 -- what has just begun shows the beginning
 pub begun_shown : (o : OpeningState) (trace : List Entry) (outcomes : List UnitState) (commits : List ℕ) (p : CoreValue) (m : StoreValue) →
     p ≡ record { stores = record { store = m; images = [] }; table = []; reads = [] } → trace ≡ [] → outcomes ≡ [] → commits ≡ [] →
-    AreValid (beginning o) (record { store = m; images = [] }) [] → AreValid (state_shown o trace outcomes commits p) p.stores p.table
-begun_shown o trace outcomes commits p m parts no_entry no_unit no_commit kept = rw (parts, no_entry, no_unit, no_commit) (subst (λ next. AreValid (record (beginning o) { next = next })
+    AreValid (initial_units o) (record { store = m; images = [] }) [] → AreValid (state_shown o trace outcomes commits p) p.stores p.table
+begun_shown o trace outcomes commits p m parts no_entry no_unit no_commit kept = rw (parts, no_entry, no_unit, no_commit) (subst (λ next. AreValid (record (initial_units o) { next = next })
     (record { store = m; images = [] }) []) kept.places kept)
 
 -- ---- A command that is bound

@@ -24,7 +24,7 @@ use Rattle.cics_tempstor.specs.Shown.{queue_shown, queues_of-shown, value_at-sho
 use Rattle.cics_transdata.specs.Trans.{TransState, queue_of}
 use Rattle.cics_transdata.specs.Undo.{end_of, IsReadyImage as IsEndReady, undone as queue_undone, KeepsEnds}
 use Rattle.cics_transdata.specs.UndoLaws as queue
-use Rattle.cics_history.specs.State.{OpeningState, queue_logical, initial_store, UnitsState, beginning}
+use Rattle.cics_history.specs.State.{OpeningState, queue_logical, initial_store, UnitsState, initial_units}
 use Rattle.cics_history.specs.Headline.{outcome_of, is_open}
 use Rattle.cics_history.specs.Holding.{store_of}
 use Rattle.cics_history.specs.Execution.{after_end}
@@ -37,8 +37,8 @@ use Rattle.cics_history.specs.Ends.{AreMarksOf, marks_opened, mark_images_withou
 use Rattle.cics_history.proofs.States.{one_at_each_end}
 use Rattle.cics_history.proofs.Stores.{value_at_each}
 use Rattle.cics_history.proofs.Outcomes.{outcome_of-set}
-use Rattle.cics_history.proofs.Places.{beginning-IsPlaceOf}
-use Rattle.cics_history.proofs.InPlace.{beginning-AreMarksOf, shows_of}
+use Rattle.cics_history.proofs.Places.{initial_units-IsPlaceOf}
+use Rattle.cics_history.proofs.InPlace.{initial_units-AreMarksOf, shows_of}
 use Rattle.cics_history.proofs.MarkedParts.{queue_of-shown}
 use Rattle.cics_opening.specs.FilesImages.{cell_of_image, content_in, IsReadyFor, files_undone, FilesKeep, definitions_of}
 use Rattle.cics_units.specs.FilesImagesLaws as files
@@ -244,8 +244,8 @@ opened_marks : (o : OpeningState) (m : StoreValue) → shown_store m ≡ initial
     ((q : Bytes) (t : TransState) → queue_logical o q ≡ true → value_at q m.trans_data ≡ Some t → IsUnmarked t) →
     (q : Bytes) → queue_logical o q ≡ true → (t : TransState) × (value_at q m.trans_data ≡ Some t) × HasMarks ((marks_opened o).queues q) t
 opened_marks o m same loaded q l =
-    by (value_at q m.trans_data) refl (sym (shown_td m q) ∙ ap (λ t. content t (Td q)) same ∙ shows_of (beginning o) (marks_opened o)
-    (beginning-AreMarksOf o) q l)
+    by (value_at q m.trans_data) refl (sym (shown_td m q) ∙ ap (λ t. content t (Td q)) same ∙ shows_of (initial_units o) (marks_opened o)
+    (initial_units-AreMarksOf o) q l)
   where
     by : (p : Option TransState) → value_at q m.trans_data ≡ p → option_map queue_of p ≡ Some (shown_marks ((marks_opened o).queues q)) →
         (t : TransState) × (value_at q m.trans_data ≡ Some t) × HasMarks ((marks_opened o).queues q) t
@@ -259,12 +259,12 @@ opened_marks o m same loaded q l =
 
 -- at the beginning nothing was changed, and no queue is marked
 pub beginning_in_place : (o : OpeningState) (m : StoreValue) → shown_store m ≡ initial_store o →
-    ((q : Bytes) (t : TransState) → queue_logical o q ≡ true → value_at q m.trans_data ≡ Some t → IsUnmarked t) → AreInPlace (beginning o) m []
+    ((q : Bytes) (t : TransState) → queue_logical o q ≡ true → value_at q m.trans_data ≡ Some t → IsUnmarked t) → AreInPlace (initial_units o) m []
 beginning_in_place o m same loaded = record {
   changes = λ u. [];
   marks = marks_opened o;
-  place = subst (λ t. IsPlaceOf (beginning o) (record { cells = content t; images = λ u. [] })) (sym same) (beginning-IsPlaceOf o);
-  ends = beginning-AreMarksOf o;
+  place = subst (λ t. IsPlaceOf (initial_units o) (record { cells = content t; images = λ u. [] })) (sym same) (initial_units-IsPlaceOf o);
+  ends = initial_units-AreMarksOf o;
   queues = opened_marks o m same loaded;
   kept = λ u. (refl, refl);
   ready = λ u. tt;

@@ -12,7 +12,7 @@ use Rattle.cics_history.specs.Resources.{bytes_of, is_one, is_user}
 use Rattle.cics_enqueue.specs.Table.{Table, given_back, released}
 use Rattle.cics_history.specs.declared.resources.Resource.{Resource}
 use Rattle.cics_history.specs.declared.resources.Resource.TheVariants.{User}
-use Rattle.cics_history.specs.State.{OpeningState, file_recoverable, UnitsState, UpdateRead, EnqCount, beginning}
+use Rattle.cics_history.specs.State.{OpeningState, file_recoverable, UnitsState, UpdateRead, EnqCount, initial_units}
 use Rattle.cics_history.specs.Store.{is_normal, is_recoverable}
 use Rattle.cics_history.specs.Headline.{outcome_of, is_open}
 use Rattle.cics_history.specs.Holding.{uses_of, held_by, held_by_count, awaited}
@@ -37,9 +37,9 @@ use Rattle.cics_units.proofs.HeldSums.{in_entries, in_reads, in_counts, held_sum
 
 -- ---- At the beginning
 
-pub table_begins : (o : OpeningState) → IsTableOf (beginning o) []
+pub table_begins : (o : OpeningState) → IsTableOf (initial_units o) []
 table_begins o = record {
-  holders = λ r u. held_sum (beginning o) u (is_one r) ∙ and-false (is_open (outcome_of [] u));
+  holders = λ r u. held_sum (initial_units o) u (is_one r) ∙ and-false (is_open (outcome_of [] u));
   single = λ r other. refl;
   in_order = tt;
   counts = refl;

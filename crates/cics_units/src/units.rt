@@ -14,7 +14,7 @@ ghost use Rattle.cics_history.specs.Execution.{is_ready_op, execution, after_exe
 ghost use Rattle.cics_history.specs.Execution.{after_enqueue, after_dequeue, after_unlock, read_at};
 ghost use Rattle.cics_history.specs.Execution.{after_end, place_at, item_asked, ts_reading};
 ghost use Rattle.cics_history.specs.Execution.{after_ts_reading};
-ghost use Rattle.cics_history.specs.State.{beginning};
+ghost use Rattle.cics_history.specs.State.{initial_units};
 ghost use Rattle.cics_history.specs.Stamps.{unit_stamp, shared_stamp};
 ghost use Rattle.cics_history.specs.Isolation.{IsSound};
 ghost use Rattle.cics_history.specs.Serial.{IsSerializable};
@@ -211,7 +211,7 @@ impl Units {
     ///
     /// Errors: the opening, if memory is refused.
     pub fn start(opening: Opening) -> Result<Units, Opening>
-        ensures state { IfOk result (λ units. units.state ≡ beginning opening) }
+        ensures state { IfOk result (λ units. units.state ≡ initial_units opening) }
         ensures in_order { IfOk result (λ units. IsOpeningInOrder units.state.opening) }
         ensures headline { IfOk result IsHeadline }
         ensures serializable { IfOk result IsSerializable }

@@ -8,7 +8,7 @@ use Rattle.cics_transdata.specs.declared.queues.Recovery.{Recovery}
 use Rattle.cics_transdata.specs.declared.queues.Recovery.TheVariants.{Logical, Physical}
 use Rattle.cics_transdata.specs.declared.queues.Recovery.TheVariants.{Unrecovered}
 use Rattle.cics_history.specs.State.{OpeningState}
-use Rattle.cics_history.specs.Openings.{nothing_defined, with_file, with_record}
+use Rattle.cics_history.specs.Openings.{initial_opening, with_file, with_record}
 use Rattle.cics_history.specs.Openings.{with_queue, with_prefix, with_td_record}
 use Rattle.cics_history.specs.Store.{only}
 use Rattle.cics_history.specs.declared.ops.Entry.{Entry}
@@ -57,7 +57,7 @@ Queues = List (Bytes × Bool × List Bytes)
 -- what the trace of a list of entries leaves of queues
 abbrev queues : List Entry → List UnitState → Queues
 queues trace outcomes =
-    (replayed_listing (with_prefix nothing_defined pay) trace outcomes).ts
+    (replayed_listing (with_prefix initial_opening pay) trace outcomes).ts
 
 -- two units write to recoverable queues and to others, one of which is shorter than the prefix
 abbrev items : List Entry
@@ -147,7 +147,7 @@ abbrev with_two : OpeningState → Bytes → Recovery → OpeningState
 with_two o q recovery = with_td_record (with_td_record (with_queue o q recovery) q b) q a
 
 abbrev queued : OpeningState
-queued = with_two (with_two (with_two nothing_defined phyq Physical) payq Logical) outq Unrecovered
+queued = with_two (with_two (with_two initial_opening phyq Physical) payq Logical) outq Unrecovered
 
 -- a unit does the same to each queue
 abbrev each : ℕ → (Bytes → Op) → List Entry → List Entry
@@ -224,7 +224,7 @@ abbrev with_old : OpeningState → Bytes → Bool → OpeningState
 with_old o f recoverable = with_record (with_file o f (definition recoverable)) f (codes "k1 old")
 
 abbrev filed : OpeningState
-filed = with_old (with_old nothing_defined acct true) log false
+filed = with_old (with_old initial_opening acct true) log false
 
 -- what the recoverable file has, and what the other one has
 abbrev Records : List Entry → List UnitState → List Bytes → List Bytes → Type 0

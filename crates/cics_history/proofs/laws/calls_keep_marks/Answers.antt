@@ -1,9 +1,9 @@
-use Rattle.cics_history.proofs.InPlace.{beginning-AreMarksOf, execution-AreMarksOf, commit-AreMarksOf, back_out-AreMarksOf, enqueue-AreMarksOf, dequeue-AreMarksOf, unlock-AreMarksOf, ts_reading-AreMarksOf, shows_of, committed_in_place, sees_where_shown}
+use Rattle.cics_history.proofs.InPlace.{initial_units-AreMarksOf, execution-AreMarksOf, commit-AreMarksOf, back_out-AreMarksOf, enqueue-AreMarksOf, dequeue-AreMarksOf, unlock-AreMarksOf, ts_reading-AreMarksOf, shows_of, committed_in_place, sees_where_shown}
 use Rattle.cics_history.proofs.laws.calls_keep_marks.Goals as goal
 
 pub returns : goal.returns
 returns c = record {
-  begins = beginning-AreMarksOf;
+  begins = initial_units-AreMarksOf;
   executes = execution-AreMarksOf;
   commits = commit-AreMarksOf;
   backs_out = back_out-AreMarksOf;

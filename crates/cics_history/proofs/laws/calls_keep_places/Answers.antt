@@ -1,10 +1,10 @@
 use Rattle.cics_history.proofs.PrefixImages.{prefix_images-AreImages}
-use Rattle.cics_history.proofs.Places.{beginning-IsPlaceOf, execution-IsPlaceOf, commit-IsPlaceOf, back_out-IsPlaceOf, enqueue-IsPlaceOf, dequeue-IsPlaceOf, unlock-IsPlaceOf, ts_reading-IsPlaceOf, image_of-AreImages}
+use Rattle.cics_history.proofs.Places.{initial_units-IsPlaceOf, execution-IsPlaceOf, commit-IsPlaceOf, back_out-IsPlaceOf, enqueue-IsPlaceOf, dequeue-IsPlaceOf, unlock-IsPlaceOf, ts_reading-IsPlaceOf, image_of-AreImages}
 use Rattle.cics_history.proofs.laws.calls_keep_places.Goals as goal
 
 pub returns : goal.returns
 returns c = record {
-  begins = beginning-IsPlaceOf;
+  begins = initial_units-IsPlaceOf;
   executes = execution-IsPlaceOf;
   commits = commit-IsPlaceOf;
   backs_out = back_out-IsPlaceOf;

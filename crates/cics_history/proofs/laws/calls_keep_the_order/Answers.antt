@@ -1,9 +1,9 @@
-use Rattle.cics_history.proofs.SerialRuns.{beginning-IsInOrder, execution-IsInOrder, commit-IsInOrder, backout-IsInOrder, enqueue-IsInOrder, dequeue-IsInOrder, unlock-IsInOrder, ts_reading-IsInOrder, serializable_of}
+use Rattle.cics_history.proofs.SerialRuns.{initial_units-IsInOrder, execution-IsInOrder, commit-IsInOrder, backout-IsInOrder, enqueue-IsInOrder, dequeue-IsInOrder, unlock-IsInOrder, ts_reading-IsInOrder, serializable_of}
 use Rattle.cics_history.proofs.laws.calls_keep_the_order.Goals as goal
 
 pub returns : goal.returns
 returns c = record {
-  begins = beginning-IsInOrder;
+  begins = initial_units-IsInOrder;
   executes = execution-IsInOrder;
   commits = λ s u i live. commit-IsInOrder s u live i;
   backs_out = λ s u i live. backout-IsInOrder s u live i;
