@@ -1,8 +1,8 @@
 //! Runs a script and draws it: the picture of a run, in place of its journal.
 //!
 //! [`run_picture`] reads a script whole, runs it as `cics_session` does, and writes one SVG. What
-//! it writes is a stated function of the bytes read, and [`rows_are_the_journal`] says that its rows
-//! show what the run prints, in order.
+//! it writes is a stated function of the bytes read, and [`rows_are_the_journal`] says that its
+//! rows show what the run prints, in order.
 #![tactic(auto)]
 
 mod drawing;

@@ -10,8 +10,8 @@ pub fn faults_are_those_of_runs()
 {}
 
 /// The script of an order leads where the order does. Each lane of the order may give when its line
-/// comes. The title's mark is one that endings have, and its numbers are below 2^128. Then the plain
-/// run has no fault, refuses no line of a task, and comes to the region after the order.
+/// comes. The title's mark is one that endings have, and its numbers are below 2^128. Then the
+/// plain run has no fault, refuses no line of a task, and comes to the region after the order.
 pub fn scripts_lead_there()
     ensures { ScriptsLeadThere }
 {}
