@@ -1,5 +1,5 @@
 -- An order with one line more.
-use Rattle.std.proofs.Common.{◌≡◌, ℕ, List, [], ◌∷◌, ◌++◌, refl}
+use Rattle.std.proofs.Common.{◌≡◌, ℕ, [], ◌∷◌, ◌++◌, refl}
 use Rattle.cics_lanes.specs.Orders.{Order, Lanes, IsOneOf, IsWay, after}
 
 pub after-append : {S : Type 0} (lanes : Lanes S) (s : S) (o : Order) (l : ℕ) → after lanes s (o ++ l ∷ []) ≡ lanes.given (after lanes s o) l

@@ -33,9 +33,13 @@ abbrev pub firsts : List Run → List Run
 firsts [] = []
 firsts (r ∷ rs) = r ∷ filter (λ s. not (are_same s.ending r.ending)) (firsts rs)
 
--- a number as it is kept: no more than 2^128 - 1
+-- the greatest number that is kept: 2^128 - 1
+abbrev pub greatest : ℕ
+greatest = 340282366920938463463374607431768211455
+
+-- a number as it is kept
 abbrev pub kept_number : ℕ → ℕ
-kept_number n = min n 340282366920938463463374607431768211455
+kept_number n = min n greatest
 
 -- the ending of a run as it is reported, counted over all runs
 abbrev pub reported : List Run → Run → Reported
@@ -54,8 +58,8 @@ report rs = map (reported rs) (firsts rs)
 abbrev pub run_to : {S : Type 0} → (S → Parts) → (S → Bool) → Order → S → Run
 run_to ending serial o s = record { order = o; ending = ending s; is_serial = serial s }
 
--- The ending of a run as it is reported, if serial runs are counted by themselves. Each of them is
--- one more that leads there, unless the others count more.
+-- The ending of a run as it is reported, if serial runs are counted by themselves. A serial run may
+-- be among the others too. So the number of runs is the greater of the two counts.
 abbrev pub reported_of_both : List Run → List Run → Run → Reported
 reported_of_both rs ss r = record {
   order = r.order;

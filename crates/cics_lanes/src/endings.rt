@@ -50,7 +50,8 @@ impl Ending {
         self.parts.as_slice()
     }
 
-    /// Returns how many orders that lead to it were followed; `u128::MAX` is that many or more.
+    /// Returns the greater of two counts: the orders that lead to it and were followed, and the
+    /// serial ones that were followed by themselves. `u128::MAX` is that many or more.
     pub fn orders(&self) -> u128
         ensures { result ≡ self.now.orders }
     {

@@ -104,7 +104,7 @@ impl Reached {
     }
 
     /// Returns its entry, to which so many orders lead.
-    pub fn led_by(self, first: Items<usize>, count: u128) -> (Stamp, Led)
+    pub fn into_entry(self, first: Items<usize>, count: u128) -> (Stamp, Led)
         ensures { result ≡ (
           self.stamp,
           record {

@@ -29,7 +29,7 @@ pub record Gist : Type 0 where
 abbrev pub gist : Lane → Gist
 gist x = record { label = x.label; lines = x.lines; given = x.given; is_in_turn = x.is_in_turn }
 
--- a state after events: the same plan, and lanes that have given as much
+-- a state after events: the same plan, lane that gave last, seriality, and gists of lanes
 pub record Stays (s t : State) : Type 0 where
   pub plan : t.plan ≡ s.plan
   pub last : t.last ≡ s.last
@@ -64,7 +64,7 @@ stays_by : {X : Type 0} (s : State) (told : X → List Lane) (r : Result X Refus
 stays_by s told (Ok x) m same = record { plan = refl; last = refl; serial = refl; gists = same x }
 stays_by s told (Err e) m same = stays s
 
--- what a line says is an event, or nothing
+-- what a line says leaves these as they are
 pub stays_line : (s : State) (r : Result Line LineFault) → Stays s (after_line s r)
 stays_line s (Ok (says.Issue label command)) =
     let step = issuing s.machine label command in stays_by s (hearing s.lanes label) step.outcome step.machine (λ o. gists_hearing s.lanes label o)
@@ -72,7 +72,7 @@ stays_line s (Ok (says.Clock seconds)) = let step = timing s.machine seconds in 
 stays_line s (Ok says.Shutdown) = let step = shutting s.machine in stays_by s (λ _. map shut s.lanes) step.outcome step.machine (λ _. gists_shut s.lanes)
 stays_line s _ = stays s
 
--- a step of draining is an event
+-- a step of draining leaves these as they are
 pub stays_once : (s t : State) → drained_once s ≡ Some t → Stays s t
 unfolding drained_once
 stays_once s t = by (drain_step s.machine).outcome
@@ -122,7 +122,7 @@ gives_line s l x at may = by (slice_get x.lines x.given) refl (and_parts (is_som
     by None line_at is = cc
     by (Some next) line_at is = (next, gave_at s l x next at line_at)
 
--- events follow a line that counts as given
+-- after a line counts as given, its events leave these as they are
 pub stays_given : (s : State) (l : ℕ) (x : Lane) (next : NumberedLine) → Gave s l x next → Stays (counted s l x (ends_turn (line next.1))) (given s l)
 stays_given s l x next gave =
     let c = counted s l x (ends_turn (line next.1)) in

@@ -144,9 +144,9 @@ impl<T: Tells> Walk for Following<T> {
 /// Follows every order of a plan's lines, as `cics_search::explore` does. Returns the endings that
 /// they lead to.
 ///
-/// If the report is whole, the endings are those of all orders. Each stands once, with the first
-/// order that leads to it, and how many orders and serial orders do. They stand in the order of
-/// their first orders. `limit` and `progress` are those of `explore`.
+/// If all orders and all serial orders were followed, the endings are those of all orders. Each
+/// stands once, with the first order that leads to it, and how many orders and serial orders do.
+/// They stand in the order of their first orders. `limit` and `progress` are those of `explore`.
 ///
 /// Errors: `NoMemory`, also if a definition of the plan has a fault.
 ///

@@ -5,10 +5,11 @@ use lib.Chars.{codes}
 use Rattle.cics_names.specs.Ebcdic.{code_of, character_of}
 use Rattle.cics_names.specs.Keyed.{Bytes}
 use Rattle.cics_machine.specs.declared.outcomes.Refused.TheVariants.{NoTask}
+use Rattle.cics_lanes.specs.Endings.{greatest}
 use Rattle.cics_search.specs.declared.exploring.Report.{Report}
 use Rattle.cics_plans.specs.declared.plans.Planned.{Planned}
 use Rattle.cics_report.specs.Parts.{mark}
-use Rattle.cics_report.specs.Reporting.{greatest, report_text, every_text, endings_text, script_at}
+use Rattle.cics_report.specs.Reporting.{report_text, every_text, endings_text, script_at}
 
 -- the label A
 abbrev a : Bytes

@@ -8,10 +8,10 @@ use Rattle.cics_names.specs.Keyed.{Bytes}
 use Rattle.cics_script.specs.Lines.{line, is_script_byte}
 use Rattle.cics_script.specs.declared.lines.Line.TheVariants.{Blank}
 use Rattle.cics_script.specs.declared.faults.LineFault.TheVariants.{TooLong, NotAscii}
-use Rattle.cics_lanes.specs.Endings.{Reported}
+use Rattle.cics_lanes.specs.Endings.{Reported, greatest}
 use Rattle.cics_search.specs.declared.exploring.Report.{Report}
 use Rattle.cics_report.specs.Parts.{mark, mark_in}
-use Rattle.cics_report.specs.Reporting.{greatest, bound_text, count_text, both_text, title_text}
+use Rattle.cics_report.specs.Reporting.{bound_text, count_text, both_text, title_text}
 use Rattle.cics_report.specs.Leads.{IsTitled}
 use Rattle.cics_report.proofs.ScriptLines.{IsText, with_lf}
 

@@ -12,7 +12,7 @@ use Rattle.cics_stage.specs.Stages.{fault_line}
 use Rattle.cics_stage.specs.declared.stage.Fault.{Fault}
 use Rattle.cics_stage.specs.declared.stage.Fault.TheVariants as faults
 use Rattle.cics_lanes.specs.Orders.{Order}
-use Rattle.cics_lanes.specs.Endings.{Parts, Reported, kept_number}
+use Rattle.cics_lanes.specs.Endings.{Parts, Reported, greatest, kept_number}
 use Rattle.cics_search.specs.declared.exploring.Report.{Report}
 use Rattle.cics_plans.specs.Taking.{NumberedLine}
 use Rattle.cics_plans.specs.declared.plans.Plan.{Plan}
@@ -40,10 +40,6 @@ abbrev pub refused_text : RefusedLine → List ℕ
 refused_text r = codes "LINE " ++ (decimal r.number ++ (codes " " ++ refused_line r.label r.refusal))
 
 -- ---- Numbers
-
--- the greatest number of orders that is kept: 2^128 - 1
-abbrev pub greatest : ℕ
-greatest = 340282366920938463463374607431768211455
 
 -- the words before a number, which is a lower bound if orders were left out, or if it is the
 -- greatest

@@ -1,4 +1,5 @@
--- The levels of a search: the states after orders of so many lines, states of one stamp once.
+-- The levels of a search: the states after orders of at most so many lines, those of one stamp
+-- once.
 use Rattle.std.specs.Prelude.{◌≡◌, ◌≤◌, ℕ, zero, suc, ◌+◌, Bool, true, false, not, if◌then◌else◌, List, [], ◌∷◌, ◌++◌, map, length}
 use Rattle.std.specs.List.{count_by, flat_map}
 use Rattle.cics_names.specs.Keyed.{Bytes}
@@ -60,7 +61,8 @@ abbrev pub state_count : {S : Type 0} → Lanes S → (S → ℕ → Bool) → (
 state_count lanes breaks stamp b s zero = 0
 state_count lanes breaks stamp b s (suc n) = state_count lanes breaks stamp b s n + live (level lanes breaks stamp b s (followed lanes breaks b n s))
 
--- Some entries of a level are followed, one at least, and all if the search is whole after it.
+-- Some entries of a level are followed, one at least if it has one. If the search is whole after
+-- the level, it was before, and all are followed.
 pub record IsNext {S : Type 0} (lanes : Lanes S) (breaks : S → ℕ → Bool) (stamp : Bool → S → Bytes) (b : Bool) (s : S) (was_whole is_whole : Bool) (es next : List (Bytes × Led)) : Type 0 where
   pub some : List (Bytes × Led)
   pub among : AreAmong some es

@@ -1,8 +1,8 @@
 //! Follows orders level by level, and counts those that lead to each ending.
 //!
-//! A *level* has the states after orders of so many lines, in the order of their first orders. A
-//! state is made again by its first order, unless it is known where each of its lanes leads
-//! (`ahead`).
+//! A *level* has the states after orders of so many lines, and after shorter ones at whose end no
+//! lane may give, in the order of their first orders. A state is made again by its first order,
+//! unless it is known where each of its lanes leads (`ahead`).
 
 ghost use Rattle.std.specs.Prelude.{◌≡◌, ◌≤◌, ◌<◌, ◌+◌, ◌++◌, ◌∷◌, [], map, ℕ};
 ghost use Rattle.std.specs.Prelude.{true, false, List, IfOk, OnOk};
@@ -47,8 +47,8 @@ struct Search {
     alloc: Global,
     // Whether it follows serial orders alone.
     is_serial: bool,
-    // How many states in which a lane may give it follows all of. Beyond these it follows only some
-    // of each level.
+    // If its levels so far have more states than this in which a lane may give, it follows only
+    // some of each level from there on.
     limit: u64,
     // How many of each level it follows then.
     share: u64,
@@ -60,7 +60,7 @@ struct Search {
     stand: Stand,
 }
 
-// Which states of a level are followed. Those in which no lane may give always are.
+// Which states of a level go on to the next. Those in which no lane may give always do.
 #[derive(Clone, Copy)]
 struct Thinning {
     // Whether only some of the others are.
@@ -72,7 +72,7 @@ struct Thinning {
 }
 
 impl Thinning {
-    // Returns whether the state of an index is followed.
+    // Returns whether a state is followed, by its index among those in which a lane may give.
     fn keeps(&self, at: usize) -> bool
         ensures all { self.now.is_over ≡ false → result ≡ true }
         ensures last { at + 1 ≡ self.now.count → 1 ≤ self.now.share → result ≡ true }
@@ -81,8 +81,7 @@ impl Thinning {
     }
 }
 
-// Returns whether the state of an index is followed, if `most` of `count` are: they are spread
-// evenly.
+// Returns whether the state of an index is followed, if `most` of `count` are, spread evenly.
 fn is_kept(at: usize, most: u64, count: usize) -> bool
     ensures last { at + 1 ≡ count → 1 ≤ most → result ≡ true }
 {
@@ -116,7 +115,7 @@ fn add_led(level: &mut Level, led: &Led, lane: usize, reached: Reached) -> Resul
         })) }
 {
     let first = with_lane(*level.allocator(), led.first.as_slice(), lane)?;
-    let (stamp, led) = reached.led_by(first, led.count);
+    let (stamp, led) = reached.into_entry(first, led.count);
     add(level, stamp, led)
 }
 
@@ -270,7 +269,7 @@ impl Search {
     {
         walk.restart()?;
         let here = look(self.alloc, walk, self.is_serial)?;
-        let (stamp, led) = here.led_by(Items::new(self.alloc), 1);
+        let (stamp, led) = here.into_entry(Items::new(self.alloc), 1);
         let mut level = IndexMap::new(self.alloc);
         add(&mut level, stamp, led)?;
         Ok(level)
@@ -317,8 +316,8 @@ impl Search {
         Ok(())
     }
 
-    // Follows orders of so many lines from the initial state of a walk, and counts them for the
-    // endings to which they lead. Returns whether it left out no state.
+    // Follows orders of at most so many lines from the initial state of a walk, and counts them for
+    // the endings to which they lead. Returns whether it left out no state.
     fn count_orders<W: Walk, P: Progress>(
         mut self,
         walk: &mut W,
@@ -349,11 +348,11 @@ impl Search {
 /// orders is kept. Each ending stands once, with the first order that leads to it, and how many
 /// orders and serial orders do. Serial orders are followed by themselves.
 ///
-/// If more than `limit` states have a lane that may give, only some of each level are followed from
-/// there on. Then the report isn't whole: its endings are those of some orders, and numbers are
-/// lower bounds.
+/// Once the levels have more than `limit` states in which a lane may give, each level is thinned
+/// out. If that leaves out a state, the report isn't whole: its endings are those of some orders,
+/// and numbers are lower bounds.
 ///
-/// Tells `progress` how far the search is, after each state that is followed.
+/// Tells `progress` how far the search is, after each state that is followed or taken over.
 ///
 /// Errors: `NoMemory`.
 ///

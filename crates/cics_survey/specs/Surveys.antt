@@ -18,8 +18,8 @@ use Rattle.cics_survey.specs.declared.surveys.Survey.{Survey}
 abbrev pub parts_at : Bool → State → Parts
 parts_at with_told s = parts_of s.machine with_told s.lanes
 
--- A report on the orders of a plan. It has all of them if at most as many states as the limit have a
--- lane that may give. It has all serial ones if this holds of the states of their search.
+-- A report on the orders of a plan. It has all of them if at most as many states as the limit have
+-- a lane that may give. It has all serial ones if this holds of the states of their search.
 pub record IsReportOf (p : Plan) (w : Orders) (r : Report) : Type 0 where
   pub report : IsReport lanes (parts_at w.told) (λ s. s.is_serial) (line_count p) (initial_state p) r
   pub within : state_count lanes breaks (state_stamp w.told) false (initial_state p) (line_count p) ≤ w.limit → r.is_whole ≡ true

@@ -39,8 +39,8 @@ fn follow<P: Progress>(
     }
 }
 
-/// Takes a script apart, and follows the orders of its lines through about `wanted.limit` states,
-/// as `cics_search::explore` does. `lines` are its lines, each without its line end. `wanted.told`
+/// Takes a script apart, and follows the orders of its lines within the limit `wanted.limit`, as
+/// `cics_search::explore` does. `lines` are its lines, each without its line end. `wanted.told`
 /// tells endings apart by what tasks were told too. If a line has a fault, returns the number of
 /// the first such line and its fault instead.
 ///

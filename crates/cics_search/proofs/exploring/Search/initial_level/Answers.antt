@@ -15,10 +15,10 @@ returns-clause-level g c =
     let s = w.initial c.args.walk.now in
     let b = c.args.self.now.is_serial in
     let here = c.in_ok-here.ensures ∙ ap (reached w.lanes w.breaks w.stamp b) c.in_ok-restart.ensures in
-    let made : c.led_by-stamp.result ≡ entry w.lanes w.breaks w.stamp b [] 1 s
-    = c.led_by-stamp.ensures ∙ (λ i. ((here i).stamp, record { first = c.new.ensures i; lanes = (here i).lanes; has_ended = (here i).has_ended; count = 1 })) in
+    let made : c.into_entry-stamp.result ≡ entry w.lanes w.breaks w.stamp b [] 1 s
+    = c.into_entry-stamp.ensures ∙ (λ i. ((here i).stamp, record { first = c.new.ensures i; lanes = (here i).lanes; has_ended = (here i).has_ended; count = 1 })) in
     initial_level w.lanes w.breaks w.stamp w.ending b s (w.stamps_tell b c.args.walk.now) true c.add.new.met.entries
-    (c.in_ok-add.ensures ∙ ap (λ (es : List (Bytes × Led)). added bytes_eq led_joined es c.led_by-stamp.result.0 c.led_by-stamp.result.1) c.new-level.ensures.empty
+    (c.in_ok-add.ensures ∙ ap (λ (es : List (Bytes × Led)). added bytes_eq led_joined es c.into_entry-stamp.result.0 c.into_entry-stamp.result.1) c.new-level.ensures.empty
     ∙ ap (λ (e : Bytes × Led). e ∷ []) made)
 
 pub returns-clause-initial : goal.returns-clause-initial
