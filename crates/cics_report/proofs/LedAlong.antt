@@ -27,7 +27,8 @@ use Rattle.cics_plans.specs.declared.plans.Planned.{Planned}
 use Rattle.cics_plans.specs.declared.plans.TaskPlan.{TaskPlan}
 use Rattle.cics_orders.specs.Giving.{State, is_of, hearing, shut, issuing, timing, shutting, left_by, after_line, drain_step, told_by, drained_once, after_step, drained_within, drained, may_give, is_ready, givers, with_given, counted, ends_turn, given_line, given_by, given, lanes, opened, task_lane, initial_lane, initial_state}
 use Rattle.cics_orders.specs.OrderLaws.{May, numbers_may}
-use Rattle.cics_orders.specs.GivenLanes.{frame, core, core_hearing, core_shut, IsRight, AreApart, AreRight, none_at, apart_frames, right_frames, right_at, apart_initial, right_initial}
+use Rattle.cics_orders.specs.Gists.{Gist, Gave, gist, gave_at, stays_given}
+use Rattle.cics_orders.specs.GivenLanes.{frame, IsRight, AreApart, AreRight, none_at, apart_frames, right_frames, right_at, apart_initial, right_initial}
 use Rattle.cics_orders.specs.Ended.{ended_lane, AcceptsReady}
 use Rattle.cics_orders.specs.EndedLanes.{orders_accept}
 use Rattle.cics_orders.specs.Ways.{Holds, holds_along, label_of_lane, right_command, one_of}
@@ -42,52 +43,16 @@ use Rattle.cics_report.proofs.Leading.{leads_more, right_runs, attaches}
 
 -- ---- Only the lane that gives counts a line
 
-cores_by : {X : Type 0} (s : State) (told : X → List Lane) (r : Result X Refused) (m : Machine) → ((x : X) → map core (told x) ≡ map core s.lanes) →
-    map core (left_by s told r m).lanes ≡ map core s.lanes
-cores_by s told (Ok x) m same = same x
-cores_by s told (Err e) m same = refl
-
-cores_line : (s : State) (r : Result Line LineFault) → map core (after_line s r).lanes ≡ map core s.lanes
-cores_line s (Ok (says.Issue label command)) =
-    let step = issuing s.machine label command in cores_by s (hearing s.lanes label) step.outcome step.machine (core_hearing s.lanes label)
-cores_line s (Ok (says.Clock seconds)) = let step = timing s.machine seconds in cores_by s (λ _. s.lanes) step.outcome step.machine (λ _. refl)
-cores_line s (Ok says.Shutdown) = let step = shutting s.machine in cores_by s (λ _. map shut s.lanes) step.outcome step.machine (λ _. core_shut s.lanes)
-cores_line s _ = refl
-
-cores_step : (s t : State) → drained_once s ≡ Some t → map core t.lanes ≡ map core s.lanes
-unfolding drained_once
-cores_step s t = by (drain_step s.machine).outcome
-  where
-    by : (o : Option (Bytes × Outcome)) → told_by s o (drain_step s.machine).machine ≡ Some t → map core t.lanes ≡ map core s.lanes
-    by (Some told) is =
-        let same : record s { machine = (drain_step s.machine).machine; lanes = hearing s.lanes told.0 told.1 } ≡ t = cc in
-        ap (λ (t : State). map core t.lanes) (sym same) ∙ core_hearing s.lanes told.0 told.1
-    by None is = cc
-
-cores_within : (n : ℕ) (s : State) → map core (drained_within n s).lanes ≡ map core s.lanes
-unfolding drained_within
-cores_within zero s = refl
-cores_within (suc n) s = by (cores_within n) (drained_once s) refl
-  where
-    by : ((t : State) → map core (drained_within n t).lanes ≡ map core t.lanes) → (o : Option State) → drained_once s ≡ o →
-        map core (after_step s o (drained_within n)).lanes ≡ map core s.lanes
-    by rest None is = refl
-    by rest (Some t) is = rest t ∙ cores_step s t is
-
-cores_drained : (s : State) → map core (drained s).lanes ≡ map core s.lanes
-unfolding drained
-cores_drained s = cores_within (length s.machine.waiting) s
-
 -- how many lines each lane has given
 abbrev counts : List Lane → List ℕ
 counts xs = map (λ x. x.given) xs
 
-counts_core : (xs : List Lane) → counts (map core xs) ≡ counts xs
-counts_core [] = refl
-counts_core (x ∷ xs) = ap (λ ns. x.given ∷ ns) (counts_core xs)
+counts_gist : (xs : List Lane) → map (λ (g : Gist). g.given) (map gist xs) ≡ counts xs
+counts_gist [] = refl
+counts_gist (x ∷ xs) = ap (λ ns. x.given ∷ ns) (counts_gist xs)
 
-counts_same : (xs ys : List Lane) → map core xs ≡ map core ys → counts xs ≡ counts ys
-counts_same xs ys same = sym (counts_core xs) ∙ ap counts same ∙ counts_core ys
+counts_same : (xs ys : List Lane) → map gist xs ≡ map gist ys → counts xs ≡ counts ys
+counts_same xs ys same = sym (counts_gist xs) ∙ ap (map (λ (g : Gist). g.given)) same ∙ counts_gist ys
 
 counts_given : (xs : List Lane) (l : ℕ) (x : Lane) (ends : Bool) → counts (slice_set xs l (with_given x ends)) ≡ slice_set (counts xs) l (x.given + 1)
 counts_given [] l x ends = refl
@@ -167,8 +132,11 @@ module _ (q : Played) (p : Plan) (proper : is_proper p ≡ true) (before : List 
       c : State
       c = counted s l x (ends_turn (line next.1))
 
+      gives : Gave s l x next
+      gives = gave_at s l x next at is
+
       after_it : given s l ≡ drained (after_line c (line next.1))
-      after_it = ap (given_by s l) at ∙ ap (given_line s l x) is
+      after_it = gives.is
 
       lines_same : lane_lines p l ≡ x.lines
       lines_same = lines_at p.clock p.tasks l (frame x) (ap (λ xs. slice_get xs l) (sym holds.frames) ∙ frame_at s.lanes l x at)
@@ -182,10 +150,7 @@ module _ (q : Played) (p : Plan) (proper : is_proper p ≡ true) (before : List 
           ∙ ap (λ n. (slice_set a.0 l (n + 1), a.1 ++ next ∷ [])) count_same
 
       counts_now : counts (given s l).lanes ≡ slice_set (counts s.lanes) l (x.given + 1)
-      counts_now =
-          ap (λ (t : State). counts t.lanes) after_it
-          ∙ counts_same (drained (after_line c (line next.1))).lanes c.lanes (cores_drained (after_line c (line next.1)) ∙ cores_line c (line next.1))
-          ∙ counts_given s.lanes l x (ends_turn (line next.1))
+      counts_now = counts_same (given s l).lanes c.lanes (stays_given s l x next gives).gists ∙ counts_given s.lanes l x (ends_turn (line next.1))
 
       right : IsRight x.label (line next.1)
       right = right_at s.lanes l x (right_frames s.lanes (subst AreRight (sym holds.frames) (right_initial p proper))) at x.given next is
