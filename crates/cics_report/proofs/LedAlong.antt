@@ -1,13 +1,11 @@
 -- The plain run of an order's lines goes the way of the order.
-use Rattle.std.proofs.Common.{◌≡◌, ℕ, zero, suc, ◌+◌, Bool, true, false, List, [], ◌∷◌, ◌++◌, map, length, replicate, get_or, Option, None, Some, Result, Ok, Err, refl, ap, sym, ◌∙◌, arith, subst, append_assoc, append-nil}
+use Rattle.std.proofs.Common.{◌≡◌, ℕ, zero, suc, ◌+◌, Bool, true, false, List, [], ◌∷◌, ◌++◌, map, length, replicate, get_or, Option, None, Some, Result, Ok, refl, ap, sym, ◌∙◌, arith, subst, append_assoc, append-nil}
 use Rattle.std.proofs.lemmas.Bool.{and_parts}
 use Rattle.std.proofs.lemmas.List.{map-append}
 use Rattle.std.specs.Prelude.{if◌then◌else◌, is_some, slice_get, slice_set}
 use Rattle.std.specs.List.{fold}
 use Rattle.cics_names.specs.Keyed.{Bytes}
 use Rattle.cics_machine.specs.Machine.{Machine, task_at, initial_region}
-use Rattle.cics_machine.specs.declared.outcomes.Outcome.{Outcome}
-use Rattle.cics_machine.specs.declared.outcomes.Refused.{Refused}
 use Rattle.cics_script.specs.Lines.{line}
 use Rattle.cics_script.specs.declared.lines.Line.{Line}
 use Rattle.cics_script.specs.declared.lines.Line.TheVariants as says
@@ -25,7 +23,7 @@ use Rattle.cics_plans.proofs.Proper.{proper_parts, planned_proper}
 use Rattle.cics_plans.specs.declared.plans.Plan.{Plan}
 use Rattle.cics_plans.specs.declared.plans.Planned.{Planned}
 use Rattle.cics_plans.specs.declared.plans.TaskPlan.{TaskPlan}
-use Rattle.cics_orders.specs.Giving.{State, is_of, hearing, shut, issuing, timing, shutting, left_by, after_line, drain_step, told_by, drained_once, after_step, drained_within, drained, may_give, is_ready, givers, with_given, counted, ends_turn, given_line, given_by, given, lanes, opened, task_lane, initial_lane, initial_state}
+use Rattle.cics_orders.specs.Giving.{State, is_of, after_line, drained, may_give, is_ready, givers, with_given, counted, ends_turn, given, lanes, opened, task_lane, initial_lane, initial_state}
 use Rattle.cics_orders.specs.OrderLaws.{May, numbers_may}
 use Rattle.cics_orders.specs.Gists.{Gist, Gave, gist, gave_at, stays_given}
 use Rattle.cics_orders.specs.GivenLanes.{frame, IsRight, AreApart, AreRight, none_at, apart_frames, right_frames, right_at, apart_initial, right_initial}
