@@ -29,7 +29,7 @@ pub record Gist : Type 0 where
 abbrev pub gist : Lane → Gist
 gist x = record { label = x.label; lines = x.lines; given = x.given; is_in_turn = x.is_in_turn }
 
--- a state after events: the same plan, lane that gave last, seriality, and gists of lanes
+-- a state after events: the same plan, `last`, seriality, and gists of lanes
 pub record Stays (s t : State) : Type 0 where
   pub plan : t.plan ≡ s.plan
   pub last : t.last ≡ s.last

@@ -30,8 +30,9 @@ use Rattle.cics_plans.specs.declared.plans.Plan.{Plan}
 use Rattle.cics_plans.specs.declared.plans.TaskPlan.{TaskPlan}
 use Rattle.cics_orders.specs.declared.lanes.Lane.{Lane}
 
--- A script's plan, the machine of its region, and the lanes. `last`: the task's lane that gave last.
--- `is_serial`: no task within a turn gave a line after another task's.
+-- A script's plan, the machine of its region, and the lanes. `last`: the task's lane that gave last,
+-- if that line didn't end its turn. `is_serial`: no task within a turn gave a line after another
+-- task's.
 pub record State : Type 0 where
   pub plan : Plan
   pub machine : Machine
@@ -194,7 +195,7 @@ abbrev pub ends_turn : Result Line LineFault → Bool
 ends_turn (Ok (Issue label command)) = is_end command.verb
 ends_turn _ = false
 
--- the lane of a number gave last
+-- this is the lane of a number
 abbrev pub is_lane : Option ℕ → ℕ → Bool
 is_lane None l = false
 is_lane (Some k) l = k == l
@@ -208,7 +209,7 @@ with_given lane ends = record lane { given = lane.given + 1; is_in_turn = is_som
 abbrev pub counted : State → ℕ → Lane → Bool → State
 counted s l lane ends = record s {
   lanes = slice_set s.lanes l (with_given lane ends);
-  last = if is_some lane.label then Some l else s.last;
+  last = if is_some lane.label then (if ends then None else Some l) else s.last;
   is_serial = s.is_serial && (not lane.is_in_turn || is_lane s.last l);
 }
 

@@ -318,16 +318,20 @@ record Owes (s : State) : Type 0 where
 abbrev Lost : State → Type 0
 Lost s = (s.is_serial ≡ false) ⊎ Owes s
 
+gave_last : (l k : ℕ) → l == k ≡ false → (ends : Bool) → is_lane (if ends then None else Some l) k ≡ false
+gave_last l k apart true = refl
+gave_last l k apart false = apart
+
 last_given : (s : State) (l k : ℕ) → l == k ≡ false → is_lane s.last k ≡ false → is_lane (given s l).last k ≡ false
 last_given s l k apart other = by (gave s l)
   where
-    or_last : (label : Option Bytes) → is_lane (if is_some label then Some l else s.last) k ≡ false
-    or_last None = other
-    or_last (Some own) = apart
+    or_last : (label : Option Bytes) (ends : Bool) → is_lane (if is_some label then (if ends then None else Some l) else s.last) k ≡ false
+    or_last None ends = other
+    or_last (Some own) ends = gave_last l k apart ends
 
     by : (given s l ≡ s) ⊎ ((y : Lane) × (next : NumberedLine) × Gave s l y next) → is_lane (given s l).last k ≡ false
     by (inl same) = ap (λ (s : State). is_lane s.last k) same ∙ other
-    by (inr (y, next, gave)) = ap (λ last. is_lane last k) (stays_given s l y next gave).last ∙ or_last y.label
+    by (inr (y, next, gave)) = ap (λ last. is_lane last k) (stays_given s l y next gave).last ∙ or_last y.label (ends_turn (line next.1))
 
 lost_step : (s : State) (l : ℕ) → Sound s → Lost s → Lost (given s l)
 lost_step s l sound (inl lost) = inl (lost_given s l lost)
@@ -604,7 +608,8 @@ lost_broken s l y next sound gave is = by y.is_in_turn refl broken.turn
           within = within;
           held = held_given k label x within s sound held l off;
           other =
-              ap (λ last. is_lane last k) (stays_given s l y next gave).last ∙ ap (λ b. is_lane (if b then Some l else s.last) k) broken.task ∙ ne_eqb l k off;
+              ap (λ last. is_lane last k) (stays_given s l y next gave).last ∙ ap (λ b. is_lane (if b then (if ends_turn (line next.1) then None else Some l) else s.last) k) broken.task
+              ∙ gave_last l k (ne_eqb l k off) (ends_turn (line next.1));
         }
 
     by : (b : Bool) → y.is_in_turn ≡ b → b || turn_goes_on s ≡ true → Lost (given s l)

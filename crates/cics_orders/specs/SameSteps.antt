@@ -54,9 +54,9 @@ module _ (m n : Machine) (same : HaveSameFuture m n) where
 
 -- ---- What is seen of the order so far
 
-last_same : (serial : Bool) (l : ℕ) (o p : Option ℕ) (a b : Bool) → a ≡ b → last_seen serial o ≡ last_seen serial p → last_seen serial (if a then Some l else o) ≡ last_seen serial (if b then Some l else p)
-last_same true l o p a b task same = λ i. if task i then Some l else same i
-last_same false l o p a b task same = refl
+last_same : (serial : Bool) (given o p : Option ℕ) (a b : Bool) → a ≡ b → last_seen serial o ≡ last_seen serial p → last_seen serial (if a then given else o) ≡ last_seen serial (if b then given else p)
+last_same true given o p a b task same = λ i. if task i then given else same i
+last_same false given o p a b task same = refl
 
 serial_same : (serial : Bool) (l : ℕ) (o p : Option ℕ) (a b c d : Bool) → last_seen serial o ≡ last_seen serial p → (serial && a) ≡ (serial && b) → (serial && c) ≡ (serial && d) →
     (serial && (a && (not c || is_lane o l))) ≡ (serial && (b && (not d || is_lane p l)))
@@ -152,7 +152,7 @@ module _ (told serial : Bool) where
     plan = same.plan;
     machine = same.machine;
     lanes = given_same told serial s.lanes t.lanes l x y ends same.lanes one;
-    last = last_same serial l s.last t.last (is_some x.label) (is_some y.label) (ap (λ (z : Lane). is_some z.label) one) same.last;
+    last = last_same serial (if ends then None else Some l) s.last t.last (is_some x.label) (is_some y.label) (ap (λ (z : Lane). is_some z.label) one) same.last;
     is_serial = serial_same serial l s.last t.last s.is_serial t.is_serial x.is_in_turn y.is_in_turn same.last same.is_serial (ap (λ (z : Lane). z.is_in_turn) one);
   }
 

@@ -73,11 +73,11 @@ lane_stamp lane =
 
 -- ---- States
 
--- the task's lane that gave last is seen only with `serial`
+-- `last` is seen only with `serial`
 abbrev pub last_seen : Bool → Option ℕ → Option ℕ
 last_seen serial last = if serial then last else None
 
--- a state: its lanes, the lane that gave last, whether its order is serial, and its region
+-- a state: its lanes, `last`, whether its order is serial, and its region
 unfoldable pub state_stamp : Bool → Bool → State → List ℕ
 state_stamp told serial s =
     list_stamp lane_stamp (map (seen told serial) s.lanes)

@@ -35,8 +35,8 @@ may_go_on s _ _ = false
 abbrev pub turn_goes_on : State → Bool
 turn_goes_on s = is_proper s.plan && may_go_on s (option_and_then (slice_get s.lanes) s.last) (slice_get s.lanes (length s.lanes - 1))
 
--- a task's lane breaks a serial order if another gave last, and it is within a turn or the other's
--- turn goes on
+-- a task's lane other than `last` breaks a serial order if it is within a turn, or if the turn of
+-- `last` goes on
 abbrev pub lane_breaks : State → ℕ → Option Lane → Bool
 lane_breaks s l None = false
 lane_breaks s l (Some lane) = is_some lane.label && not (is_lane s.last l) && (lane.is_in_turn || turn_goes_on s)

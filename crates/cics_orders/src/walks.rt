@@ -45,7 +45,7 @@ pub struct Walker {
     fresh: Vec<Lane>,
     region: Region,
     lanes: Vec<Lane>,
-    // The task's lane that gave last.
+    // The task's lane that gave last, if that line didn't end its turn.
     last: Option<usize>,
     // Whether the order so far is serial.
     is_serial: bool,
@@ -136,7 +136,7 @@ fn ends_turn(says: &Result<Line, LineFault>) -> bool
     }
 }
 
-// Returns whether the lane of a number gave last.
+// Returns whether `last` is the lane of a number.
 fn is_lane(last: Option<usize>, number: usize) -> bool
     ensures { result ≡ is_lane last number }
 {
@@ -284,7 +284,7 @@ impl Walker {
         let lane = &self.lanes[number];
         self.is_serial = self.is_serial && (!lane.is_in_turn || is_lane(self.last, number));
         if lane.label.is_some() {
-            self.last = Some(number);
+            self.last = if ends_turn { None } else { Some(number) };
         }
         self.lanes[number].give(ends_turn);
     }
