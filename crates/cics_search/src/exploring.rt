@@ -13,7 +13,7 @@ ghost use Rattle.cics_lanes.specs.States.{led_joined};
 ghost use Rattle.cics_lanes.specs.Tallies.{tally_joined};
 ghost use Rattle.cics_lanes.specs.declared.states.Led.{Led};
 ghost use Rattle.cics_search.specs.Ahead.{IsKnown};
-ghost use Rattle.cics_search.specs.Levels.{led_on, live, spread, tallied, IsEntry};
+ghost use Rattle.cics_search.specs.Levels.{live, spread, tallied, IsEntry};
 ghost use Rattle.cics_search.specs.Levels.{IsLevel, IsNext, state_count};
 ghost use Rattle.cics_search.specs.Reports.{IsReport};
 
@@ -163,37 +163,8 @@ impl Search {
         }
     }
 
-    // Follows the lanes of a state: adds the states that they lead to to the next level.
+    // Follows an entry of a level: adds what it leads to to the next level. An ended state stays.
     fn follow<W: Walk>(
-        &self,
-        walk: &mut W,
-        known: &mut Known,
-        entry: (Stamp, Led),
-        next: &mut Level,
-    ) -> Result<(), NoMemory>
-        requires entry { IsEntry W.lanes W.breaks W.stamp self.now.is_serial (W.initial walk.old)
-            entry }
-        requires known { IsKnown W.lanes W.breaks W.stamp self.now.is_serial (W.initial walk.old)
-            known.old.entries }
-        ensures known { OnOk result (IsKnown W.lanes W.breaks W.stamp self.now.is_serial
-            (W.initial walk.old) known.new.entries) }
-        ensures next { OnOk result (next.new.entries ≡ added_all bytes_eq led_joined
-            next.old.entries (led_on W.lanes W.breaks W.stamp self.now.is_serial
-            (W.initial walk.old) entry.1)) }
-        ensures initial { OnOk result (W.initial walk.new ≡ W.initial walk.old) }
-    {
-        let states = lead_on(walk, known, &entry, self.is_serial)?;
-        let led = &entry.1;
-        let mut at = 0usize;
-        for reached in states.into_vec() {
-            add_led(next, led, led.lanes.as_slice()[at], reached)?;
-            at += 1;
-        }
-        Ok(())
-    }
-
-    // Follows an entry of a level: adds what it leads to to the next level.
-    fn step<W: Walk>(
         &self,
         walk: &mut W,
         known: &mut Known,
@@ -214,7 +185,14 @@ impl Search {
         if entry.1.has_ended {
             return add(next, entry.0, entry.1);
         }
-        self.follow(walk, known, entry, next)
+        let states = lead_on(walk, known, &entry, self.is_serial)?;
+        let led = &entry.1;
+        let mut at = 0usize;
+        for reached in states.into_vec() {
+            add_led(next, led, led.lanes.as_slice()[at], reached)?;
+            at += 1;
+        }
+        Ok(())
     }
 
     // Follows the states of a level, or some of them. Returns the next level.
@@ -250,7 +228,7 @@ impl Search {
             let is_kept = !may_go_on || thinning.keeps(at);
             at = at.saturating_add(usize::from(may_go_on));
             if is_kept {
-                self.step(walk, known, (stamp, led), &mut next)?;
+                self.follow(walk, known, (stamp, led), &mut next)?;
                 self.stand.states = self.stand.states.saturating_add(u64::from(may_go_on));
                 progress.tell(self.stand);
             } else {

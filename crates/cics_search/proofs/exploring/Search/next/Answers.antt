@@ -48,11 +48,11 @@ loop-stamp-preserved-then-is_kept g c =
     let b = c.args.self.now.is_serial in
     let e : Bytes × Led = (c.in-Some.stamp, c.in-Some.led) in
     let inv = c.loop-stamp.invariant in
-    let step = c.in_ok-step.ensures in
+    let step = c.in_ok-follow.ensures in
     record {
       initial = step.initial ∙ inv.initial;
-      known = subst (λ t. IsKnown w.lanes w.breaks w.stamp b t c.step.new.known.entries) inv.initial
-          (subst (λ (v : Bool). IsKnown w.lanes w.breaks w.stamp v (w.initial c.loop-stamp.walk) c.step.new.known.entries) inv.serial step.known);
+      known = subst (λ t. IsKnown w.lanes w.breaks w.stamp b t c.follow.new.known.entries) inv.initial
+          (subst (λ (v : Bool). IsKnown w.lanes w.breaks w.stamp v (w.initial c.loop-stamp.walk) c.follow.new.known.entries) inv.serial step.known);
       left = (subst (Each (IsEntry w.lanes w.breaks w.stamp b s)) c.in-Some.ensures.steps inv.left).1;
       serial = inv.serial;
       limit = inv.limit;
@@ -64,7 +64,7 @@ loop-stamp-preserved-then-is_kept g c =
       within = inv.within;
       some = inv.some ++ e ∷ [];
       part = part_more c.args.self.now.is_whole c.loop-stamp.self.is_whole c.args.level.entries c.loop-stamp.stamp-iterator c.next.new.self inv.some e c.in-Some.ensures.steps inv.part;
-      next = spread_more w.lanes w.breaks w.stamp b s inv.some c.step.new.next.entries c.loop-stamp.next.entries e inv.next
+      next = spread_more w.lanes w.breaks w.stamp b s inv.some c.follow.new.next.entries c.loop-stamp.next.entries e inv.next
           (step.next ∙ (λ i. added_all bytes_eq led_joined c.loop-stamp.next.entries (spread w.lanes w.breaks w.stamp (inv.serial i) (inv.initial i) e)));
     }
 
