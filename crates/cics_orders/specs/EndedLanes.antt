@@ -300,6 +300,7 @@ module _ (P : State → Type 0) (s t : State) (fits : Fits s)
       by None at is = expires (first_late mine mine.waiting) refl is
       by (Some w) at is = resumes w at (task_at mine.tasks w.label) refl expiry (expires (first_late mine mine.waiting) refl) is
 
+-- lanes and tasks still agree after a step of draining
 pub once_fits : (s t : State) → Fits s → drained_once s ≡ Some t → Fits t
 once_fits s t fits =
     once_steps Fits s t fits

@@ -188,6 +188,7 @@ waits_given xs l x ends at (w ∷ ws) idle (first, all) =
 
 -- ---- The initial state
 
+-- if all pass a test, each of them does
 pub all_at : {X : Type 0} (test : X → Bool) (xs : List X) (k : ℕ) (x : X) → list_all test xs ≡ true → slice_get xs k ≡ Some x → test x ≡ true
 all_at test [] k x all at = cc
 all_at test (y ∷ ys) zero x all at = let same : y ≡ x = cc in ap test (sym same) ∙ (and_parts (test y) (list_all test ys) all).0

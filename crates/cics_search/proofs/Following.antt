@@ -22,6 +22,15 @@ pub initial_after : {S : Type 0} (lanes : Lanes S) (initial : S → S) → ((s :
 initial_after lanes initial stays s [] = refl
 initial_after lanes initial stays s (l ∷ o) = initial_after lanes initial stays (lanes.given s l) o ∙ stays s l
 
+-- a lane gives a line in the state after an order: where that leads, and from which initial state
+pub given_there : {S : Type 0} (lanes : Lanes S) (initial : S → S) → ((s : S) (l : ℕ) → initial (lanes.given s l) ≡ initial s) → ((s : S) → initial (initial s) ≡ initial s) →
+    (t was at now : S) (o : Order) (l : ℕ) → at ≡ after lanes (initial was) o → initial was ≡ initial t → now ≡ lanes.given at l →
+    (now ≡ lanes.given (after lanes (initial t) o) l) × (initial now ≡ initial t)
+given_there lanes initial stays itself t was at now o l went same gave = (led, ap initial led ∙ stays (after lanes (initial t) o) l ∙ initial_after lanes initial stays (initial t) o ∙ itself t)
+  where
+    led : now ≡ lanes.given (after lanes (initial t) o) l
+    led = gave ∙ ap (λ s. lanes.given s l) (went ∙ ap (λ s. after lanes s o) same)
+
 -- one value more is added
 pub added_more : {K X : Type 0} (eq : K → K → Bool) (join : X → X → X) (f : ℕ → K × X) (ls : List ℕ) (i : ℕ) (base now next : List (K × X)) (k : K) (x : X) →
     i < length ls → now ≡ added_all eq join base (map f (take i ls)) → (k, x) ≡ f (get_or ls i 0) → next ≡ added eq join now k x →

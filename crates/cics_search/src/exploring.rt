@@ -1,8 +1,8 @@
 //! Follows orders level by level, and counts those that lead to each ending.
 //!
 //! A *level* has the states after orders of so many lines, and after shorter ones at whose end no
-//! lane may give, in the order of their first orders. A state is made again by its first order,
-//! unless it is known where each of its lanes leads (`ahead`).
+//! lane may give. They stand in the order of their first orders. A state is made again by its first
+//! order, unless it is known where each of its lanes leads (`ahead`).
 
 ghost use Rattle.std.specs.Prelude.{◌≡◌, ◌≤◌, ◌<◌, ◌+◌, ◌++◌, ◌∷◌, [], map, ℕ};
 ghost use Rattle.std.specs.Prelude.{true, false, List, IfOk, OnOk};

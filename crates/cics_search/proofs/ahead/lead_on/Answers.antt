@@ -5,7 +5,7 @@ use Rattle.cics_lanes.specs.States.{lanes_of, reached}
 use Rattle.cics_search.specs.Ahead.{all_reached, IsKnown, IsMet}
 use Rattle.cics_lanes.specs.declared.states.Reached.{Reached}
 use Rattle.cics_search.proofs.Advancing.{known_put, known_first, front_more, met_more}
-use Rattle.cics_search.proofs.Following.{initial_after}
+use Rattle.cics_search.proofs.Following.{given_there}
 use Rattle.cics_search.proofs.ahead.lead_on.Goals as goal
 
 -- what is known of the entry's stamp is taken
@@ -35,9 +35,10 @@ go_on-requires-clause-met g c =
     let x = after w.lanes s c.args.entry.now.1.first in
     let ls = c.as_slice-lanes.result.now in
     let lane = get_or ls c.loop-i.i 0 in
-    let back = c.in_ok-go_to.ensures ∙ ap (after w.lanes (w.initial c.loop-i.walk)) c.as_slice.ensures ∙ ap (λ z. after w.lanes z c.args.entry.now.1.first) c.loop-i.invariant.initial in
-    let given : c.give.new.self ≡ w.lanes.given x lane = c.in_ok-give.ensures ∙ ap (λ z. w.lanes.given z lane) back in
-    let begun : w.initial c.give.new.self ≡ s = ap w.initial given ∙ w.initial_stays x lane ∙ initial_after w.lanes w.initial w.initial_stays s c.args.entry.now.1.first ∙ w.initial_is_initial t in
+    let led = given_there w.lanes w.initial w.initial_stays w.initial_is_initial t _ _ _ c.args.entry.now.1.first lane
+    (c.in_ok-go_to.ensures ∙ ap (after w.lanes (w.initial c.loop-i.walk)) c.as_slice.ensures) c.loop-i.invariant.initial c.in_ok-give.ensures in
+    let given : c.give.new.self ≡ w.lanes.given x lane = led.0 in
+    let begun : w.initial c.give.new.self ≡ s = led.1 in
     subst (λ z. IsMet w.lanes z c.give.new.self) (sym begun)
     (met_more w.lanes w.breaks w.stamp w.ending b s (w.stamps_tell b t) x c.give.new.self c.loop-i.i ls (c.args.entry.now.1.first, c.requires.entry.way, refl)
     (c.as_slice-lanes.ensures ∙ c.requires.entry.lanes_there) (omega arith) given)
@@ -50,9 +51,10 @@ go_on-requires-clause-known g c =
     let b = c.args.is_serial in
     let x = after w.lanes s c.args.entry.now.1.first in
     let lane = get_or c.as_slice-lanes.result.now c.loop-i.i 0 in
-    let back = c.in_ok-go_to.ensures ∙ ap (after w.lanes (w.initial c.loop-i.walk)) c.as_slice.ensures ∙ ap (λ z. after w.lanes z c.args.entry.now.1.first) c.loop-i.invariant.initial in
-    let given : c.give.new.self ≡ w.lanes.given x lane = c.in_ok-give.ensures ∙ ap (λ z. w.lanes.given z lane) back in
-    let begun : w.initial c.give.new.self ≡ s = ap w.initial given ∙ w.initial_stays x lane ∙ initial_after w.lanes w.initial w.initial_stays s c.args.entry.now.1.first ∙ w.initial_is_initial t in
+    let led = given_there w.lanes w.initial w.initial_stays w.initial_is_initial t _ _ _ c.args.entry.now.1.first lane
+    (c.in_ok-go_to.ensures ∙ ap (after w.lanes (w.initial c.loop-i.walk)) c.as_slice.ensures) c.loop-i.invariant.initial c.in_ok-give.ensures in
+    let given : c.give.new.self ≡ w.lanes.given x lane = led.0 in
+    let begun : w.initial c.give.new.self ≡ s = led.1 in
     subst (λ z. IsKnown w.lanes w.breaks w.stamp b z c.loop-i.known.entries) (sym begun) c.loop-i.invariant.known
 
 -- the state that a lane more leads to is there
@@ -67,9 +69,10 @@ loop-i-preserved g c =
     let states = c.loop-i.states in
     let ls = c.as_slice-lanes.result.now in
     let lane = get_or ls c.loop-i.i 0 in
-    let back = c.in_ok-go_to.ensures ∙ ap (after w.lanes (w.initial c.loop-i.walk)) c.as_slice.ensures ∙ ap (λ z. after w.lanes z c.args.entry.now.1.first) inv.initial in
-    let given : c.give.new.self ≡ w.lanes.given x lane = c.in_ok-give.ensures ∙ ap (λ z. w.lanes.given z lane) back in
-    let begun : w.initial c.give.new.self ≡ s = ap w.initial given ∙ w.initial_stays x lane ∙ initial_after w.lanes w.initial w.initial_stays s c.args.entry.now.1.first ∙ w.initial_is_initial t in
+    let led = given_there w.lanes w.initial w.initial_stays w.initial_is_initial t _ _ _ c.args.entry.now.1.first lane
+    (c.in_ok-go_to.ensures ∙ ap (after w.lanes (w.initial c.loop-i.walk)) c.as_slice.ensures) c.loop-i.invariant.initial c.in_ok-give.ensures in
+    let given : c.give.new.self ≡ w.lanes.given x lane = led.0 in
+    let begun : w.initial c.give.new.self ≡ s = led.1 in
     let next : ℕ → Reached = λ l. reached w.lanes w.breaks w.stamp b (w.lanes.given x l) in
     let are : ls ≡ lanes_of w.lanes w.breaks b x = c.as_slice-lanes.ensures ∙ c.requires.entry.lanes_there in
     let short : length states < length ls = omega (arith, inv.count) in
