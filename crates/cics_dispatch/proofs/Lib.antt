@@ -1,1 +1,5 @@
 mod RegionCalls
+pub mod OfMachine
+pub mod OfFuture
+pub mod OfNotes
+pub mod OfDeadlocks

@@ -4,13 +4,13 @@ use Rattle.std.specs.Prelude.{◌≡◌, Bool, true, false, if◌then◌else◌,
 use Rattle.std.specs.Result.{IsErr, IsErrAnd}
 use Rattle.std.proofs.Common.{◌∙◌, sym, ap, subst}
 use Rattle.std.proofs.lemmas.Bool.{false≢true}
-use Rattle.cics_machine.specs.Machine.{Machine, RegionValue}
-use Rattle.cics_machine.specs.Steps.{Stepped}
-use Rattle.cics_machine.specs.Answers.{IsStep}
-use Rattle.cics_machine.specs.Shutdown.{IsRegionStep}
-use Rattle.cics_machine.specs.declared.outcomes.Refused.{Refused}
-use Rattle.cics_machine.specs.declared.outcomes.Refused.TheVariants.{RegionDown}
-use Rattle.cics_machine.proofs.RegionShutdown.{up_step}
+use Rattle.cics_dispatch.specs.Machine.Machine.{Machine, RegionValue}
+use Rattle.cics_dispatch.specs.Machine.Steps.{Stepped}
+use Rattle.cics_dispatch.specs.Machine.Answers.{IsStep}
+use Rattle.cics_dispatch.specs.Machine.Shutdown.{IsRegionStep}
+use Rattle.cics_dispatch.specs.declared.machine.outcomes.Refused.{Refused}
+use Rattle.cics_dispatch.specs.declared.machine.outcomes.Refused.TheVariants.{RegionDown}
+use Rattle.cics_dispatch.proofs.OfMachine.RegionShutdown.{up_step}
 
 module _ {X : Type 0} (wants : Machine → Bool) (step : Machine → Stepped (Result X Refused)) (r : Result X Refused) where
   -- an error that is passed on is the step's

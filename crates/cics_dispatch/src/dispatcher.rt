@@ -20,37 +20,37 @@ ghost use Rattle.std.specs.Prelude.{◌≡◌, ◌<◌, ◌≤◌, true, false, 
 ghost use Rattle.std.specs.Prelude.{slice_get};
 ghost use Rattle.std.specs.Prelude.{IfErr, IfSome, IfNone, Result, Ok, Err};
 ghost use Rattle.std.specs.Option.{option_copied};
-ghost use Rattle.cics_machine.specs.Machine.{units_after, definition_of};
-ghost use Rattle.cics_machine.specs.Machine.{RegionValue, initial_region, task_at, abended};
-ghost use Rattle.cics_machine.specs.Machine.{is_waiting};
-ghost use Rattle.cics_machine.specs.Machine.{unit_closed, state_after};
-ghost use Rattle.cics_machine.specs.Checks.{fault_of};
+ghost use Rattle.cics_dispatch.specs.Machine.Machine.{units_after, definition_of};
+ghost use Rattle.cics_dispatch.specs.Machine.Machine.{RegionValue, initial_region, task_at, abended};
+ghost use Rattle.cics_dispatch.specs.Machine.Machine.{is_waiting};
+ghost use Rattle.cics_dispatch.specs.Machine.Machine.{unit_closed, state_after};
+ghost use Rattle.cics_dispatch.specs.Machine.Checks.{fault_of};
 ghost use Rattle.cics_history.specs.Execution.{IsOpenUnit, IsOpenOrNone};
 ghost use Rattle.cics_history.specs.Headline.{IsHeadline};
 ghost use Rattle.cics_history.specs.Serial.{IsSerializable};
 ghost use Rattle.cics_history.specs.Records.{key_of};
-ghost use Rattle.cics_machine.specs.Steps.{answered, attached, busy_of, key_read, op_of};
-ghost use Rattle.cics_machine.specs.Steps.{suspended};
-ghost use Rattle.cics_machine.specs.Waking.{clock_set};
+ghost use Rattle.cics_dispatch.specs.Machine.Steps.{answered, attached, busy_of, key_read, op_of};
+ghost use Rattle.cics_dispatch.specs.Machine.Steps.{suspended};
+ghost use Rattle.cics_dispatch.specs.Machine.Waking.{clock_set};
 ghost use Rattle.cics_history.specs.State.{file_recoverable};
-ghost use Rattle.cics_machine.specs.Regions.{IsRegionKept};
-ghost use Rattle.cics_machine.specs.Settled.{is_keeping};
-ghost use Rattle.cics_machine.specs.Blockers.{unit_of};
-ghost use Rattle.cics_machine.specs.Answers.{IsStep, attach_may_want};
+ghost use Rattle.cics_dispatch.specs.Machine.Regions.{IsRegionKept};
+ghost use Rattle.cics_dispatch.specs.Machine.Settled.{is_keeping};
+ghost use Rattle.cics_dispatch.specs.Machine.Blockers.{unit_of};
+ghost use Rattle.cics_dispatch.specs.Machine.Answers.{IsStep, attach_may_want};
 ghost use Rattle.cics_names.specs.Commands.{file_named};
-ghost use Rattle.cics_machine.specs.Calls.{OfTask, IsAwake, HasReady, MayPerform};
-ghost use Rattle.cics_machine.specs.Calls.{KeepsRegion, IsStepOf};
-ghost use Rattle.cics_machine.specs.Calls.{IsStepOrRefused, IsAttempt, going_on, waiting_for};
-ghost use Rattle.cics_machine.specs.Emptied.{whole, AreToldAlike};
+ghost use Rattle.cics_dispatch.specs.Machine.Calls.{OfTask, IsAwake, HasReady, MayPerform};
+ghost use Rattle.cics_dispatch.specs.Machine.Calls.{KeepsRegion, IsStepOf};
+ghost use Rattle.cics_dispatch.specs.Machine.Calls.{IsStepOrRefused, IsAttempt, going_on, waiting_for};
+ghost use Rattle.cics_dispatch.specs.Machine.Emptied.{whole, AreToldAlike};
 ghost use Rattle.cics_names.specs.declared.commands.Verb.{Verb as VerbValue};
 ghost use Rattle.cics_history.specs.Openings.{is_key};
 
-use cics_history::UnitId;
-use cics_ksds::FileDef;
-use cics_machine::{
+use crate::machine::{
     Attempt, Ending, Outcome, Refused, Reply, Tasks, Waits, file_fault, plain_reply, refill,
     reply_of_answer,
 };
+use cics_history::UnitId;
+use cics_ksds::FileDef;
 use cics_names::{Command, Condition, Name4, Name8, NoMemory, Verb};
 use cics_units::{Op, Opening, Submitted, Units};
 use std::alloc::Global;
@@ -73,8 +73,8 @@ pub(crate) struct Dispatcher {
 }
 
 impl Model for Dispatcher {
-    ghost use Rattle.cics_machine.specs.Machine.{RegionValue};
-    ghost use Rattle.cics_machine.specs.Regions.{region_of, IsRegionKept};
+    ghost use Rattle.cics_dispatch.specs.Machine.Machine.{RegionValue};
+    ghost use Rattle.cics_dispatch.specs.Machine.Regions.{region_of, IsRegionKept};
 
     ghost Value = { RegionValue };
 

@@ -5,28 +5,28 @@ ghost use Rattle.std.specs.Prelude.{IfOk, IfErr, IfSome, OnOk};
 ghost use Rattle.std.specs.Bool.{OnTrue};
 ghost use Rattle.cics_history.specs.Events.{is_live};
 ghost use Rattle.cics_history.specs.Headline.{HoldsCommitted};
-ghost use Rattle.cics_machine.specs.Machine.{initial_region};
-ghost use Rattle.cics_machine.specs.Stamps.{region_stamp};
-ghost use Rattle.cics_machine.specs.Steps.{attached, issued};
-ghost use Rattle.cics_machine.specs.Waking.{clock_set, woken, expired, IsAtRest};
-ghost use Rattle.cics_machine.specs.First.{IsFirstToGoOn, IsFirstTooLate};
-ghost use Rattle.cics_machine.specs.Answers.{without_tasks};
-ghost use Rattle.cics_machine.specs.Shutdown.{IsRegionStep, shut_down};
-ghost use Rattle.cics_machine.specs.Answers.{IsStep, always, attach_may_want, may_want};
-ghost use Rattle.cics_machine.specs.Answers.{IsHeadlineRegion, IsSerializableRegion};
-ghost use Rattle.cics_machine.specs.Answers.{region_listing, replayed_listing};
-ghost use Rattle.cics_machine.specs.Settled.{goes_on};
+ghost use Rattle.cics_dispatch.specs.Machine.Machine.{initial_region};
+ghost use Rattle.cics_dispatch.specs.Machine.Stamps.{region_stamp};
+ghost use Rattle.cics_dispatch.specs.Machine.Steps.{attached, issued};
+ghost use Rattle.cics_dispatch.specs.Machine.Waking.{clock_set, woken, expired, IsAtRest};
+ghost use Rattle.cics_dispatch.specs.Machine.First.{IsFirstToGoOn, IsFirstTooLate};
+ghost use Rattle.cics_dispatch.specs.Machine.Answers.{without_tasks};
+ghost use Rattle.cics_dispatch.specs.Machine.Shutdown.{IsRegionStep, shut_down};
+ghost use Rattle.cics_dispatch.specs.Machine.Answers.{IsStep, always, attach_may_want, may_want};
+ghost use Rattle.cics_dispatch.specs.Machine.Answers.{IsHeadlineRegion, IsSerializableRegion};
+ghost use Rattle.cics_dispatch.specs.Machine.Answers.{region_listing, replayed_listing};
+ghost use Rattle.cics_dispatch.specs.Machine.Settled.{goes_on};
 ghost use Rattle.std.specs.Option.{option_copied};
-ghost use Rattle.cics_machine.specs.Blockers.{unit_of, blocker_of, label_at, number_of};
-ghost use Rattle.cics_machine.specs.Blockers.{waiting_command};
-ghost use Rattle.cics_machine.specs.declared.outcomes.Refused.TheVariants.{RegionDown};
+ghost use Rattle.cics_dispatch.specs.Machine.Blockers.{unit_of, blocker_of, label_at, number_of};
+ghost use Rattle.cics_dispatch.specs.Machine.Blockers.{waiting_command};
+ghost use Rattle.cics_dispatch.specs.declared.machine.outcomes.Refused.TheVariants.{RegionDown};
 
 use crate::dispatcher::Dispatcher;
+use crate::machine::{Expired, Outcome, Refused, Woken};
+use crate::notes::Notes;
 use cics_history::UnitId;
-use cics_machine::{Expired, Outcome, Refused, Woken};
 use cics_names::{Command, Name4, Name8, NoMemory};
 use cics_units::{Listing, Opening, Units};
-use cics_waits::Notes;
 use std::marker::Model;
 
 /// The tasks of a region, their waiting commands, and the files, queues and units that they share.
@@ -70,9 +70,9 @@ impl Drop for Region {
 }
 
 impl Model for Region {
-    ghost use Rattle.cics_machine.specs.Machine.{RegionValue};
-    ghost use Rattle.cics_machine.specs.Regions.{IsRegionKept};
-    ghost use Rattle.cics_machine.specs.Notes.{IsRemembered};
+    ghost use Rattle.cics_dispatch.specs.Machine.Machine.{RegionValue};
+    ghost use Rattle.cics_dispatch.specs.Machine.Regions.{IsRegionKept};
+    ghost use Rattle.cics_dispatch.specs.Machine.Notes.{IsRemembered};
 
     ghost Value = { RegionValue };
 

@@ -6,3 +6,5 @@ pub mod Owning
 pub mod Seeking
 pub mod TableLaws
 pub mod Tables
+pub mod Heads
+pub mod Numbers

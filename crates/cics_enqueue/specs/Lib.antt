@@ -4,3 +4,4 @@ pub mod Kept
 pub mod Table
 pub mod Order
 pub mod Values
+pub mod Keys

@@ -12,8 +12,8 @@ ghost use Rattle.cics_enqueue.specs.Values.{value_in};
 
 use crate::borrowed::{Kind, ResourceRef};
 use crate::enqueues::Holding;
+use crate::{Key, MOST};
 use arrayvec::ArrayVec;
-use cics_keys::{Key, MOST};
 use cics_names::{Name4, Name8, NoMemory};
 use std::collections::BTreeMap;
 

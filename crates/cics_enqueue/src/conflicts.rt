@@ -14,11 +14,11 @@ ghost use Rattle.cics_ksds.specs.Prefixes.{has_prefix};
 ghost use Rattle.cics_history.specs.Holding.{is_other};
 ghost use Rattle.cics_enqueue.specs.Table.{first_of};
 
+use crate::Key;
 use crate::borrowed::ResourceRef;
 use crate::compact::{KEY, PREFIX, file_bytes, held, held_under};
 use crate::enqueues::Holding;
 use cics_history::UnitId;
-use cics_keys::Key;
 use cics_names::Name8;
 use std::collections::BTreeMap;
 

@@ -21,12 +21,12 @@ ghost use Rattle.cics_enqueue.specs.Order.{resource_of};
 ghost use Rattle.cics_enqueue.specs.Values.{values_of, value_stamp};
 ghost use Rattle.cics_names.specs.Stamps.{list_stamp};
 
+use crate::Key;
 use crate::borrowed::{Kind, ResourceRef};
 use crate::compact::{compact, held, set_resource, set_value, value_in};
 use crate::conflicts::{Search, has_prefixes, other_unit};
 use crate::owned::{self, Owned};
 use cics_history::{Resource, UnitId};
-use cics_keys::Key;
 use cics_names::{Name8, NoMemory, stamp_number, stamp_text};
 use indexmap::IndexMap;
 use std::alloc::{AllocError, Global};

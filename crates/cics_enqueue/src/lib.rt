@@ -6,7 +6,7 @@
 //! - `enqueues`: the table of enqueues, with the public calls. The *asker* (`but_not`) is the unit
 //!   that would acquire a resource, `None` if it hasn't begun.
 //! - `borrowed`: a resource whose bytes are borrowed.
-//! - `compact`: the *table key* of a resource (`Key` of `cics_keys`): its bytes, by which the table
+//! - `compact`: the *table key* of a resource (`Key` of `cics_enqueue`): its bytes, by which the table
 //!   is ordered.
 //! - `conflicts`: look-ups of what conflicts with a resource.
 //! - `owned`: the table keys that each unit acquired.
@@ -17,9 +17,11 @@ mod borrowed;
 mod compact;
 mod conflicts;
 mod enqueues;
+mod keys;
 pub mod laws;
 mod owned;
 
 pub use borrowed::ResourceRef;
 pub use cics_history::{Resource, UnitId};
 pub use enqueues::{Enqueues, TakeFault};
+pub use keys::{Key, MOST};

@@ -8,9 +8,9 @@ ghost use Rattle.cics_names.specs.Keyed.{Bytes, is_same};
 ghost use Rattle.cics_enqueue.specs.Kept.{owns, own_count, OwnsSame, Adds, Drops};
 ghost use Rattle.cics_history.specs.Holding.{is_other};
 
+use crate::Key;
 use crate::conflicts::is_another;
 use cics_history::UnitId;
-use cics_keys::Key;
 use cics_names::NoMemory;
 use indexmap::IndexMap;
 use std::alloc::Global;

@@ -1,14 +1,14 @@
 -- A region drains: the steps that it takes, and that they are enough.
 use Rattle.std.proofs.Common.{◌≡◌, ◌<◌, ◌≤◌, ℕ, zero, suc, length, Option, None, Some, Result, Ok, refl, ap, sym, ◌∙◌, arith, subst}
 use Rattle.cics_names.specs.Keyed.{Bytes}
-use Rattle.cics_machine.specs.Machine.{Machine}
-use Rattle.cics_machine.specs.Waking.{woken, expired, IsAtRest}
-use Rattle.cics_machine.specs.declared.outcomes.Outcome.{Outcome}
-use Rattle.cics_machine.specs.declared.outcomes.Outcome.TheVariants.{Abended}
-use Rattle.cics_machine.specs.declared.outcomes.Woken.{Woken}
-use Rattle.cics_machine.specs.declared.outcomes.Expired.{Expired}
-use Rattle.cics_machine.specs.declared.outcomes.Refused.{Refused}
-use Rattle.cics_machine.proofs.FewerWaits.{woken_fewer, woken_none, expired_fewer, expired_none}
+use Rattle.cics_dispatch.specs.Machine.Machine.{Machine}
+use Rattle.cics_dispatch.specs.Machine.Waking.{woken, expired, IsAtRest}
+use Rattle.cics_dispatch.specs.declared.machine.outcomes.Outcome.{Outcome}
+use Rattle.cics_dispatch.specs.declared.machine.outcomes.Outcome.TheVariants.{Abended}
+use Rattle.cics_dispatch.specs.declared.machine.outcomes.Woken.{Woken}
+use Rattle.cics_dispatch.specs.declared.machine.outcomes.Expired.{Expired}
+use Rattle.cics_dispatch.specs.declared.machine.outcomes.Refused.{Refused}
+use Rattle.cics_dispatch.proofs.OfMachine.FewerWaits.{woken_fewer, woken_none, expired_fewer, expired_none}
 use Rattle.cics_orders.specs.Giving.{State, hearing, late, resumed, drain_step, Drains, told_by, drained_once, after_step, drained_within, drained}
 
 -- ---- One step of a machine

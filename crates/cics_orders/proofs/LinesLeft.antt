@@ -8,8 +8,8 @@ use Rattle.std.specs.Prelude.{if◌then◌else◌}
 use Rattle.cics_script.specs.Lines.{line}
 use Rattle.cics_script.specs.declared.lines.Line.{Line}
 use Rattle.cics_script.specs.declared.faults.LineFault.{LineFault}
-use Rattle.cics_plans.specs.Taking.{NumberedLine}
-use Rattle.cics_plans.specs.Proper.{is_proper}
+use Rattle.cics_orders.specs.Plans.Taking.{NumberedLine}
+use Rattle.cics_orders.specs.Plans.Proper.{is_proper}
 use Rattle.cics_orders.specs.Giving.{State, may_give}
 use Rattle.cics_orders.specs.Turns.{is_shutdown, has_shutdown, lines_to_shutdown, may_go_on, turn_goes_on}
 use Rattle.cics_orders.specs.declared.lanes.Lane.{Lane}

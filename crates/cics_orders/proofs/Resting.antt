@@ -1,12 +1,12 @@
 -- After each line of an order nothing goes on by itself.
 use Rattle.std.proofs.Common.{◌≡◌, ℕ, [], ◌∷◌, Option, None, Some, ap}
 use Rattle.std.specs.Prelude.{slice_get}
-use Rattle.cics_machine.specs.Machine.{Machine, initial_region}
-use Rattle.cics_machine.specs.Waking.{woken_first, first_free, expired_task, first_late, IsAtRest}
+use Rattle.cics_dispatch.specs.Machine.Machine.{Machine, initial_region}
+use Rattle.cics_dispatch.specs.Machine.Waking.{woken_first, first_free, expired_task, first_late, IsAtRest}
 use Rattle.cics_script.specs.Lines.{line}
-use Rattle.cics_lanes.specs.Orders.{Order, after}
-use Rattle.cics_plans.specs.Taking.{NumberedLine}
-use Rattle.cics_plans.specs.declared.plans.Plan.{Plan}
+use Rattle.cics_orders.specs.Space.Orders.{Order, after}
+use Rattle.cics_orders.specs.Plans.Taking.{NumberedLine}
+use Rattle.cics_orders.specs.declared.plans.plans.Plan.{Plan}
 use Rattle.cics_orders.specs.Giving.{State, after_line, ends_turn, counted, given_line, given_by, given, lanes, opened, initial_machine, initial_state}
 use Rattle.cics_orders.specs.declared.lanes.Lane.{Lane}
 use Rattle.cics_orders.specs.Ways.{attaches_wait}

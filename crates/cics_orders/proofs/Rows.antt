@@ -3,13 +3,13 @@ use Rattle.std.proofs.Common.{◌≡◌, ℕ, List, [], ◌∷◌, map, refl, Op
 use lib.Chars.{codes}
 use Rattle.cics_names.specs.Ebcdic.{code_of}
 use Rattle.cics_names.specs.Keyed.{Bytes}
-use Rattle.cics_machine.specs.Machine.{records_in}
-use Rattle.cics_machine.specs.declared.outcomes.Outcome.{Outcome}
-use Rattle.cics_machine.specs.declared.outcomes.Outcome.TheVariants.{Replied}
-use Rattle.cics_lanes.specs.Orders.{Order, orders, after}
-use Rattle.cics_plans.specs.Defining.{defined_by}
+use Rattle.cics_dispatch.specs.Machine.Machine.{records_in}
+use Rattle.cics_dispatch.specs.declared.machine.outcomes.Outcome.{Outcome}
+use Rattle.cics_dispatch.specs.declared.machine.outcomes.Outcome.TheVariants.{Replied}
+use Rattle.cics_orders.specs.Space.Orders.{Order, orders, after}
+use Rattle.cics_orders.specs.Plans.Defining.{defined_by}
 use Rattle.cics_orders.specs.Giving.{lanes, initial_state, given, drain_step, drained_once, drained_within, drained, issuing, timing, shutting, attaching, with_task}
-use Rattle.cics_plans.specs.declared.plans.Plan.{Plan}
+use Rattle.cics_orders.specs.declared.plans.plans.Plan.{Plan}
 use Rattle.cics_orders.specs.declared.lanes.Lane.{Lane}
 
 abbrev t1 : Bytes

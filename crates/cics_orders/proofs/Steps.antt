@@ -3,15 +3,15 @@ use Rattle.std.proofs.Common.{◌≡◌, ◌<◌, ℕ, Bool, List, length, map, 
 use Rattle.std.specs.Prelude.{slice_get, option_map, option_and_then, IfOk, OnOk}
 use Rattle.std.proofs.lemmas.Option.{slice_get_within, slice_get-map}
 use Rattle.std.specs.Result.{result_ok}
-use Rattle.cics_machine.specs.Machine.{RegionValue}
-use Rattle.cics_machine.specs.Steps.{Stepped}
-use Rattle.cics_machine.specs.Answers.{IsStep}
-use Rattle.cics_machine.specs.declared.outcomes.Refused.{Refused}
-use Rattle.cics_machine.specs.declared.outcomes.Refused.TheVariants as refusals
+use Rattle.cics_dispatch.specs.Machine.Machine.{RegionValue}
+use Rattle.cics_dispatch.specs.Machine.Steps.{Stepped}
+use Rattle.cics_dispatch.specs.Machine.Answers.{IsStep}
+use Rattle.cics_dispatch.specs.declared.machine.outcomes.Refused.{Refused}
+use Rattle.cics_dispatch.specs.declared.machine.outcomes.Refused.TheVariants as refusals
 use Rattle.cics_script.specs.Lines.{line}
 use Rattle.cics_script.specs.declared.lines.Line.{Line}
 use Rattle.cics_script.specs.declared.faults.LineFault.{LineFault}
-use Rattle.cics_plans.specs.Taking.{NumberedLine}
+use Rattle.cics_orders.specs.Plans.Taking.{NumberedLine}
 use Rattle.cics_orders.specs.Giving.{Happens, IsAnswered, State, after_line, drained, ends_turn, counted, given_line, given_by, given}
 use Rattle.cics_orders.specs.declared.lanes.Lane.{Lane}
 

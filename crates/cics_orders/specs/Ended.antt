@@ -3,10 +3,10 @@
 use Rattle.std.specs.Prelude.{◌≡◌, Bool, true, if◌then◌else◌, List, [], ◌∷◌, Option, Some, None, option_map, Result, Ok}
 use Rattle.cics_names.specs.Keyed.{Bytes}
 use Rattle.cics_names.specs.declared.commands.Command.{Command}
-use Rattle.cics_machine.specs.Machine.{Task, task_at}
-use Rattle.cics_machine.specs.Steps.{Stepped}
-use Rattle.cics_machine.specs.declared.outcomes.Outcome.{Outcome}
-use Rattle.cics_machine.specs.declared.outcomes.Refused.{Refused}
+use Rattle.cics_dispatch.specs.Machine.Machine.{Task, task_at}
+use Rattle.cics_dispatch.specs.Machine.Steps.{Stepped}
+use Rattle.cics_dispatch.specs.declared.machine.outcomes.Outcome.{Outcome}
+use Rattle.cics_dispatch.specs.declared.machine.outcomes.Refused.{Refused}
 use Rattle.cics_orders.specs.Giving.{State, is_of, is_ready, issuing}
 use Rattle.cics_orders.specs.declared.lanes.Lane.{Lane}
 

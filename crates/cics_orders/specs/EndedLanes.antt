@@ -6,26 +6,26 @@ use Rattle.cics_names.specs.Keyed.{Bytes, is_same}
 use Rattle.cics_names.specs.KeyedLaws.{is_same-self, is_same-eq}
 use Rattle.cics_names.specs.declared.commands.Command.{Command}
 use Rattle.cics_history.specs.declared.ops.UnitState.TheVariants.{BackedOut}
-use Rattle.cics_machine.specs.Machine.{Machine, Task, Suspended, task_at, is_waiting, not_waiting, with_waiting, unit_closed, abended, timed_out, initial_region}
-use Rattle.cics_machine.specs.Steps.{Stepped, new_task, attach_refusal, with_new_task, refused_or, issued_by, checked, by_op}
-use Rattle.cics_machine.specs.Checks.{fault_of}
-use Rattle.cics_machine.specs.Blockers.{waiting_command}
-use Rattle.cics_machine.specs.Shutdown.{all_ended, shut_down}
-use Rattle.cics_machine.specs.Waking.{may_go_on, first_free, went_on, woken_first, is_late, first_late, expired_task, expired}
-use Rattle.cics_machine.specs.declared.outcomes.Outcome.{Outcome}
-use Rattle.cics_machine.specs.declared.outcomes.Outcome.TheVariants.{Waiting, Abended}
-use Rattle.cics_machine.specs.declared.outcomes.Refused.{Refused}
-use Rattle.cics_machine.specs.declared.outcomes.Refused.TheVariants.{RegionDown, TaskEnded, TaskWaiting, DuplicateLabel}
-use Rattle.cics_machine.proofs.KeptTasks.{not_waiting_then}
-use Rattle.cics_machine.proofs.TaskPlaces.{place_of_task}
+use Rattle.cics_dispatch.specs.Machine.Machine.{Machine, Task, Suspended, task_at, is_waiting, not_waiting, with_waiting, unit_closed, abended, timed_out, initial_region}
+use Rattle.cics_dispatch.specs.Machine.Steps.{Stepped, new_task, attach_refusal, with_new_task, refused_or, issued_by, checked, by_op}
+use Rattle.cics_dispatch.specs.Machine.Checks.{fault_of}
+use Rattle.cics_dispatch.specs.Machine.Blockers.{waiting_command}
+use Rattle.cics_dispatch.specs.Machine.Shutdown.{all_ended, shut_down}
+use Rattle.cics_dispatch.specs.Machine.Waking.{may_go_on, first_free, went_on, woken_first, is_late, first_late, expired_task, expired}
+use Rattle.cics_dispatch.specs.declared.machine.outcomes.Outcome.{Outcome}
+use Rattle.cics_dispatch.specs.declared.machine.outcomes.Outcome.TheVariants.{Waiting, Abended}
+use Rattle.cics_dispatch.specs.declared.machine.outcomes.Refused.{Refused}
+use Rattle.cics_dispatch.specs.declared.machine.outcomes.Refused.TheVariants.{RegionDown, TaskEnded, TaskWaiting, DuplicateLabel}
+use Rattle.cics_dispatch.proofs.OfMachine.KeptTasks.{not_waiting_then}
+use Rattle.cics_dispatch.proofs.OfMachine.TaskPlaces.{place_of_task}
 use Rattle.cics_script.specs.Lines.{line}
 use Rattle.cics_script.specs.declared.lines.Line.{Line}
 use Rattle.cics_script.specs.declared.lines.Line.TheVariants as says
 use Rattle.cics_script.specs.declared.faults.LineFault.{LineFault}
-use Rattle.cics_lanes.specs.Orders.{Order, after}
-use Rattle.cics_plans.specs.Taking.{NumberedLine}
-use Rattle.cics_plans.specs.declared.plans.Plan.{Plan}
-use Rattle.cics_plans.specs.declared.plans.TaskPlan.{TaskPlan}
+use Rattle.cics_orders.specs.Space.Orders.{Order, after}
+use Rattle.cics_orders.specs.Plans.Taking.{NumberedLine}
+use Rattle.cics_orders.specs.declared.plans.plans.Plan.{Plan}
+use Rattle.cics_orders.specs.declared.plans.plans.TaskPlan.{TaskPlan}
 use Rattle.cics_orders.specs.Giving.{State, is_labelled, is_of, is_last, told_more, with_told, hearing, shut, issuing, shutting, attaching, left_by, after_line, late, resumed, drain_step, told_by, drained_once, drained, with_given, counted, ends_turn, given_line, given_by, given, lanes, opened, unless_refused, with_task, task_lane, initial_lane, initial_state}
 use Rattle.cics_orders.specs.EventCases.{step_of, after_heard, issue_cases, clock_cases, attach_cases, drained_keeps}
 use Rattle.cics_orders.specs.declared.lanes.Lane.{Lane}

@@ -20,13 +20,13 @@ use Rattle.cics_history.specs.declared.ops.Enqueued.{Enqueued}
 use Rattle.cics_history.specs.declared.ops.Enqueued.TheVariants.{Taken, MustWait as EnqMustWait, CountFull}
 use Rattle.cics_history.specs.declared.ops.UnitState.{UnitState}
 use Rattle.cics_history.specs.declared.ops.UnitState.TheVariants.{Committed, BackedOut}
-use Rattle.cics_machine.specs.Machine.{Machine, Task, Suspended, task_at, replaced, is_waiting, not_waiting, with_units, with_task, with_unit, with_browses, unit_closed, abended, records_in}
-use Rattle.cics_machine.specs.Replies.{plain, cut, read_reply}
-use Rattle.cics_machine.specs.Steps.{Stepped, unhandled, answered, reply_of, busy_of, made_to_wait, executed, enqueued, unlocked, dequeued, browse_reply, with_browse, started, reset, browsed, code_of, other_command, by_op, op_of, checked}
-use Rattle.cics_machine.specs.declared.outcomes.Outcome.{Outcome}
-use Rattle.cics_machine.specs.declared.outcomes.Outcome.TheVariants.{Replied, Abended, Ended}
-use Rattle.cics_machine.specs.declared.outcomes.Reply.{Reply}
-use Rattle.cics_machine.proofs.KeptTasks.{not_waiting_then}
+use Rattle.cics_dispatch.specs.Machine.Machine.{Machine, Task, Suspended, task_at, replaced, is_waiting, not_waiting, with_units, with_task, with_unit, with_browses, unit_closed, abended, records_in}
+use Rattle.cics_dispatch.specs.Machine.Replies.{plain, cut, read_reply}
+use Rattle.cics_dispatch.specs.Machine.Steps.{Stepped, unhandled, answered, reply_of, busy_of, made_to_wait, executed, enqueued, unlocked, dequeued, browse_reply, with_browse, started, reset, browsed, code_of, other_command, by_op, op_of, checked}
+use Rattle.cics_dispatch.specs.declared.machine.outcomes.Outcome.{Outcome}
+use Rattle.cics_dispatch.specs.declared.machine.outcomes.Outcome.TheVariants.{Replied, Abended, Ended}
+use Rattle.cics_dispatch.specs.declared.machine.outcomes.Reply.{Reply}
+use Rattle.cics_dispatch.proofs.OfMachine.KeptTasks.{not_waiting_then}
 use Rattle.cics_orders.specs.Giving.{is_last}
 use Rattle.cics_orders.specs.Ended.{ended_task}
 

@@ -3,15 +3,15 @@ use Rattle.std.proofs.Common.{◌≡◌, ℕ, zero, suc, Bool, true, false, leng
 use Rattle.std.specs.Prelude.{if◌then◌else◌}
 use Rattle.cics_names.specs.Keyed.{Bytes}
 use Rattle.cics_names.specs.declared.commands.Command.{Command}
-use Rattle.cics_machine.specs.Machine.{Machine, Task, task_at, is_waiting}
-use Rattle.cics_machine.specs.Steps.{Stepped, attach_refusal, with_new_task, refused_or, issued_by, checked}
-use Rattle.cics_machine.specs.Checks.{fault_of}
-use Rattle.cics_machine.specs.Waking.{clock_refusal}
-use Rattle.cics_machine.specs.declared.outcomes.Outcome.{Outcome}
-use Rattle.cics_machine.specs.declared.outcomes.Refused.{Refused}
-use Rattle.cics_machine.specs.declared.outcomes.Refused.TheVariants.{RegionDown, TaskEnded, TaskWaiting}
+use Rattle.cics_dispatch.specs.Machine.Machine.{Machine, Task, task_at, is_waiting}
+use Rattle.cics_dispatch.specs.Machine.Steps.{Stepped, attach_refusal, with_new_task, refused_or, issued_by, checked}
+use Rattle.cics_dispatch.specs.Machine.Checks.{fault_of}
+use Rattle.cics_dispatch.specs.Machine.Waking.{clock_refusal}
+use Rattle.cics_dispatch.specs.declared.machine.outcomes.Outcome.{Outcome}
+use Rattle.cics_dispatch.specs.declared.machine.outcomes.Refused.{Refused}
+use Rattle.cics_dispatch.specs.declared.machine.outcomes.Refused.TheVariants.{RegionDown, TaskEnded, TaskWaiting}
 use Rattle.cics_script.specs.declared.lines.Line.TheVariants as says
-use Rattle.cics_plans.specs.declared.plans.TaskPlan.{TaskPlan}
+use Rattle.cics_orders.specs.declared.plans.plans.TaskPlan.{TaskPlan}
 use Rattle.cics_orders.specs.Giving.{State, hearing, issuing, timing, attaching, left_by, after_line, drained_once, after_step, drained_within, drained, unless_refused, with_task}
 
 -- the step of a command of a task that has neither ended nor waits

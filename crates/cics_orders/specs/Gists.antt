@@ -3,15 +3,15 @@ use Rattle.std.proofs.Common.{◌≡◌, ℕ, Bool, true, false, ◌⊎◌, List
 use Rattle.std.proofs.lemmas.Bool.{and_parts}
 use Rattle.std.specs.Prelude.{if◌then◌else◌, is_some, slice_get}
 use Rattle.cics_names.specs.Keyed.{Bytes}
-use Rattle.cics_machine.specs.Machine.{Machine}
-use Rattle.cics_machine.specs.declared.outcomes.Outcome.{Outcome}
-use Rattle.cics_machine.specs.declared.outcomes.Outcome.TheVariants.{Waiting}
-use Rattle.cics_machine.specs.declared.outcomes.Refused.{Refused}
+use Rattle.cics_dispatch.specs.Machine.Machine.{Machine}
+use Rattle.cics_dispatch.specs.declared.machine.outcomes.Outcome.{Outcome}
+use Rattle.cics_dispatch.specs.declared.machine.outcomes.Outcome.TheVariants.{Waiting}
+use Rattle.cics_dispatch.specs.declared.machine.outcomes.Refused.{Refused}
 use Rattle.cics_script.specs.Lines.{line}
 use Rattle.cics_script.specs.declared.lines.Line.{Line}
 use Rattle.cics_script.specs.declared.lines.Line.TheVariants as says
 use Rattle.cics_script.specs.declared.faults.LineFault.{LineFault}
-use Rattle.cics_plans.specs.Taking.{NumberedLine}
+use Rattle.cics_orders.specs.Plans.Taking.{NumberedLine}
 use Rattle.cics_orders.specs.Giving.{State, is_of, told_more, with_told, hearing, shut, issuing, timing, shutting, left_by, after_line, drain_step, told_by, drained_once, drained, may_give, is_ready, counted, ends_turn, given_line, given_by, given}
 use Rattle.cics_orders.specs.EventCases.{drained_keeps}
 use Rattle.cics_orders.specs.declared.lanes.Lane.{Lane}

@@ -5,16 +5,16 @@ use Rattle.std.specs.Prelude.{if◌then◌else◌, slice_get, slice_set, option_
 use Rattle.std.specs.List.{list_all}
 use Rattle.cics_names.specs.Keyed.{Bytes, is_same}
 use Rattle.cics_names.specs.KeyedLaws.{is_same-self, is_same-eq}
-use Rattle.cics_machine.specs.Machine.{Suspended, is_waiting}
-use Rattle.cics_machine.specs.declared.outcomes.Outcome.{Outcome}
+use Rattle.cics_dispatch.specs.Machine.Machine.{Suspended, is_waiting}
+use Rattle.cics_dispatch.specs.declared.machine.outcomes.Outcome.{Outcome}
 use Rattle.cics_script.specs.Lines.{line}
 use Rattle.cics_script.specs.declared.lines.Line.{Line}
 use Rattle.cics_script.specs.declared.faults.LineFault.{LineFault}
-use Rattle.cics_plans.specs.Taking.{NumberedLine, has_task}
-use Rattle.cics_plans.specs.Proper.{is_command_of, is_timing, has_own_lines, are_distinct, is_proper}
-use Rattle.cics_plans.proofs.Proper.{has_first, proper_parts}
-use Rattle.cics_plans.specs.declared.plans.Plan.{Plan}
-use Rattle.cics_plans.specs.declared.plans.TaskPlan.{TaskPlan}
+use Rattle.cics_orders.specs.Plans.Taking.{NumberedLine, has_task}
+use Rattle.cics_orders.specs.Plans.Proper.{is_command_of, is_timing, has_own_lines, are_distinct, is_proper}
+use Rattle.cics_orders.specs.Plans.ProperLaws.{has_first, proper_parts}
+use Rattle.cics_orders.specs.declared.plans.plans.Plan.{Plan}
+use Rattle.cics_orders.specs.declared.plans.plans.TaskPlan.{TaskPlan}
 use Rattle.cics_orders.specs.Giving.{is_of, hearing, shut, with_given, initial_lane, task_lane, initial_lanes, initial_machine, initial_state}
 use Rattle.cics_orders.specs.Gists.{Gist, gist, gists_hearing, gists_shut}
 use Rattle.cics_orders.specs.declared.lanes.Lane.{Lane}

@@ -21,13 +21,13 @@ use Rattle.cics_history.specs.declared.ops.Done.{Done}
 use Rattle.cics_history.specs.declared.ops.Done.TheVariants.{Answered, MustWait}
 use Rattle.cics_history.specs.declared.ops.Enqueued.{Enqueued}
 use Rattle.cics_history.specs.declared.ops.Enqueued.TheVariants.{Taken, MustWait as EnqMustWait, CountFull}
-use Rattle.cics_machine.specs.Machine.{Machine, Task, Suspended, task_at, not_waiting, with_units, with_task, with_waiting, with_unit, with_browses, units_after, unit_closed, abended, records_in}
-use Rattle.cics_machine.specs.Replies.{plain, cut, read_reply}
-use Rattle.cics_machine.specs.Steps.{unhandled, answered, reply_of, busy_of, made_to_wait, executed, enqueued, unlocked, units_dequeued, dequeued, browse_reply, with_browse, started, reset, browsed, other_command, by_op, op_of, checked}
-use Rattle.cics_machine.specs.Waking.{may_go_on, first_free, went_on, woken_first, woken, first_late, expired_task, expired}
-use Rattle.cics_machine.specs.declared.outcomes.Reply.{Reply}
-use Rattle.cics_machine.proofs.OtherUnits.{item_read_is}
-use Rattle.cics_machine.proofs.TaskPlaces.{place_of_task}
+use Rattle.cics_dispatch.specs.Machine.Machine.{Machine, Task, Suspended, task_at, not_waiting, with_units, with_task, with_waiting, with_unit, with_browses, units_after, unit_closed, abended, records_in}
+use Rattle.cics_dispatch.specs.Machine.Replies.{plain, cut, read_reply}
+use Rattle.cics_dispatch.specs.Machine.Steps.{unhandled, answered, reply_of, busy_of, made_to_wait, executed, enqueued, unlocked, units_dequeued, dequeued, browse_reply, with_browse, started, reset, browsed, other_command, by_op, op_of, checked}
+use Rattle.cics_dispatch.specs.Machine.Waking.{may_go_on, first_free, went_on, woken_first, woken, first_late, expired_task, expired}
+use Rattle.cics_dispatch.specs.declared.machine.outcomes.Reply.{Reply}
+use Rattle.cics_dispatch.proofs.OfMachine.OtherUnits.{item_read_is}
+use Rattle.cics_dispatch.proofs.OfMachine.TaskPlaces.{place_of_task}
 use Rattle.cics_script.specs.Lines.{line}
 use Rattle.cics_script.specs.declared.lines.Line.{Line}
 use Rattle.cics_script.specs.declared.lines.Line.TheVariants.{Issue}

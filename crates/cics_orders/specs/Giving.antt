@@ -7,27 +7,27 @@ use Rattle.cics_names.specs.declared.commands.Verb.{Verb}
 use Rattle.cics_names.specs.declared.commands.Verb.TheVariants.{Syncpoint, Rollback, Return, Abend}
 use Rattle.cics_history.specs.State.{OpeningState}
 use Rattle.cics_history.specs.Openings.{initial_opening}
-use Rattle.cics_machine.specs.Machine.{Machine, initial_region}
-use Rattle.cics_machine.specs.Steps.{Stepped, attached, issued}
-use Rattle.cics_machine.specs.Blockers.{waiting_command}
-use Rattle.cics_machine.specs.Waking.{clock_set, woken, expired}
-use Rattle.cics_machine.specs.Shutdown.{unless_down, shut_down}
-use Rattle.cics_machine.specs.declared.outcomes.Outcome.{Outcome}
-use Rattle.cics_machine.specs.declared.outcomes.Outcome.TheVariants.{Replied, Waiting, Abended}
-use Rattle.cics_machine.specs.declared.outcomes.Woken.{Woken}
-use Rattle.cics_machine.specs.declared.outcomes.Expired.{Expired}
-use Rattle.cics_machine.specs.declared.outcomes.Refused.{Refused}
-use Rattle.cics_machine.specs.declared.outcomes.Refused.TheVariants.{NoMemory}
+use Rattle.cics_dispatch.specs.Machine.Machine.{Machine, initial_region}
+use Rattle.cics_dispatch.specs.Machine.Steps.{Stepped, attached, issued}
+use Rattle.cics_dispatch.specs.Machine.Blockers.{waiting_command}
+use Rattle.cics_dispatch.specs.Machine.Waking.{clock_set, woken, expired}
+use Rattle.cics_dispatch.specs.Machine.Shutdown.{unless_down, shut_down}
+use Rattle.cics_dispatch.specs.declared.machine.outcomes.Outcome.{Outcome}
+use Rattle.cics_dispatch.specs.declared.machine.outcomes.Outcome.TheVariants.{Replied, Waiting, Abended}
+use Rattle.cics_dispatch.specs.declared.machine.outcomes.Woken.{Woken}
+use Rattle.cics_dispatch.specs.declared.machine.outcomes.Expired.{Expired}
+use Rattle.cics_dispatch.specs.declared.machine.outcomes.Refused.{Refused}
+use Rattle.cics_dispatch.specs.declared.machine.outcomes.Refused.TheVariants.{NoMemory}
 use Rattle.cics_script.specs.Lines.{line}
 use Rattle.cics_script.specs.declared.lines.Line.{Line}
 use Rattle.cics_script.specs.declared.lines.Line.TheVariants.{Clock, Issue, Shutdown}
 use Rattle.cics_script.specs.declared.faults.LineFault.{LineFault}
-use Rattle.cics_lanes.specs.Orders.{Lanes, numbered_from}
-use Rattle.cics_plans.specs.Firsts.{with_first}
-use Rattle.cics_plans.specs.Defining.{defined_by}
-use Rattle.cics_plans.specs.Taking.{NumberedLine}
-use Rattle.cics_plans.specs.declared.plans.Plan.{Plan}
-use Rattle.cics_plans.specs.declared.plans.TaskPlan.{TaskPlan}
+use Rattle.cics_orders.specs.Space.Orders.{Lanes, numbered_from}
+use Rattle.cics_orders.specs.Plans.Firsts.{with_first}
+use Rattle.cics_orders.specs.Plans.Defining.{defined_by}
+use Rattle.cics_orders.specs.Plans.Taking.{NumberedLine}
+use Rattle.cics_orders.specs.declared.plans.plans.Plan.{Plan}
+use Rattle.cics_orders.specs.declared.plans.plans.TaskPlan.{TaskPlan}
 use Rattle.cics_orders.specs.declared.lanes.Lane.{Lane}
 
 -- A script's plan, the machine of its region, and the lanes. `last`: the task's lane that gave last,

@@ -9,24 +9,24 @@ use Rattle.std.specs.List.{list_all, list_any}
 use Rattle.cics_names.specs.Keyed.{Bytes, is_same}
 use Rattle.cics_names.specs.KeyedLaws.{is_same-self, is_same-eq}
 use Rattle.cics_names.specs.declared.commands.Command.{Command}
-use Rattle.cics_machine.specs.Machine.{Machine, Suspended, is_waiting, with_waiting}
-use Rattle.cics_machine.specs.Steps.{Stepped}
-use Rattle.cics_machine.specs.Blockers.{waiting_command}
-use Rattle.cics_machine.specs.Waits.{wait_of}
-use Rattle.cics_machine.specs.declared.outcomes.Outcome.{Outcome}
-use Rattle.cics_machine.specs.declared.outcomes.Outcome.TheVariants.{Waiting}
+use Rattle.cics_dispatch.specs.Machine.Machine.{Machine, Suspended, is_waiting, with_waiting}
+use Rattle.cics_dispatch.specs.Machine.Steps.{Stepped}
+use Rattle.cics_dispatch.specs.Machine.Blockers.{waiting_command}
+use Rattle.cics_dispatch.specs.Machine.Waits.{wait_of}
+use Rattle.cics_dispatch.specs.declared.machine.outcomes.Outcome.{Outcome}
+use Rattle.cics_dispatch.specs.declared.machine.outcomes.Outcome.TheVariants.{Waiting}
 use Rattle.cics_script.specs.Lines.{line}
 use Rattle.cics_script.specs.declared.lines.Line.{Line}
 use Rattle.cics_script.specs.declared.lines.Line.TheVariants as says
 use Rattle.cics_script.specs.declared.faults.LineFault.{LineFault}
-use Rattle.cics_lanes.specs.Orders.{Order, after, numbered}
-use Rattle.cics_plans.specs.Firsts.{with_first}
-use Rattle.cics_plans.specs.Taking.{NumberedLine, has_task}
-use Rattle.cics_plans.specs.Proper.{is_command_of, is_timing, has_own_lines, are_distinct, is_proper}
-use Rattle.cics_plans.specs.declared.plans.Plan.{Plan}
-use Rattle.cics_plans.specs.declared.plans.TaskPlan.{TaskPlan}
+use Rattle.cics_orders.specs.Space.Orders.{Order, after, numbered}
+use Rattle.cics_orders.specs.Plans.Firsts.{with_first}
+use Rattle.cics_orders.specs.Plans.Taking.{NumberedLine, has_task}
+use Rattle.cics_orders.specs.Plans.Proper.{is_command_of, is_timing, has_own_lines, are_distinct, is_proper}
+use Rattle.cics_orders.specs.declared.plans.plans.Plan.{Plan}
+use Rattle.cics_orders.specs.declared.plans.plans.TaskPlan.{TaskPlan}
 use Rattle.cics_orders.specs.Giving.{State, is_labelled, is_of, told_more, with_told, hearing, after_line, drained_once, drained, may_give, is_ready, givers, is_lane, with_given, counted, ends_turn, given, lanes, task_lane, initial_lane, initial_lanes, initial_state}
-use Rattle.cics_plans.proofs.Proper.{Proper, proper_parts, has_first}
+use Rattle.cics_orders.specs.Plans.ProperLaws.{Proper, proper_parts, has_first}
 use Rattle.cics_orders.specs.EventCases.{after_heard, clock_cases, drained_keeps}
 use Rattle.cics_orders.specs.declared.lanes.Lane.{Lane}
 use Rattle.cics_orders.specs.Turns.{is_shutdown, has_shutdown, may_go_on, turn_goes_on, lane_breaks, breaks}

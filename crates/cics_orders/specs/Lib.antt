@@ -17,3 +17,9 @@ pub mod SplitStates
 pub mod Turns
 pub mod TurnLaws
 pub mod StampLaws
+pub mod Search
+pub mod Space
+pub mod Plans
+pub mod Report
+pub mod Endings
+pub mod Survey

@@ -4,15 +4,15 @@ use Rattle.std.proofs.Common.{◌≡◌, ◌<◌, ◌≤◌, ℕ, zero, suc, ◌
 use Rattle.std.proofs.lemmas.Option.{slice_get_within}
 use Rattle.std.specs.Prelude.{All, is_some, slice_get, slice_set, if◌then◌else◌}
 use Rattle.std.specs.List.{fold}
-use Rattle.cics_machine.specs.Machine.{Machine}
+use Rattle.cics_dispatch.specs.Machine.Machine.{Machine}
 use Rattle.cics_script.specs.Lines.{line}
-use Rattle.cics_lanes.specs.Orders.{Order, after, orders, led_by, led_by_any, numbered, IsOrdered}
-use Rattle.cics_lanes.proofs.Givers.{givers_ordered}
-use Rattle.cics_search.proofs.Regrouping.{Each}
-use Rattle.cics_search.proofs.Ways.{each_append, each_mapped, each_at}
-use Rattle.cics_plans.specs.Taking.{NumberedLine}
+use Rattle.cics_orders.specs.Space.Orders.{Order, after, orders, led_by, led_by_any, numbered, IsOrdered}
+use Rattle.cics_orders.specs.Space.Givers.{givers_ordered}
+use Rattle.cics_orders.specs.Search.Regrouping.{Each}
+use Rattle.cics_orders.specs.Search.Ways.{each_append, each_mapped, each_at}
+use Rattle.cics_orders.specs.Plans.Taking.{NumberedLine}
 use Rattle.cics_orders.specs.Giving.{State, may_give, is_ready, givers, with_given, ends_turn, given, lanes, task_lane, initial_lane, initial_lanes, initial_state, line_count}
-use Rattle.cics_plans.specs.declared.plans.TaskPlan.{TaskPlan}
+use Rattle.cics_orders.specs.declared.plans.plans.TaskPlan.{TaskPlan}
 use Rattle.cics_orders.specs.Gists.{Gist, gist, Gave, gave, gives_line, stays_given}
 use Rattle.cics_orders.specs.declared.lanes.Lane.{Lane}
 

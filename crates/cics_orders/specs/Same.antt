@@ -1,7 +1,7 @@
 -- States that go on alike: the same lanes may give, the same lines lead to states that go on alike,
 -- and their endings are told the same.
 use Rattle.std.specs.Prelude.{◌≡◌, Bool, ◌&&◌, map}
-use Rattle.cics_future.specs.Futures.{HaveSameFuture}
+use Rattle.cics_dispatch.specs.Future.Futures.{HaveSameFuture}
 use Rattle.cics_orders.specs.Giving.{State}
 use Rattle.cics_orders.specs.Stamps.{seen, last_seen}
 

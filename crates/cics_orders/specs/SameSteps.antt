@@ -3,22 +3,22 @@ use Rattle.std.proofs.Common.{◌≡◌, ℕ, zero, suc, Bool, true, false, not,
 use Rattle.std.proofs.lemmas.Option.{slice_get-map}
 use Rattle.std.specs.Prelude.{if◌then◌else◌, is_some, slice_get}
 use Rattle.cics_names.specs.Keyed.{Bytes}
-use Rattle.cics_machine.specs.Machine.{Machine}
-use Rattle.cics_machine.specs.Stamps.{region_stamp}
-use Rattle.cics_machine.specs.Steps.{Stepped, issued}
-use Rattle.cics_machine.specs.Waking.{woken, expired, clock_set}
-use Rattle.cics_machine.specs.Shutdown.{shut_down}
-use Rattle.cics_machine.specs.declared.outcomes.Outcome.{Outcome}
-use Rattle.cics_machine.specs.declared.outcomes.Woken.{Woken}
-use Rattle.cics_machine.specs.declared.outcomes.Expired.{Expired}
-use Rattle.cics_machine.specs.declared.outcomes.Refused.{Refused}
-use Rattle.cics_future.specs.Futures.{HaveSameFuture, AreSameSteps}
-use Rattle.cics_future.proofs.Events.{down_same, issued_same, clock_same, shut_same as shut_down_same, woken_same, expired_same}
+use Rattle.cics_dispatch.specs.Machine.Machine.{Machine}
+use Rattle.cics_dispatch.specs.Machine.Stamps.{region_stamp}
+use Rattle.cics_dispatch.specs.Machine.Steps.{Stepped, issued}
+use Rattle.cics_dispatch.specs.Machine.Waking.{woken, expired, clock_set}
+use Rattle.cics_dispatch.specs.Machine.Shutdown.{shut_down}
+use Rattle.cics_dispatch.specs.declared.machine.outcomes.Outcome.{Outcome}
+use Rattle.cics_dispatch.specs.declared.machine.outcomes.Woken.{Woken}
+use Rattle.cics_dispatch.specs.declared.machine.outcomes.Expired.{Expired}
+use Rattle.cics_dispatch.specs.declared.machine.outcomes.Refused.{Refused}
+use Rattle.cics_dispatch.specs.Future.Futures.{HaveSameFuture, AreSameSteps}
+use Rattle.cics_dispatch.proofs.OfFuture.Events.{down_same, issued_same, clock_same, shut_same as shut_down_same, woken_same, expired_same}
 use Rattle.cics_script.specs.Lines.{line}
 use Rattle.cics_script.specs.declared.lines.Line.{Line}
 use Rattle.cics_script.specs.declared.lines.Line.TheVariants as says
 use Rattle.cics_script.specs.declared.faults.LineFault.{LineFault}
-use Rattle.cics_plans.specs.Taking.{NumberedLine}
+use Rattle.cics_orders.specs.Plans.Taking.{NumberedLine}
 use Rattle.cics_orders.specs.Giving.{State, hearing, shut, issuing, timing, shutting, left_by, after_line, late, resumed, drain_step, told_by, drained_once, after_step, drained_within, drained, givers, ends_turn, is_lane, counted, given_line, given_by, given}
 use Rattle.cics_orders.specs.declared.lanes.Lane.{Lane}
 use Rattle.cics_names.specs.Stamps.{number_stamp, flag_stamp, option_stamp, list_stamp}

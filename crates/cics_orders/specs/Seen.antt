@@ -3,12 +3,12 @@ use Rattle.std.proofs.Common.{◌≡◌, ℕ, suc, ◌+◌, ◌-◌, Bool, true,
 use Rattle.std.proofs.lemmas.List.{drop-map, map-set}
 use Rattle.std.specs.Prelude.{if◌then◌else◌, is_none, is_some, slice_get, slice_set}
 use Rattle.cics_names.specs.Keyed.{Bytes}
-use Rattle.cics_machine.specs.Machine.{Machine}
-use Rattle.cics_machine.specs.Waits.{wait_of}
-use Rattle.cics_machine.specs.declared.outcomes.Outcome.{Outcome}
-use Rattle.cics_machine.specs.declared.outcomes.Outcome.TheVariants.{Waiting}
-use Rattle.cics_lanes.specs.Orders.{numbered, numbered_from}
-use Rattle.cics_plans.specs.Firsts.{with_first}
+use Rattle.cics_dispatch.specs.Machine.Machine.{Machine}
+use Rattle.cics_dispatch.specs.Machine.Waits.{wait_of}
+use Rattle.cics_dispatch.specs.declared.machine.outcomes.Outcome.{Outcome}
+use Rattle.cics_dispatch.specs.declared.machine.outcomes.Outcome.TheVariants.{Waiting}
+use Rattle.cics_orders.specs.Space.Orders.{numbered, numbered_from}
+use Rattle.cics_orders.specs.Plans.Firsts.{with_first}
 use Rattle.cics_orders.specs.Giving.{is_of, is_last, told_more, with_told, hearing, shut, is_ready, may_give, with_given}
 use Rattle.cics_orders.specs.Stamps.{end_told, seen}
 use Rattle.cics_orders.specs.declared.lanes.Lane.{Lane}

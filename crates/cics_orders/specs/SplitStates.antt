@@ -8,18 +8,18 @@ use Rattle.cics_names.specs.Stamps.{Splits, number_stamp, flag_stamp, text_stamp
 use Rattle.cics_names.specs.declared.conditions.Condition.{Condition}
 use Rattle.cics_names.specs.declared.conditions.Condition.TheVariants.{Normal, Dsiderr, Notfnd, Duprec, Invreq, Endfile, Lengerr, Qzero, Qbusy, Itemerr, Qiderr, Enqbusy}
 use Rattle.cics_names.proofs.Stamps.{splits_number, splits_flag, splits_text, splits_option, splits_list, splits_both}
-use Rattle.cics_machine.specs.Machine.{Machine, Suspended}
-use Rattle.cics_machine.specs.Stamps.{region_stamp}
-use Rattle.cics_machine.specs.declared.outcomes.Number.{Number}
-use Rattle.cics_machine.specs.declared.outcomes.Number.TheVariants.{Item, Numrec}
-use Rattle.cics_machine.specs.declared.outcomes.Reply.{Reply}
-use Rattle.cics_machine.specs.declared.outcomes.Outcome.{Outcome}
-use Rattle.cics_machine.specs.declared.outcomes.Outcome.TheVariants.{Replied, Waiting, Abended, Ended}
-use Rattle.cics_future.proofs.Told.{ToldWait, bare_wait, Parts, parts_same}
-use Rattle.cics_future.proofs.Stamped.{same_future}
-use Rattle.cics_lanes.specs.Orders.{Order, after, IsWay}
-use Rattle.cics_plans.specs.Proper.{is_proper}
-use Rattle.cics_plans.specs.declared.plans.Plan.{Plan}
+use Rattle.cics_dispatch.specs.Machine.Machine.{Machine, Suspended}
+use Rattle.cics_dispatch.specs.Machine.Stamps.{region_stamp}
+use Rattle.cics_dispatch.specs.declared.machine.outcomes.Number.{Number}
+use Rattle.cics_dispatch.specs.declared.machine.outcomes.Number.TheVariants.{Item, Numrec}
+use Rattle.cics_dispatch.specs.declared.machine.outcomes.Reply.{Reply}
+use Rattle.cics_dispatch.specs.declared.machine.outcomes.Outcome.{Outcome}
+use Rattle.cics_dispatch.specs.declared.machine.outcomes.Outcome.TheVariants.{Replied, Waiting, Abended, Ended}
+use Rattle.cics_dispatch.proofs.OfFuture.Told.{ToldWait, bare_wait, Parts, parts_same}
+use Rattle.cics_dispatch.proofs.OfFuture.Stamped.{same_future}
+use Rattle.cics_orders.specs.Space.Orders.{Order, after, IsWay}
+use Rattle.cics_orders.specs.Plans.Proper.{is_proper}
+use Rattle.cics_orders.specs.declared.plans.plans.Plan.{Plan}
 use Rattle.cics_orders.specs.Giving.{State, lanes, initial_state}
 use Rattle.cics_orders.specs.declared.lanes.Lane.{Lane}
 use Rattle.cics_orders.specs.Stamps.{count_stamp, reply_stamp, told_kind, told_name, told_reply, outcome_stamp, seen, last_seen, lane_stamp, state_stamp}

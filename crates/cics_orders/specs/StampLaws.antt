@@ -4,11 +4,11 @@ use Rattle.std.proofs.Common.{◌≡◌, ℕ, ◌-◌, Bool, true, false, not, �
 use Rattle.std.proofs.lemmas.List.{length-map}
 use Rattle.std.proofs.lemmas.Option.{slice_get-map}
 use Rattle.std.specs.Prelude.{All, if◌then◌else◌, is_some, slice_get, option_and_then}
-use Rattle.cics_future.proofs.Stamped.{alike_stamps}
-use Rattle.cics_lanes.specs.Orders.{Order, after, orders, IsWay, AreStampedAlike}
-use Rattle.cics_lanes.specs.Endings.{Parts}
-use Rattle.cics_plans.specs.Proper.{is_proper}
-use Rattle.cics_plans.specs.declared.plans.Plan.{Plan}
+use Rattle.cics_dispatch.proofs.OfFuture.Stamped.{alike_stamps}
+use Rattle.cics_orders.specs.Space.Orders.{Order, after, orders, IsWay, AreStampedAlike}
+use Rattle.cics_orders.specs.Space.Endings.{Parts}
+use Rattle.cics_orders.specs.Plans.Proper.{is_proper}
+use Rattle.cics_orders.specs.declared.plans.plans.Plan.{Plan}
 use Rattle.cics_orders.specs.Giving.{State, is_lane, givers, given, lanes, initial_lanes, initial_machine, initial_state, line_count}
 use Rattle.cics_orders.specs.GivenLanes.{frame, initial_is}
 use Rattle.cics_orders.specs.OrderLaws.{most_ends, plan_stays}

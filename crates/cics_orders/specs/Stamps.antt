@@ -4,12 +4,12 @@ use Rattle.std.specs.Prelude.{ℕ, ◌-◌, Bool, ◌&&◌, if◌then◌else◌,
 use Rattle.cics_names.specs.Keyed.{Bytes}
 use Rattle.cics_names.specs.Conditions.{number_of}
 use Rattle.cics_names.specs.Stamps.{number_stamp, flag_stamp, text_stamp, option_stamp, list_stamp}
-use Rattle.cics_machine.specs.Stamps.{region_stamp}
-use Rattle.cics_machine.specs.declared.outcomes.Number.{Number}
-use Rattle.cics_machine.specs.declared.outcomes.Number.TheVariants.{Item, Numrec}
-use Rattle.cics_machine.specs.declared.outcomes.Reply.{Reply}
-use Rattle.cics_machine.specs.declared.outcomes.Outcome.{Outcome}
-use Rattle.cics_machine.specs.declared.outcomes.Outcome.TheVariants.{Replied, Waiting, Abended, Ended}
+use Rattle.cics_dispatch.specs.Machine.Stamps.{region_stamp}
+use Rattle.cics_dispatch.specs.declared.machine.outcomes.Number.{Number}
+use Rattle.cics_dispatch.specs.declared.machine.outcomes.Number.TheVariants.{Item, Numrec}
+use Rattle.cics_dispatch.specs.declared.machine.outcomes.Reply.{Reply}
+use Rattle.cics_dispatch.specs.declared.machine.outcomes.Outcome.{Outcome}
+use Rattle.cics_dispatch.specs.declared.machine.outcomes.Outcome.TheVariants.{Replied, Waiting, Abended, Ended}
 use Rattle.cics_orders.specs.Giving.{State, is_last}
 use Rattle.cics_orders.specs.declared.lanes.Lane.{Lane}
 

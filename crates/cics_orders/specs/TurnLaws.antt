@@ -1,7 +1,7 @@
 -- The laws of serial orders: which lanes break one, and that the others don't.
 use Rattle.std.proofs.Common.{◌≡◌, ℕ, true, false, [], Some, refl}
 use Rattle.std.specs.Prelude.{slice_get}
-use Rattle.cics_lanes.specs.Orders.{Order, after, IsOneOf, IsWay}
+use Rattle.cics_orders.specs.Space.Orders.{Order, after, IsOneOf, IsWay}
 use Rattle.cics_orders.specs.Giving.{State, may_give, givers, given, lanes, initial_state}
 use Rattle.cics_orders.specs.Turns.{breaks}
 use Rattle.cics_orders.specs.declared.lanes.Lane.{Lane}

@@ -5,8 +5,8 @@ use Rattle.cics_script.specs.Lines.{line}
 use Rattle.cics_script.specs.declared.lines.Line.{Line}
 use Rattle.cics_script.specs.declared.lines.Line.TheVariants.{Shutdown}
 use Rattle.cics_script.specs.declared.faults.LineFault.{LineFault}
-use Rattle.cics_plans.specs.Taking.{NumberedLine}
-use Rattle.cics_plans.specs.Proper.{is_proper}
+use Rattle.cics_orders.specs.Plans.Taking.{NumberedLine}
+use Rattle.cics_orders.specs.Plans.Proper.{is_proper}
 use Rattle.cics_orders.specs.Giving.{State, may_give, is_lane}
 use Rattle.cics_orders.specs.declared.lanes.Lane.{Lane}
 

@@ -12,32 +12,32 @@ use Rattle.cics_history.specs.State.{OpeningState, FileOpening, QueueOpening}
 use Rattle.cics_history.specs.Openings.{initial_opening, loaded_file, is_in_order, IsOpeningInOrder}
 use Rattle.cics_history.specs.declared.ops.UnitState.TheVariants.{BackedOut}
 use Rattle.cics_history.proofs.Maps.{rising-with_value}
-use Rattle.cics_machine.specs.Machine.{Machine, Task, Suspended, is_waiting, with_waiting, unit_closed, initial_region}
-use Rattle.cics_machine.specs.Steps.{Stepped, attached}
-use Rattle.cics_machine.specs.Checks.{fault_of}
-use Rattle.cics_machine.specs.Blockers.{waiting_command}
-use Rattle.cics_machine.specs.Waits.{wait_of}
-use Rattle.cics_machine.specs.Shutdown.{all_ended, shut_down}
-use Rattle.cics_machine.specs.Waking.{woken, expired}
-use Rattle.cics_machine.specs.declared.outcomes.Outcome.{Outcome}
-use Rattle.cics_machine.specs.declared.outcomes.Woken.{Woken}
-use Rattle.cics_machine.specs.declared.outcomes.Expired.{Expired}
-use Rattle.cics_machine.specs.declared.outcomes.Refused.{Refused}
-use Rattle.cics_machine.specs.declared.outcomes.Refused.TheVariants.{RegionDown}
-use Rattle.cics_machine.proofs.TaskPlaces.{place_of_task}
-use Rattle.cics_future.specs.Futures.{IsSteady, AreSameSteps}
-use Rattle.cics_future.proofs.Events.{same_itself, same_begins, down_same, attached_same}
+use Rattle.cics_dispatch.specs.Machine.Machine.{Machine, Task, Suspended, is_waiting, with_waiting, unit_closed, initial_region}
+use Rattle.cics_dispatch.specs.Machine.Steps.{Stepped, attached}
+use Rattle.cics_dispatch.specs.Machine.Checks.{fault_of}
+use Rattle.cics_dispatch.specs.Machine.Blockers.{waiting_command}
+use Rattle.cics_dispatch.specs.Machine.Waits.{wait_of}
+use Rattle.cics_dispatch.specs.Machine.Shutdown.{all_ended, shut_down}
+use Rattle.cics_dispatch.specs.Machine.Waking.{woken, expired}
+use Rattle.cics_dispatch.specs.declared.machine.outcomes.Outcome.{Outcome}
+use Rattle.cics_dispatch.specs.declared.machine.outcomes.Woken.{Woken}
+use Rattle.cics_dispatch.specs.declared.machine.outcomes.Expired.{Expired}
+use Rattle.cics_dispatch.specs.declared.machine.outcomes.Refused.{Refused}
+use Rattle.cics_dispatch.specs.declared.machine.outcomes.Refused.TheVariants.{RegionDown}
+use Rattle.cics_dispatch.proofs.OfMachine.TaskPlaces.{place_of_task}
+use Rattle.cics_dispatch.specs.Future.Futures.{IsSteady, AreSameSteps}
+use Rattle.cics_dispatch.proofs.OfFuture.Events.{same_itself, same_begins, down_same, attached_same}
 use Rattle.cics_script.specs.Lines.{line}
 use Rattle.cics_script.specs.declared.lines.Line.{Line}
 use Rattle.cics_script.specs.declared.lines.Line.TheVariants as says
 use Rattle.cics_script.specs.declared.faults.LineFault.{LineFault}
-use Rattle.cics_search.proofs.Regrouping.{Each}
-use Rattle.cics_lanes.specs.Orders.{Order, after, IsOneOf, IsWay}
-use Rattle.cics_plans.specs.Defining.{defined_by}
-use Rattle.cics_plans.specs.Proper.{is_proper}
-use Rattle.cics_plans.specs.Taking.{NumberedLine}
-use Rattle.cics_plans.specs.declared.plans.Plan.{Plan}
-use Rattle.cics_plans.specs.declared.plans.TaskPlan.{TaskPlan}
+use Rattle.cics_orders.specs.Search.Regrouping.{Each}
+use Rattle.cics_orders.specs.Space.Orders.{Order, after, IsOneOf, IsWay}
+use Rattle.cics_orders.specs.Plans.Defining.{defined_by}
+use Rattle.cics_orders.specs.Plans.Proper.{is_proper}
+use Rattle.cics_orders.specs.Plans.Taking.{NumberedLine}
+use Rattle.cics_orders.specs.declared.plans.plans.Plan.{Plan}
+use Rattle.cics_orders.specs.declared.plans.plans.TaskPlan.{TaskPlan}
 use Rattle.cics_orders.specs.Giving.{State, is_labelled, is_of, hearing, shut, shutting, attaching, left_by, after_line, late, resumed, drain_step, told_by, drained_once, drained, is_ready, may_give, givers, ends_turn, counted, given_line, given_by, given, lanes, defined_more, opened, unless_refused, with_task, initial_lanes, initial_state}
 use Rattle.cics_orders.specs.OrderLaws.{May, numbers_may, plan_stays}
 use Rattle.cics_orders.specs.EventCases.{step_of, issue_cases, clock_cases, attach_cases, drained_keeps}

@@ -5,9 +5,9 @@ ghost use Rattle.std.specs.Result.{result_ok};
 ghost use Rattle.cics_orders.specs.Giving.{IsAnswered, Happens, issuing, timing, shutting};
 ghost use Rattle.cics_orders.specs.Giving.{attaching, Drains};
 
+use crate::plans::TaskPlan;
 use cics_dispatch::{Outcome, Refused, Region};
 use cics_names::{Command, Name8, NoMemory};
-use cics_plans::TaskPlan;
 
 // Returns the answer of an event. `None` if it was refused for another reason than `NoMemory`.
 fn answered<T: Drop>(answer: Result<T, Refused>) -> Result<Option<T>, NoMemory>

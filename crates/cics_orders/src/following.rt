@@ -1,21 +1,21 @@
 //! Every order of a plan.
 
 ghost use Rattle.std.specs.Prelude.{◌≡◌, ◌≤◌, Bool, true, false, IfOk};
-ghost use Rattle.cics_lanes.specs.Endings.{Parts};
-ghost use Rattle.cics_search.specs.Levels.{state_count};
-ghost use Rattle.cics_search.specs.Reports.{IsReport};
-ghost use Rattle.cics_plans.specs.Proper.{is_proper};
+ghost use Rattle.cics_orders.specs.Space.Endings.{Parts};
+ghost use Rattle.cics_orders.specs.Search.Levels.{state_count};
+ghost use Rattle.cics_orders.specs.Search.Reports.{IsReport};
+ghost use Rattle.cics_orders.specs.Plans.Proper.{is_proper};
 ghost use Rattle.cics_orders.specs.Giving.{State, lanes, initial_state, line_count};
 ghost use Rattle.cics_orders.specs.Same.{SameState};
 ghost use Rattle.cics_orders.specs.Stamps.{state_stamp};
 ghost use Rattle.cics_orders.specs.Turns.{breaks};
 
+use crate::plans::Plan;
+use crate::search::{Progress, Report, explore};
+use crate::space::Walk;
 use crate::stamping::Sight;
 use crate::walks::Walker;
-use cics_lanes::Walk;
 use cics_names::{Items, NoMemory, Record};
-use cics_plans::Plan;
-use cics_search::{Progress, Report, explore};
 use std::alloc::Global;
 use std::marker::Model;
 
@@ -141,7 +141,7 @@ impl<T: Tells> Walk for Following<T> {
     }
 }
 
-/// Follows every order of a plan's lines, as `cics_search::explore` does. Returns the endings that
+/// Follows every order of a plan's lines, as `crate::search::explore` does. Returns the endings that
 /// they lead to.
 ///
 /// If all orders and all serial orders were followed, the endings are those of all orders. Each

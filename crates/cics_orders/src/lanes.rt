@@ -3,13 +3,13 @@
 ghost use Rattle.std.specs.Prelude.{◌≡◌, ◌<◌, [], ◌∷◌, ◌++◌, None, IfOk, OnOk, length, map};
 ghost use Rattle.cics_orders.specs.Giving.{initial_lane, task_lane, is_of, is_last};
 ghost use Rattle.cics_orders.specs.GivenLanes.{frame};
-ghost use Rattle.cics_plans.specs.Firsts.{first_index};
+ghost use Rattle.cics_orders.specs.Plans.Firsts.{first_index};
 ghost use Rattle.cics_orders.specs.Giving.{told_more, with_told, hearing, with_given, shut};
 
 use crate::lines::Lines;
+use crate::plans::{TaskPlan, is_same};
 use cics_dispatch::Outcome;
 use cics_names::{Items, Name8, NoMemory};
-use cics_plans::{TaskPlan, is_same};
 use std::alloc::Global;
 
 /// The lines of a task or of the clock, and how far they are given.

@@ -3,9 +3,9 @@
 //! The contract of each function is a law, and its body is empty.
 
 ghost use Rattle.std.specs.Prelude.{◌≡◌, [], All};
-ghost use Rattle.cics_machine.specs.Waking.{IsAtRest};
-ghost use Rattle.cics_lanes.specs.Orders.{Order, after, orders};
-ghost use Rattle.cics_plans.specs.declared.plans.Plan.{Plan};
+ghost use Rattle.cics_dispatch.specs.Machine.Waking.{IsAtRest};
+ghost use Rattle.cics_orders.specs.Space.Orders.{Order, after, orders};
+ghost use Rattle.cics_orders.specs.declared.plans.plans.Plan.{Plan};
 ghost use Rattle.cics_orders.specs.Giving.{lanes, initial_state, line_count};
 ghost use Rattle.cics_orders.specs.Ended.{AcceptsReady, Agrees};
 

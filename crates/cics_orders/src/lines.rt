@@ -3,8 +3,8 @@
 ghost use Rattle.std.specs.Prelude.{◌≡◌, IfOk, map};
 ghost use Rattle.cics_script.specs.Lines.{line};
 
+use crate::plans::read;
 use cics_names::{Items, NoMemory, Record};
-use cics_plans::read;
 use cics_script::{Line, LineFault};
 use std::alloc::Global;
 use std::marker::Model;

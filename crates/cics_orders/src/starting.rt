@@ -2,20 +2,20 @@
 
 ghost use Rattle.std.specs.Prelude.{◌≡◌, IfOk, OnOk};
 ghost use Rattle.cics_script.specs.Lines.{line};
-ghost use Rattle.cics_machine.specs.Machine.{initial_region};
+ghost use Rattle.cics_dispatch.specs.Machine.Machine.{initial_region};
 ghost use Rattle.std.specs.List.{fold};
-ghost use Rattle.cics_plans.specs.Defining.{defined_by};
+ghost use Rattle.cics_orders.specs.Plans.Defining.{defined_by};
 ghost use Rattle.cics_orders.specs.Giving.{defined_more, opened, with_task};
 
 use crate::events;
+use crate::plans::{TaskPlan, define, read};
 use cics_dispatch::Region;
 use cics_names::{NoMemory, Record};
-use cics_plans::{TaskPlan, define, read};
 use cics_units::Opening;
 use std::alloc::Global;
 
 // Defines or loads what a line says.
-#[tactic(auto, unfolding(cics_plans::specs::Defining::defined_by))]
+#[tactic(auto, unfolding(crate::specs::Plans::Defining::defined_by))]
 fn define_next(alloc: Global, opening: &mut Opening, bytes: &[u8]) -> Result<(), NoMemory>
     ensures { OnOk result (opening.new ≡ defined_by opening.old (line bytes.now)) }
 {

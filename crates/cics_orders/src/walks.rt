@@ -2,9 +2,9 @@
 
 ghost use Rattle.std.specs.Prelude.{◌≡◌, ◌&&◌, ◌++◌, suc, true, Some, Ok, IfOk, OnOk, nat_le};
 ghost use Rattle.std.specs.Prelude.{slice_get};
-ghost use Rattle.cics_machine.specs.Waking.{IsAtRest};
+ghost use Rattle.cics_dispatch.specs.Machine.Waking.{IsAtRest};
 ghost use Rattle.cics_script.specs.declared.lines.Line.TheVariants.{Issue, Clock, Shutdown};
-ghost use Rattle.cics_lanes.specs.Orders.{IsFirst, numbered_from};
+ghost use Rattle.cics_orders.specs.Space.Orders.{IsFirst, numbered_from};
 ghost use Rattle.cics_orders.specs.Giving.{State, initial_state, line_count, is_ready, may_give};
 ghost use Rattle.cics_orders.specs.Giving.{ends_turn, is_end, is_lane, counted, after_line};
 ghost use Rattle.cics_orders.specs.Giving.{drained, drained_once, givers, given};
@@ -12,17 +12,17 @@ ghost use Rattle.cics_orders.specs.Giving.{Takes, IsGivable};
 ghost use Rattle.cics_orders.specs.StampLaws.{initial_of};
 ghost use Rattle.cics_orders.specs.Stamps.{state_stamp};
 ghost use Rattle.cics_orders.specs.Turns.{turn_goes_on, breaks};
-ghost use Rattle.cics_plans.specs.Proper.{is_proper};
+ghost use Rattle.cics_orders.specs.Plans.Proper.{is_proper};
 
 use crate::events;
 use crate::lanes::{Lane, fresh_lanes, hear, initial_lanes, shut_all};
 use crate::lines::Lines;
+use crate::plans::Plan;
 use crate::shutdowns::lines_to_shutdown;
 use crate::stamping::{Sight, stamp_lanes, stamp_last};
 use crate::starting::{initial_region, opened};
 use cics_dispatch::Region;
 use cics_names::{Command, Name8, NoMemory, Verb, stamp_flag};
-use cics_plans::Plan;
 use cics_script::{Line, LineFault};
 use cics_units::Opening;
 use std::alloc::Global;
@@ -53,7 +53,7 @@ pub struct Walker {
 
 impl Model for Walker {
     ghost use Rattle.std.specs.Prelude.{◌≡◌, true};
-    ghost use Rattle.cics_plans.specs.Proper.{is_proper};
+    ghost use Rattle.cics_orders.specs.Plans.Proper.{is_proper};
     ghost use Rattle.cics_orders.specs.Giving.{State, line_count, opened, initial_lanes};
     ghost use Rattle.cics_orders.specs.Turns.{lines_to_shutdown};
 

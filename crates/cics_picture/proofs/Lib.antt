@@ -4,3 +4,5 @@ pub mod WellFormed
 pub mod Counted
 pub mod Waits
 pub mod Kept
+pub mod OfXml
+pub mod OfDraw

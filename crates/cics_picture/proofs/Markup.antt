@@ -1,10 +1,10 @@
 -- What a picture puts together is the text of a document.
 use Rattle.std.proofs.Common.{◌≡◌, ℕ, List, [], ◌∷◌, ◌++◌, refl, ap, sym, ◌∙◌, append_assoc}
 use Rattle.std.proofs.lemmas.List.{append-nil}
-use Rattle.cics_markup.specs.declared.names.Tag.{Tag}
-use Rattle.cics_markup.specs.Characters.{character_text, shown}
-use Rattle.cics_markup.specs.Documents.{Attribute, Document, Empty, element, joined, said, document_text, start_text, end_text}
-use Rattle.cics_markup.proofs.Joined.{text_joined}
+use Rattle.cics_picture.specs.declared.xml.names.Tag.{Tag}
+use Rattle.cics_picture.specs.Xml.Characters.{character_text, shown}
+use Rattle.cics_picture.specs.Xml.Documents.{Attribute, Document, Empty, element, joined, said, document_text, start_text, end_text}
+use Rattle.cics_picture.proofs.OfXml.Joined.{text_joined}
 
 -- the text of a document
 abbrev pub IsMarkup : List ℕ → Type 0

@@ -2,13 +2,13 @@
 use Rattle.std.proofs.Common.{◌≡◌, ℕ, zero, suc, Bool, true, false, cond, ◌==◌, ◌+◌, ◌-◌, ◌*◌, ◌/◌, nat_lt, List, [], ◌∷◌, ◌++◌, ap, sym, ◌∙◌, append_assoc, length, map, Option, Some, None}
 use Rattle.std.specs.List.{fold, flat_map}
 use Rattle.cics_picture.specs.declared.bars.Look.{Look}
-use Rattle.cics_markup.specs.declared.names.Tag.{Tag}
-use Rattle.cics_markup.specs.declared.names.Tag.TheVariants as tag
-use Rattle.cics_markup.specs.declared.names.Key.TheVariants as key
-use Rattle.cics_markup.specs.Characters.{shown}
-use Rattle.cics_markup.specs.Documents.{Document, Empty, attribute, number_of, numeral, moved_to, element, said, end_text}
-use Rattle.cics_markup.specs.Reading.{document_of}
-use Rattle.cics_markup.proofs.ReadBack.{read_back}
+use Rattle.cics_picture.specs.declared.xml.names.Tag.{Tag}
+use Rattle.cics_picture.specs.declared.xml.names.Tag.TheVariants as tag
+use Rattle.cics_picture.specs.declared.xml.names.Key.TheVariants as key
+use Rattle.cics_picture.specs.Xml.Characters.{shown}
+use Rattle.cics_picture.specs.Xml.Documents.{Document, Empty, attribute, number_of, numeral, moved_to, element, said, end_text}
+use Rattle.cics_picture.specs.Xml.Reading.{document_of}
+use Rattle.cics_picture.proofs.OfXml.ReadBack.{read_back}
 use Rattle.cics_picture.specs.declared.events.Kind.{Kind}
 use Rattle.cics_picture.specs.declared.events.Kind.TheVariants as kind
 use Rattle.cics_picture.specs.Events.{first_word, behind_word, kind_of, class_of, shape_of}

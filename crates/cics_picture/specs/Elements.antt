@@ -1,10 +1,10 @@
 -- The elements of a picture.
 use Rattle.std.specs.Prelude.{ℕ, ◌+◌, ◌-◌, nat_lt, nat_le, if◌then◌else◌, List, [], ◌∷◌, ◌++◌, map, length, take}
-use Rattle.cics_markup.specs.declared.names.Tag.{Tag}
-use Rattle.cics_markup.specs.declared.names.Tag.TheVariants as tag
-use Rattle.cics_markup.specs.declared.names.Key.TheVariants as key
-use Rattle.cics_markup.specs.Characters.{shown}
-use Rattle.cics_markup.specs.Documents.{Attribute, attribute, number_of, numeral, moved_to, Empty, element, said, document_text, start_text}
+use Rattle.cics_picture.specs.declared.xml.names.Tag.{Tag}
+use Rattle.cics_picture.specs.declared.xml.names.Tag.TheVariants as tag
+use Rattle.cics_picture.specs.declared.xml.names.Key.TheVariants as key
+use Rattle.cics_picture.specs.Xml.Characters.{shown}
+use Rattle.cics_picture.specs.Xml.Documents.{Attribute, attribute, number_of, numeral, moved_to, Empty, element, said, document_text, start_text}
 use Rattle.cics_picture.specs.declared.events.Kind.{Kind}
 use Rattle.cics_picture.specs.Events.{class_of, shape_of}
 use Rattle.cics_picture.specs.Lanes.{lane_x}

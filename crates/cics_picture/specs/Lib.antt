@@ -5,3 +5,5 @@ pub mod Bars
 pub mod Drawings
 pub mod Sheets
 pub mod Arrows
+pub mod Xml
+pub mod Draw

@@ -2,8 +2,8 @@
 use Rattle.std.specs.Prelude.{ℕ, zero, suc, ◌+◌, ◌*◌, ◌/◌, List, [], ◌++◌, length}
 use Rattle.std.specs.List.{flat_map}
 use Rattle.cics_picture.specs.declared.bars.Look.{Look}
-use Rattle.cics_markup.specs.declared.names.Tag.TheVariants as tag
-use Rattle.cics_markup.specs.Documents.{end_text}
+use Rattle.cics_picture.specs.declared.xml.names.Tag.TheVariants as tag
+use Rattle.cics_picture.specs.Xml.Documents.{end_text}
 use Rattle.cics_picture.specs.declared.events.Kind.{Kind}
 use Rattle.cics_picture.specs.declared.events.Kind.TheVariants as kind
 use Rattle.cics_picture.specs.Lanes.{lane_x, row_y}

@@ -4,7 +4,7 @@ ghost use Rattle.std.specs.Prelude.{◌≡◌, ◌++◌, ◌<◌, ◌≤◌, OnO
 ghost use Rattle.cics_picture.specs.Lanes.{most_lanes};
 ghost use Rattle.cics_picture.specs.Elements.{words_start, words, number_words, shape, stroke};
 ghost use Rattle.cics_picture.specs.Elements.{field, spoken};
-ghost use Rattle.cics_markup.specs.Documents.{attribute_text};
+ghost use Rattle.cics_picture.specs.Xml.Documents.{attribute_text};
 ghost use Rattle.cics_picture.specs.Elements.{namespace, picture_start, moved_start, mark};
 ghost use Rattle.cics_picture.specs.Elements.{tip, head};
 ghost use Rattle.cics_picture.specs.Elements.{arrow, link, cut};
@@ -12,7 +12,7 @@ ghost use Rattle.cics_picture.specs.Elements.{arrow, link, cut};
 use crate::events::Kind;
 use crate::lanes::lane_x;
 use crate::style::NAMESPACE;
-use cics_markup::{
+use crate::xml::{
     Key, Tag, push_attribute, push_end, push_inside, push_move, push_number, push_number_attribute,
     push_start, push_text,
 };

@@ -7,6 +7,7 @@
 #![tactic(auto)]
 
 mod bars;
+pub mod draw;
 mod drawing;
 mod elements;
 mod events;
@@ -14,6 +15,7 @@ mod lanes;
 mod rows;
 mod sheet;
 mod style;
+pub mod xml;
 
 pub use bars::{Look, NOBODY, Standing};
 pub use drawing::{Drawing, LIMIT, Undrawn};

@@ -3,8 +3,8 @@
 ghost use Rattle.std.specs.Prelude.{◌≡◌, ◌++◌, ◌∷◌, ◌<◌, ◌≤◌, List, ℕ, true, Some, slice_get};
 ghost use Rattle.std.specs.Prelude.{OnOk};
 ghost use Rattle.cics_picture.specs.declared.bars.Look.{Look};
-ghost use Rattle.cics_markup.specs.Documents.{Document};
-ghost use Rattle.cics_markup.specs.Reading.{document_of};
+ghost use Rattle.cics_picture.specs.Xml.Documents.{Document};
+ghost use Rattle.cics_picture.specs.Xml.Reading.{document_of};
 ghost use Rattle.cics_picture.specs.Lanes.{most_lanes};
 ghost use Rattle.cics_picture.specs.Drawings.{drawn_of, Printed, Row, drawn, finished};
 ghost use Rattle.cics_picture.specs.Arrows.{TellsWait, DrawsArrow};
@@ -26,7 +26,7 @@ use crate::elements::{
 use crate::events::Kind;
 use crate::lanes::lane_x;
 use crate::style::STYLE;
-use cics_markup::{Tag, push_end};
+use crate::xml::{Tag, push_end};
 use cics_names::NoMemory;
 
 /// Every picture is well formed: it is read back as a document, whatever the lines and texts are.

@@ -1,7 +1,7 @@
 //! The program's arguments.
 
+use crate::session::{Options, Orders, Wanted};
 use cics_names::NoMemory;
-use cics_session::{Options, Orders, Wanted};
 use clap::builder::ValueParser;
 use clap::error::ErrorKind;
 use clap::{Arg, ArgAction, ArgMatches, Command, Error};

@@ -1,9 +1,14 @@
-//! Runs of a script, as `cics_session` has them, and what the words of a command line ask for.
+//! Runs of a script, as `cics_run::session` has them, and what the words of a command line ask for.
 #![tactic(auto)]
 
 mod command_line;
+pub mod listing;
+pub mod session;
+pub mod stage;
+pub mod told;
+pub mod whole;
 
-pub use cics_session::{
+pub use crate::session::{
     CHUNK, Failed, LIMIT, Options, Orders, RunFault, Session, Sink, Source, Status, Stop, Wanted,
     exit_status, line_len, run, run_over, strict_status, write_all, write_pending,
 };

@@ -11,3 +11,5 @@ pub mod Stuck
 pub mod Cuts
 pub mod Passed
 pub mod Taken
+pub mod OfSpelling
+pub mod OfAdvice

@@ -10,3 +10,5 @@ pub mod Commands
 pub mod Lines
 pub mod Layout
 pub mod Columns
+pub mod Spelling
+pub mod Advice

@@ -11,16 +11,18 @@
 //! - `lines`: `read_line` returns the `Line` that the bytes say, or their first fault.
 //! - `columns`: `find_fault` returns that fault with its column.
 //!
-//! `cics_spelling` writes commands as lines. Cost of a call: O(bytes that it reads), but for
+//! `cics_script::spelling` writes commands as lines. Cost of a call: O(bytes that it reads), but for
 //! `find_fault`.
 #![tactic(auto)]
 
+pub mod advice;
 mod columns;
 mod commands;
 mod faults;
 mod lines;
 mod literals;
 mod options;
+pub mod spelling;
 mod tokens;
 mod values;
 mod words;

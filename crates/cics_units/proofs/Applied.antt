@@ -28,12 +28,12 @@ use Rattle.cics_history.specs.Records.{is_file_op, file_of, key_of as key_of_op}
 use Rattle.cics_history.specs.declared.ops.Answer.{Answer}
 use Rattle.cics_history.specs.declared.ops.Op.{Op}
 use Rattle.cics_history.specs.declared.ops.Op.TheVariants.{Write, Rewrite, Delete, DeleteGeneric, ReadUpdate, TdWrite, TdRead, TdDelete}
-use Rattle.cics_opening.specs.FilesImages.{FilesImage, cell_of, cell_of_image, files_content, IsReadyFor, files_undone, FilesKeep}
-use Rattle.cics_opening.specs.StoreMatching.{StoreValue, AnyImage, AnyLeads, end_cell, bytes_of_end, shown_store, shown_records, bytes_of, any_content, any_undone, cell_of_any, any_holds, AnyKeep, IsImageOfChange, AreImagesOf}
+use Rattle.cics_units.specs.Opening.FilesImages.{FilesImage, cell_of, cell_of_image, files_content, IsReadyFor, files_undone, FilesKeep}
+use Rattle.cics_units.specs.Opening.StoreMatching.{StoreValue, AnyImage, AnyLeads, end_cell, bytes_of_end, shown_store, shown_records, bytes_of, any_content, any_undone, cell_of_any, any_holds, AnyKeep, IsImageOfChange, AreImagesOf}
 use Rattle.cics_units.specs.Parts.{is_recoverable_in, leaves, leaves_any, of_files, with_stored, image_if}
 use Rattle.cics_units.specs.FilesChanges.{IsFilesImage, others_kept, image_among as file_image_among}
 use Rattle.cics_units.specs.QueueChanges.{is_trans, queue_of, end_of, is_left, trans_after, trans_answer, rows_after, rows_image, rows_answer, IsTempChange, IsTransChange, with_image, in_queue}
-use Rattle.cics_opening.specs.Prefixed.{is_temp}
+use Rattle.cics_units.specs.Opening.Prefixed.{is_temp}
 use Rattle.cics_units.specs.Applied.{IsSeenIn, spares, AreImagesMade, IsApplied, IsFileBound, IsQueueBound, marks_in, marks_if, read_given, counted_as}
 use Rattle.cics_units.proofs.StoreInPlace.{AreReady, ready_where, shown_ts}
 use Rattle.cics_units.proofs.TempChanges.{temp_cell_of, temp_single, temp_no_file, temp_no_trans, is_done, rows_rise, rows_stay, rows_plain, rows_imaged, temp_stored, temp_answered, temp_changes}

@@ -34,12 +34,12 @@ use Rattle.cics_history.proofs.PrefixImages.{images_by-AreImages}
 use Rattle.cics_history.proofs.States.{one_at_each_end, acting_open}
 use Rattle.cics_units.specs.FilesImagesLaws.{bytes_eq-turned}
 use Rattle.cics_units.specs.ImageRows.{kept_by}
-use Rattle.cics_opening.specs.StoreMatching.{StoreValue, AnyImage, shown_store, bytes_of, bytes_of_end, AreImagesOf}
+use Rattle.cics_units.specs.Opening.StoreMatching.{StoreValue, AnyImage, shown_store, bytes_of, bytes_of_end, AreImagesOf}
 use Rattle.cics_units.specs.Awaiting.{IsOwn}
 use Rattle.cics_units.specs.StoreInPlace.{AreInPlace, HasMarks, holds_end}
 use Rattle.cics_units.specs.Parts.{leaves_any}
 use Rattle.cics_units.specs.QueueChanges.{is_trans, queue_of, is_left, leaves_end, trans_after}
-use Rattle.cics_opening.specs.Prefixed.{is_temp}
+use Rattle.cics_units.specs.Opening.Prefixed.{is_temp}
 use Rattle.cics_units.specs.Applied.{IsApplied, spares, marks_in, marks_if, AreImagesMade}
 use Rattle.cics_units.proofs.StoreMatched.{is_of_end, each_passes, plain_apart}
 use Rattle.cics_units.proofs.StoreInPlace.{AreReady, ready_where, place_by, marked_used}

@@ -20,14 +20,14 @@ use Rattle.cics_history.specs.declared.ops.Op.{Op}
 use Rattle.cics_history.specs.declared.ops.Op.TheVariants.{ReadUpdate, TdWrite, TdRead, TdDelete, Write, Rewrite, Delete, DeleteGeneric, TsWrite, TsRewrite, TsDelete}
 use Rattle.cics_history.proofs.States.{acting_open}
 use Rattle.cics_units.specs.ImageRows.{kept_none, kept_by, AreOthersKept}
-use Rattle.cics_opening.specs.StoreMatching.{StoreValue, StoreWithImages, AnyImage, cell_of_any, shown_store}
+use Rattle.cics_units.specs.Opening.StoreMatching.{StoreValue, StoreWithImages, AnyImage, cell_of_any, shown_store}
 use Rattle.cics_units.specs.StoreInPlace.{AreInPlace}
 use Rattle.cics_units.specs.StorePlaces.{HavePlaces}
 use Rattle.cics_units.specs.KeptUnits.{AreValid}
 use Rattle.cics_units.specs.TableInPlace.{table_executed}
 use Rattle.cics_units.specs.Awaiting.{is_writer, IsOwn}
 use Rattle.cics_units.specs.QueueChanges.{is_trans, queue_of, rows_after, trans_answer, rows_answer}
-use Rattle.cics_opening.specs.Prefixed.{is_temp}
+use Rattle.cics_units.specs.Opening.Prefixed.{is_temp}
 use Rattle.cics_units.specs.Applied.{IsApplied, IsBound, IsFileBound, IsQueueBound, IsSeen, IsSeenIn, spares}
 use Rattle.cics_units.specs.Parts.{is_recoverable_in, given_record, first_in}
 use Rattle.cics_history.specs.Records.{file_of, is_file_op}

@@ -24,7 +24,7 @@ use Rattle.cics_history.proofs.InPlace.{committed_in_place}
 use Rattle.cics_units.specs.TableInPlace.{IsTableOf}
 use Rattle.cics_units.specs.Uses.{holder_over_all}
 use Rattle.cics_units.specs.Awaiting.{is_writer, is_logical_in, has_none_for, writer_over, unit_in_way}
-use Rattle.cics_opening.specs.StoreMatching.{StoreValue, AnyImage}
+use Rattle.cics_units.specs.Opening.StoreMatching.{StoreValue, AnyImage}
 use Rattle.cics_units.specs.StoreInPlace.{AreInPlace}
 use Rattle.cics_units.proofs.HeldOver.{table_holder}
 use Rattle.cics_units.proofs.UsesInTable.{uses_alike, awaited-uses}

@@ -20,11 +20,11 @@ use Rattle.cics_history.specs.Undo.{Image, Cells, image_at, images_under, images
 use Rattle.cics_history.specs.declared.ops.Op.{Op}
 use Rattle.cics_history.specs.declared.ops.Op.TheVariants.{DeleteGeneric}
 use Rattle.cics_history.proofs.Entries.{with_value-same}
-use Rattle.cics_opening.specs.FilesImages.{FilesImage, cell_of, cell_of_image, files_hold, FilesKeep, KeepsIn}
+use Rattle.cics_units.specs.Opening.FilesImages.{FilesImage, cell_of, cell_of_image, files_hold, FilesKeep, KeepsIn}
 use Rattle.cics_units.specs.FilesImagesLaws as files
 use Rattle.cics_units.specs.FilesImagesLaws.{same_bytes-eq}
 use Rattle.cics_units.specs.FilesChanges.{image_among, held_among}
-use Rattle.cics_opening.specs.StoreMatching.{StoreValue, shown_store, AreImagesOf}
+use Rattle.cics_units.specs.Opening.StoreMatching.{StoreValue, shown_store, AreImagesOf}
 use Rattle.cics_units.specs.Parts.{is_recoverable_in, with_stored, leaves, is_below_prefix, of_files}
 use Rattle.cics_units.proofs.MadeImages.{AreMadeInTurn}
 use Rattle.cics_units.proofs.FilesChanged.{AreFileImagesAfter, AreFilesChanged}

@@ -8,7 +8,7 @@ use Rattle.cics_tempstor.specs.declared.images.Before.TheVariants.{Added}
 use Rattle.cics_transdata.specs.declared.queues.Recovery.TheVariants.{Logical}
 use Rattle.cics_transdata.specs.declared.images.TdImage.TheVariants.{Taken, Written}
 use Rattle.cics_history.specs.Cells.{Reading, Writing}
-use Rattle.cics_opening.specs.StoreMatching.{StoreValue, AnyImage, any_holds}
+use Rattle.cics_units.specs.Opening.StoreMatching.{StoreValue, AnyImage, any_holds}
 use Rattle.cics_units.specs.StoreEnds.{ts_images, td_images, writers_settled, readers_settled, ends_settled, has_end}
 
 -- the row of an absent temporary storage queue, and two transient data queues: of the first a

@@ -20,9 +20,9 @@ use Rattle.cics_history.specs.Events.{is_live}
 use Rattle.cics_history.specs.Isolation.{IsSound}
 use Rattle.cics_history.specs.declared.ops.UnitState.TheVariants.{Committed}
 use Rattle.cics_history.proofs.Maps.{same_map}
-use Rattle.cics_opening.specs.FilesImages.{FilesKeep, cell_of_image, files_swept, definitions_of}
+use Rattle.cics_units.specs.Opening.FilesImages.{FilesKeep, cell_of_image, files_swept, definitions_of}
 use Rattle.cics_units.specs.ImageRows.{kept_by, AreOthersKept, AreHeldForImages}
-use Rattle.cics_opening.specs.StoreMatching.{StoreValue, AnyImage, shown_store, cell_of_any, any_content, any_swept, AnyKeep, any_holds}
+use Rattle.cics_units.specs.Opening.StoreMatching.{StoreValue, AnyImage, shown_store, cell_of_any, any_content, any_swept, AnyKeep, any_holds}
 use Rattle.cics_units.specs.StoreInPlace.{AreInPlace}
 use Rattle.cics_units.specs.StoreEnds.{file_images, ts_images, any_fixed, ends_settled, IsEnded}
 use Rattle.cics_units.proofs.StoreQueues.{all_swept_queue}

@@ -23,7 +23,7 @@ use Rattle.cics_history.proofs.SerialRuns.{enqueue-IsInOrder, dequeue-IsInOrder}
 use Rattle.cics_history.specs.Cells.{content}
 use Rattle.cics_history.specs.Undo.{IsUndoable}
 use Rattle.cics_history.specs.Ends.{AreMarked}
-use Rattle.cics_opening.specs.StoreMatching.{StoreValue, StoreWithImages, shown_store}
+use Rattle.cics_units.specs.Opening.StoreMatching.{StoreValue, StoreWithImages, shown_store}
 use Rattle.cics_units.specs.TableInPlace.{value_of, counted_before, counts_in}
 use Rattle.cics_units.specs.Parts.{CoreValue, AreRoomier, AreEnqueued, IsCoreAsBefore}
 use Rattle.cics_units.specs.KeptUnits.{state_shown, AreValid}

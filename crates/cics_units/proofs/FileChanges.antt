@@ -15,15 +15,15 @@ use Rattle.cics_history.specs.Cells.{Key, content, is_generic, cell_of as cell_o
 use Rattle.cics_history.specs.Undo.{changes}
 use Rattle.cics_history.specs.declared.ops.Op.{Op}
 use Rattle.cics_history.specs.declared.ops.Op.TheVariants.{Write, Rewrite, Delete, DeleteGeneric, ReadUpdate}
-use Rattle.cics_opening.specs.FilesImages.{FilesImage, cell_of, cell_of_image, files_hold, FilesKeep, KeepsIn, definitions_of}
+use Rattle.cics_units.specs.Opening.FilesImages.{FilesImage, cell_of, cell_of_image, files_hold, FilesKeep, KeepsIn, definitions_of}
 use Rattle.cics_units.proofs.HeldPlaces.{written_held, rewritten_held, deleted_held}
 use Rattle.cics_units.specs.FilesChanges.{IsFilesImage, held_among}
-use Rattle.cics_opening.specs.StoreMatching.{StoreValue, shown_store}
+use Rattle.cics_units.specs.Opening.StoreMatching.{StoreValue, shown_store}
 use Rattle.cics_units.specs.Parts.{is_recoverable_in, image_if}
 use Rattle.cics_history.proofs.Entries.{with_value-same}
 use Rattle.cics_units.proofs.MadeImages.{stands_for, with_image, without_image}
 use Rattle.cics_units.proofs.FilesChanged.{HasFileImages, AreFileImagesAfter, AreFilesChanged}
-use Rattle.cics_opening.proofs.Opened.{with_value-each}
+use Rattle.cics_units.proofs.OfOpening.Opened.{with_value-each}
 use Rattle.cics_history.proofs.Stores.{value_at_each}
 
 -- what one of the files has of a record's key, and what a command on it is answered

@@ -10,8 +10,8 @@ use Rattle.cics_history.specs.Records.{is_file_op, file_of, key_of}
 use Rattle.cics_history.specs.declared.ops.Op.{Op}
 use Rattle.cics_history.specs.declared.ops.Op.TheVariants.{Write, Rewrite, Delete, DeleteGeneric, ReadUpdate, TdWrite, TdRead, TdDelete}
 use Rattle.cics_history.proofs.Joining.{same_cell-true, same_cell-refl}
-use Rattle.cics_opening.specs.FilesImages.{cell_of}
-use Rattle.cics_opening.specs.StoreMatching.{bytes_of}
+use Rattle.cics_units.specs.Opening.FilesImages.{cell_of}
+use Rattle.cics_units.specs.Opening.StoreMatching.{bytes_of}
 use Rattle.cics_units.specs.Parts.{is_below_prefix, leaves, leaves_any}
 use Rattle.cics_units.proofs.StoreMatched.{same_bytes}
 

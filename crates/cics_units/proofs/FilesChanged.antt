@@ -10,8 +10,8 @@ use Rattle.cics_history.specs.Cells.{content}
 use Rattle.cics_history.specs.Undo.{images_by}
 use Rattle.cics_history.specs.Records.{file_of}
 use Rattle.cics_history.specs.declared.ops.Op.{Op}
-use Rattle.cics_opening.specs.FilesImages.{FilesImage, cell_of_image, files_hold, FilesKeep}
-use Rattle.cics_opening.specs.StoreMatching.{StoreValue, shown_store, AreImagesOf}
+use Rattle.cics_units.specs.Opening.FilesImages.{FilesImage, cell_of_image, files_hold, FilesKeep}
+use Rattle.cics_units.specs.Opening.StoreMatching.{StoreValue, shown_store, AreImagesOf}
 use Rattle.cics_units.specs.Parts.{is_recoverable_in, leaves, of_files}
 use Rattle.cics_units.proofs.MadeImages.{AreMadeInTurn}
 

@@ -9,7 +9,7 @@ use Rattle.cics_names.specs.RisingLaws.{is_key_in-with_key, is_key_in-without_ke
 use Rattle.cics_images.specs.Cells.{is_other, is_unnamed}
 use Rattle.cics_ksds.specs.Files.{FileValue, key_of, filled, emptied, dropped, written, rewritten, deleted}
 use Rattle.cics_ksds.specs.Undo.{ImageValue, deleted_image}
-use Rattle.cics_opening.specs.FilesImages.{FilesImage, cell_of, cell_of_image}
+use Rattle.cics_units.specs.Opening.FilesImages.{FilesImage, cell_of, cell_of_image}
 use Rattle.cics_units.specs.FilesImagesLaws.{same_bytes-eq}
 use Rattle.cics_ksds.specs.declared.images.Before.TheVariants.{Removed}
 use Rattle.cics_units.specs.Parts.{image_if}

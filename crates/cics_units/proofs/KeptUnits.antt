@@ -30,9 +30,9 @@ use Rattle.cics_history.specs.declared.ops.Op.TheVariants.{Write, Rewrite, Delet
 use Rattle.cics_history.specs.declared.ops.Answer.{Answer}
 use Rattle.cics_history.specs.declared.ops.UnitState.{UnitState}
 use Rattle.cics_history.specs.declared.ops.UnitState.TheVariants.{Open, Committed, BackedOut}
-use Rattle.cics_opening.specs.RegionFiles.{IsThere, opened_files, file_of as file_of_opening}
-use Rattle.cics_opening.specs.FilesImages.{files_hold}
-use Rattle.cics_opening.specs.StoreMatching.{StoreValue, StoreWithImages, shown_store, cell_of_any, AnyLeads, any_content, IsAnyReady, any_undone, any_swept, any_holds, AnyKeep, AreImagesOf as KeptChanges}
+use Rattle.cics_units.specs.Opening.RegionFiles.{IsThere, opened_files, file_of as file_of_opening}
+use Rattle.cics_units.specs.Opening.FilesImages.{files_hold}
+use Rattle.cics_units.specs.Opening.StoreMatching.{StoreValue, StoreWithImages, shown_store, cell_of_any, AnyLeads, any_content, IsAnyReady, any_undone, any_swept, any_holds, AnyKeep, AreImagesOf as KeptChanges}
 use Rattle.cics_units.specs.StoreInPlace.{IsUnmarked, AreInPlace}
 use Rattle.cics_units.specs.StoreEnds.{any_fixed, ends_settled, IsEnded}
 use Rattle.cics_units.specs.ImageRows.{kept_by, AreOthersKept, AreHeldForImages}
@@ -41,7 +41,7 @@ use Rattle.cics_units.specs.TableInPlace.{IsTableOf, table_executed, table_unloc
 use Rattle.cics_units.specs.Parts.{is_recoverable_in, IsRecordOf, IsFitOp}
 use Rattle.cics_units.specs.StorePlaces.{HavePlaces}
 use Rattle.cics_units.specs.Awaiting.{is_logical_in}
-use Rattle.cics_opening.specs.RegionQueues.{opened_queue, opened_queues}
+use Rattle.cics_units.specs.Opening.RegionQueues.{opened_queue, opened_queues}
 use Rattle.cics_units.specs.KeptUnits.{AreValid, AreAsDefined, opened_store}
 use Rattle.cics_history.proofs.Stores.{same_store, apply-canonical, replay-canonical, initial-canonical, value_at_each}
 use Rattle.cics_history.proofs.States.{initial_units-IsSound, execution-IsSound, unlock-IsSound, end-IsSound, agrees_of}

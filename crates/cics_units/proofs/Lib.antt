@@ -47,3 +47,5 @@ pub mod AppliedInPlace
 mod AppliedKept
 mod EndExamples
 mod NothingHeld
+pub mod OfReplay
+pub mod OfOpening

@@ -19,9 +19,9 @@ use Rattle.cics_history.specs.Undo.{Image, Cells, changes, image_of, images_by}
 use Rattle.cics_history.specs.declared.ops.Op.{Op}
 use Rattle.cics_history.specs.declared.ops.Op.TheVariants.{DeleteGeneric}
 use Rattle.cics_history.proofs.Joining.{apply-content, touches-self}
-use Rattle.cics_opening.specs.FilesImages.{FilesImage, cell_of, cell_of_image, files_content, files_undone, FilesKeep}
+use Rattle.cics_units.specs.Opening.FilesImages.{FilesImage, cell_of, cell_of_image, files_content, files_undone, FilesKeep}
 use Rattle.cics_units.specs.FilesChanges.{IsFilesImage}
-use Rattle.cics_opening.specs.StoreMatching.{StoreValue, AnyImage, shown_store, shown_records, AnyKeep, IsImageOfChange, AreImagesOf}
+use Rattle.cics_units.specs.Opening.StoreMatching.{StoreValue, AnyImage, shown_store, shown_records, AnyKeep, IsImageOfChange, AreImagesOf}
 use Rattle.cics_units.specs.Parts.{of_files}
 use Rattle.cics_units.proofs.StoreInPlace.{shown_key, AreReady, ready_where}
 use Rattle.cics_units.proofs.StoreExecuted.{all_of}

@@ -33,8 +33,8 @@ use Rattle.cics_history.specs.Serial.{NoneIsOpen}
 use Rattle.cics_history.proofs.Joining.{same_cell-refl}
 use Rattle.cics_history.proofs.Waiting.{used_known}
 use Rattle.cics_history.specs.declared.ops.UnitState.TheVariants.{Open}
-use Rattle.cics_opening.specs.StoreMatching.{AnyImage, StoreWithImages, cell_of_any, any_holds}
-use Rattle.cics_opening.specs.StoreMatching as matching
+use Rattle.cics_units.specs.Opening.StoreMatching.{AnyImage, StoreWithImages, cell_of_any, any_holds}
+use Rattle.cics_units.specs.Opening.StoreMatching as matching
 use Rattle.cics_units.specs.StoreInPlace.{HasMarks}
 use Rattle.cics_units.specs.ImageRows.{kept_by}
 use Rattle.cics_units.specs.KeptUnits.{AreValid}

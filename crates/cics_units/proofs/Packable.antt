@@ -15,7 +15,7 @@ use Rattle.cics_history.specs.declared.ops.Op.{Op}
 use Rattle.cics_history.specs.declared.ops.Op.TheVariants.{Write, Rewrite, Delete, DeleteGeneric, ReadUpdate, TsWrite, TsRewrite, TsDelete, TdWrite, TdRead, TdDelete}
 use Rattle.cics_units.specs.Applied.{IsBound}
 use Rattle.cics_units.specs.Parts.{IsFitOp, IsRecordOf, given_record}
-use Rattle.cics_opening.specs.StoreMatching.{StoreValue, shown_store}
+use Rattle.cics_units.specs.Opening.StoreMatching.{StoreValue, shown_store}
 use Rattle.cics_units.proofs.FileChanges.{read_answer}
 
 -- the key of a record that fits lies in it

@@ -20,7 +20,7 @@ use Rattle.cics_transdata.specs.Trans.{TransState}
 use Rattle.cics_history.specs.declared.ops.Op.{Op}
 use Rattle.cics_history.specs.declared.ops.Op.TheVariants.{TsWrite, TsRewrite, TsDelete}
 use Rattle.cics_units.specs.FilesImagesLaws.{same_bytes-eq}
-use Rattle.cics_opening.specs.StoreMatching.{StoreValue, AnyImage, cell_of_any, any_holds}
+use Rattle.cics_units.specs.Opening.StoreMatching.{StoreValue, AnyImage, cell_of_any, any_holds}
 use Rattle.cics_units.specs.QueueChanges.{rows_after, rows_image, with_image}
 
 -- what is held back in other rows than these was so in these, but for one name

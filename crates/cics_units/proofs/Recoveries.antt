@@ -10,7 +10,7 @@ use Rattle.cics_images.specs.StoreCells.{trans_cell}
 use Rattle.cics_transdata.specs.Trans.{TransState, is_logical}
 use Rattle.cics_transdata.specs.Undo.{KeepsEnds}
 use Rattle.cics_history.specs.State.{OpeningState, QueueOpening, queue_logical}
-use Rattle.cics_opening.specs.StoreMatching.{StoreValue, AnyKeep}
+use Rattle.cics_units.specs.Opening.StoreMatching.{StoreValue, AnyKeep}
 use Rattle.cics_units.specs.QueueChanges.{HaveRecoveries}
 
 -- a queue that stands there is LOGICAL if the opening has it so

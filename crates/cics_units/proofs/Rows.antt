@@ -7,7 +7,7 @@ use Rattle.cics_history.specs.Execution.{after_execution, read_at, with_read}
 use Rattle.cics_history.specs.declared.ops.Op.TheVariants.{TsWrite}
 use Rattle.cics_history.proofs.Rows.{acct, log, rq, tdq1, k1, k2, defined, written_2}
 use Rattle.cics_units.specs.OpenReads.{reads_of, reads_from, is_read_key}
-use Rattle.cics_replay.specs.Listings.{listing_of}
+use Rattle.cics_units.specs.Replay.Listings.{listing_of}
 use lib.Chars.{codes}
 
 -- ---- Update reads

@@ -12,14 +12,14 @@ use Rattle.cics_history.specs.Store.{apply, is_normal, is_recoverable}
 use Rattle.cics_history.specs.Holding.{store_of, awaited}
 use Rattle.cics_history.specs.Execution.{execution, done_of, state_of, has_read, IsOpenUnit, IsOpenOrNone, unit_or_next, outcomes_with, reads_after, is_read_of, read_at, commits_with, entered, after_execution, after_unlock, after_end, is_ready_op}
 use Rattle.cics_history.specs.Events.{is_live, may_act}
-use Rattle.cics_opening.specs.StoreMatching.{StoreValue, shown_store}
+use Rattle.cics_units.specs.Opening.StoreMatching.{StoreValue, shown_store}
 use Rattle.cics_history.specs.Records.{file_of}
 use Rattle.cics_units.specs.Uses.{uses_if, listed, AreFreeFor}
 use Rattle.cics_units.specs.Cores.{IsBoundFor}
 use Rattle.cics_units.specs.declared.units_core.BoundOp.{BoundOp}
 use Rattle.cics_units.specs.Awaiting.{is_writer, IsOwn, unit_in_way}
 use Rattle.cics_units.specs.QueueChanges.{queue_of as queue_on}
-use Rattle.cics_opening.specs.Prefixed.{is_temp}
+use Rattle.cics_units.specs.Opening.Prefixed.{is_temp}
 use Rattle.cics_units.specs.Applied.{IsApplied, IsBound, IsSeen}
 use Rattle.cics_units.specs.Executed.{IsExecuted}
 use Rattle.cics_units.specs.ImageRows.{kept_by, AreOthersKept}

@@ -20,8 +20,8 @@ use Rattle.cics_history.specs.declared.ops.UnitState.{UnitState}
 use Rattle.cics_history.specs.declared.ops.UnitState.TheVariants.{Committed, BackedOut}
 use Rattle.cics_history.proofs.Stores.{same_store, replay-canonical, initial-canonical}
 use Rattle.cics_units.specs.ImageRows.{kept_none, kept_by, AreOthersKept, AreHeldForImages}
-use Rattle.cics_opening.specs.FilesImages.{definitions_of, FilesKeep}
-use Rattle.cics_opening.specs.StoreMatching.{StoreValue, AnyImage, shown_store, bytes_of, cell_of_any, AnyLeads, any_content, any_undone, any_swept, AnyKeep, any_holds, shown_records}
+use Rattle.cics_units.specs.Opening.FilesImages.{definitions_of, FilesKeep}
+use Rattle.cics_units.specs.Opening.StoreMatching.{StoreValue, AnyImage, shown_store, bytes_of, cell_of_any, AnyLeads, any_content, any_undone, any_swept, AnyKeep, any_holds, shown_records}
 use Rattle.cics_units.specs.StoreInPlace.{AreInPlace, HasMarks, holds_end, ends_committed, committed_at, is_free_split, is_free}
 use Rattle.cics_units.specs.StoreEnds.{ts_images, any_fixed, ends_settled, IsEnded}
 use Rattle.cics_units.proofs.StoreMatched.{told_by_shown, led_back}

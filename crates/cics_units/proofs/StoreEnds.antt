@@ -23,10 +23,10 @@ use Rattle.cics_transdata.specs.Undo.{undone as queue_undone}
 use Rattle.cics_history.specs.Openings.{is_in_order}
 use Rattle.cics_history.specs.Cells.{IsCanonical}
 use Rattle.cics_history.proofs.Maps.{of_T, rising-with_value, rising-without}
-use Rattle.cics_opening.specs.FilesImages.{FilesImage, cell_of_image, files_swept, files_undone}
-use Rattle.cics_opening.specs.StoreMatching.{StoreValue, AnyImage, shown_store, cell_of_any, any_undone, any_swept}
+use Rattle.cics_units.specs.Opening.FilesImages.{FilesImage, cell_of_image, files_swept, files_undone}
+use Rattle.cics_units.specs.Opening.StoreMatching.{StoreValue, AnyImage, shown_store, cell_of_any, any_undone, any_swept}
 use Rattle.cics_units.specs.StoreEnds.{file_images, ts_images, td_images}
-use Rattle.cics_opening.proofs.Opened.{value_at-each, rising-each}
+use Rattle.cics_units.proofs.OfOpening.Opened.{value_at-each, rising-each}
 
 -- ---- the parts
 -- the store in place with each part undone by the images of its kind

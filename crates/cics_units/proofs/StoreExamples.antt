@@ -6,7 +6,7 @@ use Rattle.cics_transdata.specs.declared.images.TdImage.TheVariants.{Taken, Writ
 use Rattle.cics_tempstor.specs.declared.images.Before.TheVariants.{Added}
 use Rattle.cics_history.specs.Cells.{Key, Ts, Td, content, Reading, Writing}
 use Rattle.cics_history.specs.MarkImages.{OfReading, OfWriting}
-use Rattle.cics_opening.specs.StoreMatching.{StoreValue, shown_store, shown_records, bytes_of, bytes_of_end, AnyImage, cell_of_any, any_undone, AreImagesOf}
+use Rattle.cics_units.specs.Opening.StoreMatching.{StoreValue, shown_store, shown_records, bytes_of, bytes_of_end, AnyImage, cell_of_any, any_undone, AreImagesOf}
 use Rattle.cics_units.specs.StoreInPlace.{ends_committed}
 
 -- no file, a temporary storage queue with an item, and the row of one that is absent. A transient

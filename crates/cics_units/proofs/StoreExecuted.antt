@@ -13,7 +13,7 @@ use Rattle.cics_history.specs.Undo.{Image}
 use Rattle.cics_history.specs.Marks.{Queues}
 use Rattle.cics_history.specs.MarkImages.{MarkImage, mark_images}
 use Rattle.cics_history.proofs.Joining.{same_cell-refl}
-use Rattle.cics_opening.specs.StoreMatching.{StoreValue, AnyImage, cell_of_any, AnyLeads, any_content, IsAnyReady, any_undone, AnyKeep, AreImagesOf}
+use Rattle.cics_units.specs.Opening.StoreMatching.{StoreValue, AnyImage, cell_of_any, AnyLeads, any_content, IsAnyReady, any_undone, AnyKeep, AreImagesOf}
 
 -- a command that acts on no transient data queue marks nothing
 pub no_mark : (op : Op) → ((q : Bytes) → touches op (Td q) ≡ false) → (queues : Queues) → mark_images op queues ≡ []

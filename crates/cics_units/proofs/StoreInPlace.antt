@@ -40,11 +40,11 @@ use Rattle.cics_history.proofs.Outcomes.{outcome_of-set}
 use Rattle.cics_history.proofs.Places.{initial_units-IsPlaceOf}
 use Rattle.cics_history.proofs.InPlace.{initial_units-AreMarksOf, shows_of}
 use Rattle.cics_history.proofs.MarkedParts.{queue_of-shown}
-use Rattle.cics_opening.specs.FilesImages.{cell_of_image, content_in, IsReadyFor, files_undone, FilesKeep, definitions_of}
+use Rattle.cics_units.specs.Opening.FilesImages.{cell_of_image, content_in, IsReadyFor, files_undone, FilesKeep, definitions_of}
 use Rattle.cics_units.specs.FilesImagesLaws as files
 use Rattle.cics_units.specs.FilesImagesLaws.{content_of_cell}
 use Rattle.cics_units.specs.ImageRows.{kept_by}
-use Rattle.cics_opening.specs.StoreMatching.{StoreValue, AnyImage, shown_store, shown_records, end_cell, bytes_of, cell_of_any, any_content, IsAnyReady, any_undone, AnyKeep, AreImagesOf}
+use Rattle.cics_units.specs.Opening.StoreMatching.{StoreValue, AnyImage, shown_store, shown_records, end_cell, bytes_of, cell_of_any, any_content, IsAnyReady, any_undone, AnyKeep, AreImagesOf}
 use Rattle.cics_units.specs.StoreInPlace.{HasMarks, IsUnmarked, AreInPlace, holds_end, is_free_end, is_free_split, is_free}
 use Rattle.cics_units.proofs.StoreMatched.{is_of_end, none_of_end, each_passes, unnamed_kept, unmarked_kept}
 

@@ -26,7 +26,7 @@ use Rattle.cics_history.specs.Carried.{Carries}
 use Rattle.cics_history.proofs.Joining.{same_cell-true, same_cell-refl}
 use Rattle.cics_history.proofs.Waiting.{any_more}
 use Rattle.cics_units.specs.FilesImagesLaws.{same_bytes-eq, bytes_eq-turned}
-use Rattle.cics_opening.specs.StoreMatching.{AnyImage, QueuesImage, shown_records, bytes_of, end_cell, bytes_of_end, cell_of_any, AnyLeads, IsImageOfChange, IsImageOfMark, AreImagesOf}
+use Rattle.cics_units.specs.Opening.StoreMatching.{AnyImage, QueuesImage, shown_records, bytes_of, end_cell, bytes_of_end, cell_of_any, AnyLeads, IsImageOfChange, IsImageOfMark, AreImagesOf}
 
 -- two tests that pass together are one test
 one_test : (a b : Bool) → (a ≡ true → b ≡ true) → (b ≡ true → a ≡ true) → a ≡ b

@@ -31,9 +31,9 @@ use Rattle.cics_history.specs.Undo.{Image}
 use Rattle.cics_history.specs.MarkImages.{MarkImage}
 use Rattle.cics_history.specs.Carried.{CarriesIfAny}
 use Rattle.cics_history.proofs.InPlace.{sees_where_shown}
-use Rattle.cics_opening.specs.FilesImages.{cell_of_image, files_content, IsReadyFor, files_undone, FilesKeep}
+use Rattle.cics_units.specs.Opening.FilesImages.{cell_of_image, files_content, IsReadyFor, files_undone, FilesKeep}
 use Rattle.cics_units.specs.FilesImagesLaws as files
-use Rattle.cics_opening.specs.StoreMatching.{StoreValue, AnyImage, end_cell, bytes_of, bytes_of_end, any_undone, AnyKeep, AreImagesOf}
+use Rattle.cics_units.specs.Opening.StoreMatching.{StoreValue, AnyImage, end_cell, bytes_of, bytes_of_end, any_undone, AnyKeep, AreImagesOf}
 use Rattle.cics_units.specs.StoreInPlace.{AreInPlace}
 use Rattle.cics_units.specs.Awaiting.{IsOwn}
 use Rattle.cics_units.specs.QueueChanges.{queue_of, leaves_end, is_left_end, is_left_split, is_left, with_image, in_queue}

@@ -21,7 +21,7 @@ use Rattle.cics_history.specs.Marks.{MarkedQueue, marks_of, unwritten, writer_se
 use Rattle.cics_history.specs.MarkImages.{MarkImage, queue_of, unmarked, IsMarkReady, Unmarks, marks_queue}
 use Rattle.cics_history.proofs.MarkedParts.{marks_of-writer, marks_of-reader}
 use Rattle.cics_history.proofs.CarriedImages.{carried_undone, carried_marked}
-use Rattle.cics_opening.specs.StoreMatching.{StoreValue, AnyImage, cell_of_any, any_undone, any_swept, AreImagesOf}
+use Rattle.cics_units.specs.Opening.StoreMatching.{StoreValue, AnyImage, cell_of_any, any_undone, any_swept, AreImagesOf}
 use Rattle.cics_units.specs.StoreInPlace.{HasMarks, writer_ended, reader_ended, ends_committed}
 
 -- ---- sweeping

@@ -28,10 +28,10 @@ use Rattle.cics_history.specs.Ends.{is_of_reading, is_of_writing, LeadsTaken, Le
 use Rattle.cics_history.specs.Carried.{Carries}
 use Rattle.cics_history.proofs.Maps.{same_map}
 use Rattle.cics_units.specs.ImageRows.{kept_by}
-use Rattle.cics_opening.specs.StoreMatching.{StoreValue, AnyImage, QueuesImage, shown_store, cell_of_any, any_swept, AreImagesOf, any_holds}
+use Rattle.cics_units.specs.Opening.StoreMatching.{StoreValue, AnyImage, QueuesImage, shown_store, cell_of_any, any_swept, AreImagesOf, any_holds}
 use Rattle.cics_units.specs.StoreInPlace.{HasMarks, AreInPlace, writer_ended, reader_ended, committed_at}
 use Rattle.cics_units.specs.StoreEnds.{kind_at, end_committed, is_at_end, end_settled, writers_settled, ends_settled, has_end}
-use Rattle.cics_opening.proofs.Opened.{value_at-each, rising-each}
+use Rattle.cics_units.proofs.OfOpening.Opened.{value_at-each, rising-each}
 use Rattle.cics_units.proofs.StoreMatched.{is_of_end, none_of_end}
 use Rattle.cics_units.proofs.StoreQueues.{all_swept_queue}
 use Rattle.cics_units.proofs.StoreEnds.{rising-changed}

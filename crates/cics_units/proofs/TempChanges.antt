@@ -18,9 +18,9 @@ use Rattle.cics_history.specs.declared.ops.Op.{Op}
 use Rattle.cics_history.specs.declared.ops.Op.TheVariants.{TsWrite, TsRewrite, TsDelete}
 use Rattle.cics_history.specs.Cells.{Ts, cell_of as cell_of_op, content, is_generic, Writing, uses}
 use Rattle.cics_history.specs.Undo.{changes}
-use Rattle.cics_opening.specs.StoreMatching.{StoreValue, shown_store}
+use Rattle.cics_units.specs.Opening.StoreMatching.{StoreValue, shown_store}
 use Rattle.cics_units.specs.QueueChanges.{is_trans, queue_of, rows_after, rows_image, rows_answer}
-use Rattle.cics_opening.specs.Prefixed.{is_temp}
+use Rattle.cics_units.specs.Opening.Prefixed.{is_temp}
 
 -- ---- the command and its queue
 -- what holds for each of the three commands holds for all

@@ -25,9 +25,9 @@ use Rattle.cics_history.specs.MarkImages as marks
 use Rattle.cics_history.specs.Carried.{CarriesIfAny}
 use Rattle.cics_history.proofs.MarkedParts.{queue_of-shown, marks_of-written, marks_of-read, marks_of-deleted, first_of-seen}
 use Rattle.cics_history.proofs.CarriedImages.{carried_written, carried_read, carried_deleted}
-use Rattle.cics_opening.specs.StoreMatching.{StoreValue, shown_store}
+use Rattle.cics_units.specs.Opening.StoreMatching.{StoreValue, shown_store}
 use Rattle.cics_units.specs.QueueChanges.{is_trans, queue_of, trans_after, trans_image, trans_answer}
-use Rattle.cics_opening.proofs.Opened.{value_at-each, with_value-each}
+use Rattle.cics_units.proofs.OfOpening.Opened.{value_at-each, with_value-each}
 
 -- what a command is told of a transient data queue is enough: its reader sees a record exactly if
 -- the queue shows one

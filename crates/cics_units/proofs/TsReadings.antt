@@ -23,7 +23,7 @@ use Rattle.cics_history.specs.declared.ops.UnitState.{UnitState}
 use Rattle.cics_history.proofs.SameHistory.{ts_reading-same}
 use Rattle.cics_history.proofs.States.{ts_reading-IsSound}
 use Rattle.cics_history.proofs.SerialRuns.{ts_reading-IsInOrder}
-use Rattle.cics_opening.specs.StoreMatching.{StoreWithImages, shown_store, StoreValue, AnyImage, AnyKeep}
+use Rattle.cics_units.specs.Opening.StoreMatching.{StoreWithImages, shown_store, StoreValue, AnyImage, AnyKeep}
 use Rattle.cics_units.specs.StorePlaces.{HavePlaces, number_asked}
 use Rattle.cics_units.specs.TableInPlace.{IsTableOf}
 use Rattle.cics_units.specs.Parts.{CoreValue}

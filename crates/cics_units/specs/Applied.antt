@@ -20,7 +20,7 @@ use Rattle.cics_history.specs.declared.ops.Op.{Op}
 use Rattle.cics_history.specs.declared.ops.Op.TheVariants.{ReadUpdate, TdRead}
 use Rattle.cics_units.specs.Parts.{leaves_any, IsHeldAsBefore}
 use Rattle.cics_units.specs.QueueChanges.{is_trans, queue_of, is_left, rows_after, trans_after}
-use Rattle.cics_opening.specs.StoreMatching.{StoreValue, AnyImage, shown_store, IsAnyReady, any_undone, AnyKeep, AreImagesOf}
+use Rattle.cics_units.specs.Opening.StoreMatching.{StoreValue, AnyImage, shown_store, IsAnyReady, any_undone, AnyKeep, AreImagesOf}
 
 -- ---- where a command acts
 -- the file of a name is there, and is recoverable or not; the names of the files rise

@@ -4,7 +4,7 @@ use Rattle.cics_units.specs.Applied.{IsBound, IsSeen}
 use Rattle.cics_units.specs.Awaiting.{is_writer, IsOwn}
 use Rattle.cics_units.specs.Parts.{CoreValue, IsFitOp, most_images}
 use Rattle.cics_units.specs.QueueChanges.{queue_of}
-use Rattle.cics_opening.specs.StoreMatching.{StoreValue}
+use Rattle.cics_units.specs.Opening.StoreMatching.{StoreValue}
 use Rattle.cics_units.specs.TableInPlace.{is_read}
 use Rattle.cics_units.specs.Uses.{uses_if, listed}
 use Rattle.cics_units.specs.declared.units_core.BoundOp.{BoundOp}

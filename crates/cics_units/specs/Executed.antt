@@ -9,7 +9,7 @@ use Rattle.cics_units.specs.Applied.{IsApplied}
 use Rattle.cics_units.specs.Awaiting.{is_writer, IsOwn}
 use Rattle.cics_units.specs.Parts.{CoreValue, AreRoomier}
 use Rattle.cics_units.specs.QueueChanges.{queue_of}
-use Rattle.cics_opening.specs.StoreMatching.{StoreWithImages}
+use Rattle.cics_units.specs.Opening.StoreMatching.{StoreWithImages}
 use Rattle.cics_units.specs.TableInPlace.{table_changed}
 use Rattle.cics_units.specs.ImageRows.{kept_by, AreOthersKept}
 

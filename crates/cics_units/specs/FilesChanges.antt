@@ -8,7 +8,7 @@ use Rattle.cics_images.specs.NamedChanges as named
 use Rattle.cics_ksds.specs.Files.{FileValue}
 use Rattle.cics_ksds.specs.Undo.{ImageValue, content_at, key_of_image, Leads, IsReadyImage, undone, KeepsKeys, IsFileImage}
 use Rattle.cics_ksds.specs.UndoLaws as file
-use Rattle.cics_opening.specs.FilesImages.{FilesImage, cell_of, cell_of_image, files_content, files_hold, IsReadyFor, files_undone, FilesKeep}
+use Rattle.cics_units.specs.Opening.FilesImages.{FilesImage, cell_of, cell_of_image, files_content, files_hold, IsReadyFor, files_undone, FilesKeep}
 
 -- an image of a change of a cell, among the files
 abbrev pub IsFilesImage : Map FileValue → Map FileValue → Cell → FilesImage → Type 0

@@ -10,7 +10,7 @@ use Rattle.cics_images.specs.NamedLaws as named
 use Rattle.cics_ksds.specs.Files.{FileValue}
 use Rattle.cics_ksds.specs.Undo.{content_at, key_of_image, IsReadyImage, undone, KeepsKeys}
 use Rattle.cics_ksds.specs.UndoLaws as file
-use Rattle.cics_opening.specs.FilesImages.{FilesImage, cell_of, cell_of_image, content_in, files_content, IsReadyFor, files_undone, FilesKeep}
+use Rattle.cics_units.specs.Opening.FilesImages.{FilesImage, cell_of, cell_of_image, content_in, files_content, IsReadyFor, files_undone, FilesKeep}
 
 -- images of cells that stay are still ready
 pub keeps_ready : (p : Cell → Bool) (s t : Map FileValue) (i : FilesImage) → FilesKeep p s t → p (cell_of_image i) ≡ true → IsReadyFor s i → IsReadyFor t i

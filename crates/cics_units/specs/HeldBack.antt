@@ -5,7 +5,7 @@ use Rattle.cics_ksds.specs.Files.{FileValue}
 use Rattle.cics_tempstor.specs.Queues.{is_there}
 use Rattle.cics_tempstor.specs.declared.queue_rows.Row.{Row}
 use Rattle.cics_transdata.specs.Trans.{TransState, IsMarked}
-use Rattle.cics_opening.specs.StoreMatching.{StoreValue}
+use Rattle.cics_units.specs.Opening.StoreMatching.{StoreValue}
 
 -- files and queues hold nothing back for an undo
 pub record HoldsNothingBack (store : StoreValue) : Type 0 where

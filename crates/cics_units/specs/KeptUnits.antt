@@ -9,12 +9,12 @@ use Rattle.cics_history.specs.Openings.{IsOpeningInOrder, HasLawfulKeys}
 use Rattle.cics_history.specs.Cells.{IsCanonical}
 use Rattle.cics_history.specs.Isolation.{IsSound}
 use Rattle.cics_history.specs.Serial.{IsInOrder}
-use Rattle.cics_opening.specs.RegionFiles.{opened_files}
-use Rattle.cics_opening.specs.RegionQueues.{opened_queues}
-use Rattle.cics_opening.specs.FilesImages.{definitions_of}
+use Rattle.cics_units.specs.Opening.RegionFiles.{opened_files}
+use Rattle.cics_units.specs.Opening.RegionQueues.{opened_queues}
+use Rattle.cics_units.specs.Opening.FilesImages.{definitions_of}
 use Rattle.cics_units.specs.ImageRows.{AreHeldForImages}
 use Rattle.cics_units.specs.StoreInPlace.{AreInPlace}
-use Rattle.cics_opening.specs.StoreMatching.{StoreValue, StoreWithImages, shown_store, any_holds, cell_of_any}
+use Rattle.cics_units.specs.Opening.StoreMatching.{StoreValue, StoreWithImages, shown_store, any_holds, cell_of_any}
 use Rattle.cics_units.specs.TableInPlace.{counts_in, IsTableOf}
 use Rattle.cics_units.specs.Parts.{CoreValue}
 use Rattle.cics_history.specs.declared.ops.Entry.{Entry}

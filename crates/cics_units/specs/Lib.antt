@@ -18,3 +18,5 @@ pub mod Applied
 pub mod Executed
 pub mod Cores
 pub mod DoneOps
+pub mod Replay
+pub mod Opening

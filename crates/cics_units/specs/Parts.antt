@@ -13,15 +13,15 @@ use Rattle.cics_ksds.specs.Undo.{ImageValue}
 use Rattle.cics_ksds.specs.Prefixes.{has_prefix, under}
 use Rattle.cics_history.specs.Store.{apply}
 use Rattle.cics_history.specs.State.{UpdateRead}
-use Rattle.cics_opening.specs.RegionFiles.{IsThere, key_in}
-use Rattle.cics_opening.specs.FilesImages.{cell_of}
-use Rattle.cics_opening.specs.StoreMatching.{StoreValue, AnyImage, StoreWithImages, shown_store, cell_of_any, any_holds}
+use Rattle.cics_units.specs.Opening.RegionFiles.{IsThere, key_in}
+use Rattle.cics_units.specs.Opening.FilesImages.{cell_of}
+use Rattle.cics_units.specs.Opening.StoreMatching.{StoreValue, AnyImage, StoreWithImages, shown_store, cell_of_any, any_holds}
 use Rattle.cics_units.specs.ImageRows.{kept_by}
 use Rattle.cics_history.specs.Records.{file_of, key_of}
 use Rattle.cics_units.specs.TableInPlace.{value_of}
 use Rattle.cics_history.specs.declared.ops.Op.{Op}
 use Rattle.cics_history.specs.declared.ops.Op.TheVariants.{Write, Rewrite, Delete, DeleteGeneric, ReadUpdate, TsWrite, TsRewrite, TsDelete, TdWrite, TdRead, TdDelete}
-use Rattle.cics_opening.specs.FilesImages.{FilesImage}
+use Rattle.cics_units.specs.Opening.FilesImages.{FilesImage}
 
 -- the store and the images, the table of enqueues, and the open update reads
 pub record CoreValue : Type 0 where

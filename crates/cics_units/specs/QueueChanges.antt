@@ -24,7 +24,7 @@ use Rattle.cics_history.specs.declared.ops.Answer.{Answer}
 use Rattle.cics_history.specs.declared.ops.Op.{Op}
 use Rattle.cics_history.specs.declared.ops.Op.TheVariants.{TsWrite, TsRewrite, TsDelete, TdWrite, TdRead, TdDelete}
 use Rattle.cics_history.specs.Cells.{End, Reading, Writing}
-use Rattle.cics_opening.specs.StoreMatching.{StoreValue, AnyImage, end_cell}
+use Rattle.cics_units.specs.Opening.StoreMatching.{StoreValue, AnyImage, end_cell}
 
 -- ---- which queue a command is on
 -- a command on a transient data queue

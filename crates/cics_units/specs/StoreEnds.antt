@@ -19,9 +19,9 @@ use Rattle.cics_history.specs.Holding.{store_of}
 use Rattle.cics_history.specs.Execution.{after_end}
 use Rattle.cics_history.specs.declared.ops.UnitState.{UnitState}
 use Rattle.cics_history.specs.Cells.{End, Reading, Writing, IsCanonical}
-use Rattle.cics_opening.specs.FilesImages.{FilesImage, definitions_of}
+use Rattle.cics_units.specs.Opening.FilesImages.{FilesImage, definitions_of}
 use Rattle.cics_units.specs.ImageRows.{AreHeldForImages}
-use Rattle.cics_opening.specs.StoreMatching.{StoreValue, AnyImage, QueuesImage, shown_store, cell_of_any, any_holds}
+use Rattle.cics_units.specs.Opening.StoreMatching.{StoreValue, AnyImage, QueuesImage, shown_store, cell_of_any, any_holds}
 use Rattle.cics_units.specs.StoreInPlace.{AreInPlace}
 
 -- ---- the images of one kind, in their order

@@ -18,7 +18,7 @@ use Rattle.cics_history.specs.Undo.{Image, IsPlaceOf}
 use Rattle.cics_history.specs.Marks.{MarkedQueue, marks_of}
 use Rattle.cics_history.specs.Ends.{Marks, AreMarksOf}
 use Rattle.cics_units.specs.ImageRows.{kept_by}
-use Rattle.cics_opening.specs.StoreMatching.{StoreValue, AnyImage, shown_store, IsAnyReady, any_undone, AreImagesOf}
+use Rattle.cics_units.specs.Opening.StoreMatching.{StoreValue, AnyImage, shown_store, IsAnyReady, any_undone, AreImagesOf}
 
 -- a queue in place is LOGICAL, has no more marks than records, and has these marks
 pub record HasMarks (m : MarkedQueue) (t : TransState) : Type 0 where

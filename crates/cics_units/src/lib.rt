@@ -1,7 +1,7 @@
 //! Units of work: they change files and queues side by side, and commit or are backed out.
 //!
 //! The definitions in `cics_history` say what each step does. Here are files, queues and locks in
-//! place. `cics_opening` has files and queues by name, and what they open with; `cics_replay` lists
+//! place. `cics_units::opening` has files and queues by name, and what they open with; `cics_units::replay` lists
 //! them. Read the modules in this order:
 //!
 //! - `units`: the public calls on units, and the history of what they executed.
@@ -12,13 +12,15 @@
 #![tactic(auto)]
 
 mod open_reads;
+pub mod opening;
+pub mod replay;
 mod stamping;
 mod store;
 mod units;
 mod units_core;
 mod uses;
 
+pub use crate::opening::{DefineFault, Opening};
+pub use crate::replay::{Listing, TaskState, plain_replay};
 pub use cics_history::{Answer, Done, Enqueued, Entry, Op, UnitState};
-pub use cics_opening::{DefineFault, Opening};
-pub use cics_replay::{Listing, TaskState, plain_replay};
 pub use units::{Submitted, Units};

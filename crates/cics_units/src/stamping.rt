@@ -7,9 +7,9 @@ ghost use Rattle.cics_history.specs.Serial.{done_by};
 ghost use Rattle.cics_history.specs.Stamps.{op_stamp};
 ghost use Rattle.cics_units.specs.DoneOps.{stamp_if_done};
 
+use crate::opening::Opening;
 use cics_history::{Entry, UnitId, stamp_op};
 use cics_names::{Condition, NoMemory, stamp_number};
-use cics_opening::Opening;
 
 // Returns whether a command was executed by this unit, and answered NORMAL.
 fn is_normal_of(entry: &Entry, unit: UnitId) -> bool

@@ -2,25 +2,25 @@
 
 ghost use Rattle.std.specs.Prelude.{◌≡◌, ◌<◌, ◌≤◌, ◌++◌, true, [], length, IfOk, OnErr};
 ghost use Rattle.std.specs.Prelude.{IsSome, option_map};
-ghost use Rattle.cics_opening.specs.RegionFiles.{IsThere};
+ghost use Rattle.cics_units.specs.Opening.RegionFiles.{IsThere};
 ghost use Rattle.cics_names.specs.Keyed.{value_at};
 ghost use Rattle.cics_images.specs.declared.stores.StoreImage.TheVariants.{TempStorage};
 ghost use Rattle.cics_history.specs.Records.{is_file_op};
 ghost use Rattle.cics_history.specs.Store.{only as answer_of, numbered as answer_with};
 ghost use Rattle.cics_history.specs.Store.{with_content as answer_of_record, found_condition};
 ghost use Rattle.cics_units.specs.QueueChanges.{with_image, in_queue};
-ghost use Rattle.cics_opening.specs.Prefixed.{is_temp};
+ghost use Rattle.cics_units.specs.Opening.Prefixed.{is_temp};
 ghost use Rattle.cics_units.specs.Parts.{IsFitOp, image_if, with_stored, of_files};
 ghost use Rattle.cics_units.specs.Applied.{IsApplied, IsFileBound, IsQueueBound, IsBound};
 ghost use Rattle.cics_units.specs.Applied.{counted_as};
 ghost use Rattle.cics_units.specs.Cores.{CanApply};
 
+use crate::opening::{FilesImage, QueueImage};
 use crate::units_core::{BoundOp, Store};
 use cics_history::{Answer, Op};
 use cics_images::{Images, StoreImage};
 use cics_ksds::FileImage;
 use cics_names::{Condition, Items, Name4, Name8, NoMemory, Record};
-use cics_opening::{FilesImage, QueueImage};
 use cics_tempstor::TsImage;
 use cics_transdata::TdImage;
 

@@ -18,7 +18,7 @@ ghost use Rattle.cics_history.specs.State.{initial_units};
 ghost use Rattle.cics_history.specs.Stamps.{unit_stamp, shared_stamp};
 ghost use Rattle.cics_history.specs.Isolation.{IsSound};
 ghost use Rattle.cics_history.specs.Serial.{IsSerializable};
-ghost use Rattle.cics_replay.specs.Listings.{listing_of, replayed_listing};
+ghost use Rattle.cics_units.specs.Replay.Listings.{listing_of, replayed_listing};
 ghost use Rattle.cics_units.specs.Submitting.{as_done, IsBackIfItWaits};
 ghost use Rattle.cics_units.specs.StorePlaces.{number_asked};
 ghost use Rattle.cics_units.specs.ImageRows.{kept_by, AreOthersKept};
@@ -26,6 +26,8 @@ ghost use Rattle.cics_tempstor.specs.Queues.{read_item, after_read_item};
 ghost use Rattle.cics_tempstor.specs.Undo.{KeepsQueues};
 ghost use Rattle.cics_history.specs.declared.ops.UnitState.TheVariants.{Committed, BackedOut};
 
+use crate::opening::Opening;
+use crate::replay::{Listing, stamp_committed};
 use crate::stamping::stamp_ops;
 use crate::units_core::{Store, UnitsCore, reserve_images, settle_ends};
 use cics_enqueue::{ResourceRef, TakeFault};
@@ -33,8 +35,6 @@ use cics_history::{Answer, Done, Enqueued, Entry, Op, UnitId, UnitState};
 use cics_images::{Images, Stores};
 use cics_ksds::File;
 use cics_names::{Name4, Name8, NoMemory};
-use cics_opening::Opening;
-use cics_replay::{Listing, stamp_committed};
 use cics_tempstor::{TempStore, TsRead};
 use cics_transdata::Recovery;
 use std::alloc::Global;
@@ -94,7 +94,7 @@ impl Drop for Units {
 
 impl Model for Units {
     ghost use Rattle.cics_history.specs.State.{UnitsValue};
-    ghost use Rattle.cics_opening.specs.StoreMatching.{shown_store};
+    ghost use Rattle.cics_units.specs.Opening.StoreMatching.{shown_store};
     ghost use Rattle.cics_units.specs.Cores.{core_value};
     ghost use Rattle.cics_units.specs.KeptUnits.{state_shown, AreValid};
     ghost use Rattle.std.specs.Prelude.{◌≤◌, length, vec_capacity};

@@ -2,7 +2,7 @@
 //! open update reads.
 //!
 //! Steps of `Units::submit` that every command takes have `inline(always)`, also in `units.rt` and
-//! in `opening.rt` of `cics_opening`. A load of transient data was measured to need fewer
+//! in `opening.rt` of `cics_units::opening`. A load of transient data was measured to need fewer
 //! instructions so.
 
 ghost use Rattle.std.specs.Prelude.{◌≡◌, ◌<◌, ◌≤◌, ℕ, true, false, not, if◌then◌else◌, [], None};
@@ -19,20 +19,20 @@ ghost use Rattle.cics_units.specs.Cores.{core_value, IsBoundFor};
 ghost use Rattle.cics_units.specs.Executed.{IsExecuted};
 ghost use Rattle.cics_units.specs.Parts.{IsFitOp, given_record, most_images, IsCoreAsBefore};
 ghost use Rattle.cics_units.specs.QueueChanges.{queue_of};
-ghost use Rattle.cics_opening.specs.Prefixed.{is_temp};
+ghost use Rattle.cics_units.specs.Opening.Prefixed.{is_temp};
 ghost use Rattle.cics_units.specs.StoreEnds.{end_settled, ends_settled};
 ghost use Rattle.cics_units.specs.TableInPlace.{is_read, covered_read, AreOnce, table_given_back};
 ghost use Rattle.cics_units.specs.ImageRows.{kept_by, room_of};
 ghost use Rattle.cics_units.specs.Uses.{listed, taken_all, AreFreeFor, let_go};
 
 use crate::open_reads::OpenReads;
+use crate::opening::{Files, FilesImage, QueueImage, Queues};
 use crate::store;
 use crate::uses::{Uses, WereFree, hold_all, holder_over_all, let_go_all, uses_of};
 use cics_enqueue::{Enqueues, ResourceRef};
 use cics_history::{Answer, Op, UnitId};
 use cics_images::{Images, StoreImage, Stores};
 use cics_names::{Condition, Name8, NoMemory, Record};
-use cics_opening::{Files, FilesImage, QueueImage, Queues};
 use cics_tempstor::{TempStore, TsImage};
 use cics_transdata::TdImage;
 use std::alloc::Global;

@@ -5,14 +5,14 @@
 mod progress;
 
 use crate::progress::ProgressLines;
-use cics_draw::{NoPicture, run_picture};
+use cics_orders::survey::{Surveyed, Surveyor};
+use cics_picture::draw::{NoPicture, run_picture};
+use cics_run::told::{Watched, is_left_waiting, told_at_end, told_of};
+use cics_run::whole::read_script;
 use cics_run::{
     Asked, Options, Orders, RunFault, Session, Status, Wanted, arguments, exit_status, run_over,
     strict_status,
 };
-use cics_survey::{Surveyed, Surveyor};
-use cics_told::{Watched, is_left_waiting, told_at_end, told_of};
-use cics_whole::read_script;
 use std::io::ErrorKind;
 use std::mem;
 use std::process::ExitCode;

@@ -18,7 +18,7 @@ use Rattle.cics_history.specs.declared.ops.Op.TheVariants.{TsWrite, TsRewrite, T
 use Rattle.cics_history.specs.declared.ops.Op.TheVariants.{TdWrite, TdRead, TdDelete}
 use Rattle.cics_history.specs.declared.ops.UnitState.{UnitState}
 use Rattle.cics_history.specs.declared.ops.UnitState.TheVariants.{Open, Committed, BackedOut}
-use Rattle.cics_replay.specs.Listings.{replayed_listing}
+use Rattle.cics_units.specs.Replay.Listings.{replayed_listing}
 use lib.Chars.{codes}
 
 abbrev does : ℕ → Op → Entry

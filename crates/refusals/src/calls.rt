@@ -8,9 +8,9 @@ use crate::states::{push_listed, push_units};
 use cics_dispatch::{Number, Outcome, Reply};
 use cics_history::UnitId;
 use cics_names::{Condition, Name8, NoMemory, Record, Verb};
+use cics_run::stage::journal::push_outcome;
 use cics_script::Line;
-use cics_spelling::{push_number, push_str};
-use cics_stage::journal::push_outcome;
+use cics_script::spelling::{push_number, push_str};
 use cics_units::{Answer, Done, Enqueued, Listing, Op, Opening, Submitted, Units, plain_replay};
 use std::alloc::Global;
 

@@ -5,9 +5,9 @@ use crate::memory::{Requests, switch, was_refused};
 use crate::runs::{MOST, Run, Stop, Target, Tried};
 use crate::states::push_listed;
 use cics_names::NoMemory;
+use cics_run::stage::journal::push_define_fault;
 use cics_script::Line;
-use cics_spelling::{push_name, push_str};
-use cics_stage::journal::push_define_fault;
+use cics_script::spelling::{push_name, push_str};
 use cics_units::{DefineFault, Opening, plain_replay};
 
 // Lets happen what a line says that defines or loads something.

@@ -5,12 +5,12 @@ use crate::runs::{Target, Tried};
 use crate::states::{push_listed, push_units};
 use cics_dispatch::{Refused, Region};
 use cics_names::{Name8, NoMemory};
-use cics_script::Line;
-use cics_spelling::push_name;
-use cics_stage::journal::{
+use cics_run::stage::journal::{
     push_attached, push_clock, push_clock_refused, push_expired, push_outcome, push_refused,
     push_shutdown, push_shutdown_refused, push_woken,
 };
+use cics_script::Line;
+use cics_script::spelling::push_name;
 use cics_units::{Listing, Opening};
 use std::alloc::Global;
 

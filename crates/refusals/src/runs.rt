@@ -5,8 +5,8 @@ use crate::memory::{Requests, switch, was_refused};
 use crate::openings::start;
 use crate::scripts::Step;
 use cics_names::{Name8, NoMemory};
+use cics_script::spelling::{push_bare, push_str};
 use cics_script::{LineFault, read_line};
-use cics_spelling::{push_bare, push_str};
 use cics_units::Opening;
 use std::alloc::{AllocError, Global};
 

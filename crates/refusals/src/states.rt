@@ -1,9 +1,9 @@
 //! What units show: two states are told apart by it.
 
 use cics_history::UnitId;
-use cics_listing::push_listing;
 use cics_names::NoMemory;
-use cics_spelling::{push_number, push_str, push_text};
+use cics_run::listing::push_listing;
+use cics_script::spelling::{push_number, push_str, push_text};
 use cics_units::{Entry, Listing, Op, UnitState, Units};
 
 /// Appends a listing. It takes the result of the call: so the caller drops no listing.

@@ -2,7 +2,7 @@
 
 ghost use Rattle.std.specs.Prelude.{◌≡◌, ◌+◌, ◌<◌, Some};
 
-use cics_session::{Failed, Sink, Source};
+use cics_run::session::{Failed, Sink, Source};
 use std::sync::ledger::{Blank, Book, Ledger, Share};
 
 /// Counts the calls of a stream: for the test in a number, for proofs in amounts without a limit.

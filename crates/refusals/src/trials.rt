@@ -5,7 +5,7 @@ ghost use Rattle.std.specs.Prelude.{◌≡◌};
 
 use crate::calling;
 use crate::streams::{Calls, Page, Script};
-use cics_session::{CHUNK, LIMIT, Options, RunFault, Session, Status, Wanted, run, run_over};
+use cics_run::session::{CHUNK, LIMIT, Options, RunFault, Session, Status, Wanted, run, run_over};
 use std::io;
 use std::marker::Brand;
 use std::sync::ledger::{Blank, Ledger};

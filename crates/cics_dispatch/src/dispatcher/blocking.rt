@@ -3,8 +3,8 @@
 ghost use Rattle.std.specs.Prelude.{◌≡◌, IfSome, length};
 ghost use Rattle.cics_history.specs.Execution.{IsOpenUnit};
 ghost use Rattle.std.specs.Option.{option_copied};
-ghost use Rattle.cics_machine.specs.Blockers.{awaited_at, blocker_of, label_at, number_of};
-ghost use Rattle.cics_machine.specs.Blockers.{waiting_command};
+ghost use Rattle.cics_dispatch.specs.Machine.Blockers.{awaited_at, blocker_of, label_at, number_of};
+ghost use Rattle.cics_dispatch.specs.Machine.Blockers.{waiting_command};
 
 use crate::dispatcher::Dispatcher;
 use cics_history::UnitId;

@@ -7,16 +7,18 @@ ghost use Rattle.cics_names.specs.declared.conditions.Condition.TheVariants.{Nor
 ghost use Rattle.cics_history.specs.Execution.{IsOpenOrNone};
 ghost use Rattle.cics_history.specs.Headline.{IsHeadline};
 ghost use Rattle.cics_history.specs.Serial.{IsSerializable};
-ghost use Rattle.cics_machine.specs.Machine.{Machine, definition_of, with_units};
-ghost use Rattle.cics_machine.specs.Replies.{plain};
-ghost use Rattle.cics_machine.specs.Steps.{answered, unlocked, started, reset, browse_ended};
-ghost use Rattle.cics_machine.specs.Calls.{IsAwake, HasBrowse, IsStepOf};
-ghost use Rattle.cics_machine.specs.Calls.{IsStepOrRefused, reading, reading_on};
+ghost use Rattle.cics_dispatch.specs.Machine.Machine.{Machine, definition_of, with_units};
+ghost use Rattle.cics_dispatch.specs.Machine.Replies.{plain};
+ghost use Rattle.cics_dispatch.specs.Machine.Steps.{answered, unlocked, started, reset, browse_ended};
+ghost use Rattle.cics_dispatch.specs.Machine.Calls.{IsAwake, HasBrowse, IsStepOf};
+ghost use Rattle.cics_dispatch.specs.Machine.Calls.{IsStepOrRefused, reading, reading_on};
 
 use crate::dispatcher::Dispatcher;
+use crate::machine::{
+    Direction, Outcome, Start, plain_reply, read_on, read_plain, reply_of_browsed,
+};
 use cics_browse::Browse;
 use cics_history::UnitId;
-use cics_machine::{Direction, Outcome, Start, plain_reply, read_on, read_plain, reply_of_browsed};
 use cics_names::{Command, Condition, Name8, NoMemory};
 use cics_units::Units;
 

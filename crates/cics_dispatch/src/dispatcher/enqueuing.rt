@@ -5,14 +5,14 @@ ghost use Rattle.cics_names.specs.declared.conditions.Condition.TheVariants.{Nor
 ghost use Rattle.cics_history.specs.Execution.{IsOpenOrNone};
 ghost use Rattle.cics_history.specs.Headline.{IsHeadline};
 ghost use Rattle.cics_history.specs.Serial.{IsSerializable};
-ghost use Rattle.cics_machine.specs.Replies.{plain};
-ghost use Rattle.cics_machine.specs.Steps.{answered, dequeued, units_dequeued};
-ghost use Rattle.cics_machine.specs.Calls.{IsAwake, HasReady, IsStepOf, IsStepOrRefused};
-ghost use Rattle.cics_machine.specs.Calls.{IsAttempt, going_on};
+ghost use Rattle.cics_dispatch.specs.Machine.Replies.{plain};
+ghost use Rattle.cics_dispatch.specs.Machine.Steps.{answered, dequeued, units_dequeued};
+ghost use Rattle.cics_dispatch.specs.Machine.Calls.{IsAwake, HasReady, IsStepOf, IsStepOrRefused};
+ghost use Rattle.cics_dispatch.specs.Machine.Calls.{IsAttempt, going_on};
 
 use crate::dispatcher::Dispatcher;
+use crate::machine::{Attempt, Outcome, plain_reply};
 use cics_history::UnitId;
-use cics_machine::{Attempt, Outcome, plain_reply};
 use cics_names::{Command, Condition, NoMemory, Verb};
 use cics_units::{Enqueued, Units};
 

@@ -1,11 +1,11 @@
 //! What a region lists: its files, queues and tasks, and what a replay of its history gives.
 
 ghost use Rattle.std.specs.Prelude.{◌≡◌, IfOk};
-ghost use Rattle.cics_machine.specs.Answers.{region_listing, replayed_listing, task_state};
-ghost use Rattle.cics_machine.specs.Answers.{tasks_listed};
+ghost use Rattle.cics_dispatch.specs.Machine.Answers.{region_listing, replayed_listing, task_state};
+ghost use Rattle.cics_dispatch.specs.Machine.Answers.{tasks_listed};
 
 use crate::dispatcher::Dispatcher;
-use cics_machine::Task;
+use crate::machine::Task;
 use cics_names::{Items, Name8, NoMemory};
 use cics_units::{Listing, TaskState, Units, plain_replay};
 

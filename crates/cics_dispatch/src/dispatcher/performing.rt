@@ -3,18 +3,18 @@
 ghost use Rattle.std.specs.Prelude.{◌≡◌, ◌<◌, true, false, None, is_some, length, slice_get};
 ghost use Rattle.std.specs.Prelude.{IsTrue, OnErr};
 ghost use Rattle.cics_names.specs.Commands.{file_named};
-ghost use Rattle.cics_machine.specs.Machine.{task_at, unit_closed, state_after};
-ghost use Rattle.cics_machine.specs.Steps.{op_of, code_of, performed, issued};
-ghost use Rattle.cics_machine.specs.Answers.{is_growing, may_want, IsStep};
-ghost use Rattle.cics_machine.specs.Replies.{plain};
+ghost use Rattle.cics_dispatch.specs.Machine.Machine.{task_at, unit_closed, state_after};
+ghost use Rattle.cics_dispatch.specs.Machine.Steps.{op_of, code_of, performed, issued};
+ghost use Rattle.cics_dispatch.specs.Machine.Answers.{is_growing, may_want, IsStep};
+ghost use Rattle.cics_dispatch.specs.Machine.Replies.{plain};
 ghost use Rattle.cics_names.specs.declared.conditions.Condition.TheVariants.{Normal};
-ghost use Rattle.cics_machine.specs.declared.outcomes.Outcome.TheVariants.{Replied};
-ghost use Rattle.cics_machine.specs.Calls.{OfTask, IsAwake, MayPerform, KeepsRegion};
-ghost use Rattle.cics_machine.specs.Calls.{IsStepOrRefused, going_on, reads_or_unlocks};
-ghost use Rattle.cics_machine.specs.Emptied.{whole};
+ghost use Rattle.cics_dispatch.specs.declared.machine.outcomes.Outcome.TheVariants.{Replied};
+ghost use Rattle.cics_dispatch.specs.Machine.Calls.{OfTask, IsAwake, MayPerform, KeepsRegion};
+ghost use Rattle.cics_dispatch.specs.Machine.Calls.{IsStepOrRefused, going_on, reads_or_unlocks};
+ghost use Rattle.cics_dispatch.specs.Machine.Emptied.{whole};
 
 use crate::dispatcher::Dispatcher;
-use cics_machine::{Direction, Ending, Outcome, Refused, Start, plain_reply, take, take_op};
+use crate::machine::{Direction, Ending, Outcome, Refused, Start, plain_reply, take, take_op};
 use cics_names::{AbendCode, Command, Condition, Name4, Name8, NoMemory, Verb};
 use cics_units::Op;
 

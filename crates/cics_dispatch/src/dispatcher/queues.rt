@@ -2,11 +2,11 @@
 
 ghost use Rattle.std.specs.Prelude.{◌≡◌, ◌<◌, length};
 ghost use Rattle.cics_names.specs.Commands.{length_of};
-ghost use Rattle.cics_machine.specs.Checks.{queue_fault, other_fault};
-ghost use Rattle.cics_machine.specs.Calls.{IsAwake, IsStepOrRefused, reading_item};
+ghost use Rattle.cics_dispatch.specs.Machine.Checks.{queue_fault, other_fault};
+ghost use Rattle.cics_dispatch.specs.Machine.Calls.{IsAwake, IsStepOrRefused, reading_item};
 
 use crate::dispatcher::Dispatcher;
-use cics_machine::{Outcome, item_fault, reply_of_item, value_fault};
+use crate::machine::{Outcome, item_fault, reply_of_item, value_fault};
 use cics_names::{Command, Condition, Name4, Name8, NoMemory, Verb};
 
 impl Dispatcher {

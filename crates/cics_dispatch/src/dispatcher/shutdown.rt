@@ -2,13 +2,13 @@
 
 ghost use Rattle.std.specs.Prelude.{◌≡◌, ℕ, [], None, Ok, false, slice_get};
 ghost use Rattle.cics_history.specs.Events.{is_live};
-ghost use Rattle.cics_machine.specs.Machine.{Task as TaskValue};
-ghost use Rattle.cics_machine.specs.Steps.{with_outcome};
-ghost use Rattle.cics_machine.specs.Shutdown.{units_of, all_ended, shut_down};
-ghost use Rattle.cics_machine.specs.Calls.{KeepsRegion};
+ghost use Rattle.cics_dispatch.specs.Machine.Machine.{Task as TaskValue};
+ghost use Rattle.cics_dispatch.specs.Machine.Steps.{with_outcome};
+ghost use Rattle.cics_dispatch.specs.Machine.Shutdown.{units_of, all_ended, shut_down};
+ghost use Rattle.cics_dispatch.specs.Machine.Calls.{KeepsRegion};
 
 use crate::dispatcher::Dispatcher;
-use cics_machine::{Ending, Waits};
+use crate::machine::{Ending, Waits};
 
 impl Dispatcher {
     // Ends each task, in the order of attach, and backs its unit out. Returns how many units there

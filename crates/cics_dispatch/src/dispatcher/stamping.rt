@@ -3,12 +3,12 @@
 ghost use Rattle.std.specs.Prelude.{◌≡◌, ◌++◌, OnOk};
 ghost use Rattle.cics_names.specs.Stamps.{option_stamp, list_stamp};
 ghost use Rattle.cics_history.specs.Stamps.{op_stamp, unit_stamp};
-ghost use Rattle.cics_machine.specs.Stamps.{task_stamp, wait_stamp, region_stamp};
+ghost use Rattle.cics_dispatch.specs.Machine.Stamps.{task_stamp, wait_stamp, region_stamp};
 ghost use Rattle.std.specs.Option.{option_copied};
 
 use crate::dispatcher::Dispatcher;
+use crate::machine::{Suspended, Task, Tasks, Waits};
 use cics_history::{UnitId, stamp_op};
-use cics_machine::{Suspended, Task, Tasks, Waits};
 use cics_names::{NoMemory, stamp_flag, stamp_number, stamp_text};
 use cics_units::{Op, Units};
 
@@ -25,7 +25,7 @@ fn stamp_unit(units: &Units, unit: Option<UnitId>, out: &mut Vec<u8>) -> Result<
 }
 
 // Appends the stamp of a task.
-#[tactic(auto, unfolding(cics_machine::specs::Stamps::task_stamp))]
+#[tactic(auto, unfolding(crate::specs::Machine::Stamps::task_stamp))]
 fn stamp_task(units: &Units, task: &Task, out: &mut Vec<u8>) -> Result<(), NoMemory>
     ensures { OnOk result (out.new.items
         ≡ out.old.items ++ task_stamp units.now.state task.now) }
@@ -62,7 +62,7 @@ fn stamp_asked(op: Option<&Op>, out: &mut Vec<u8>) -> Result<(), NoMemory>
 }
 
 // Appends the stamp of a waiting command.
-#[tactic(auto, unfolding(cics_machine::specs::Stamps::wait_stamp))]
+#[tactic(auto, unfolding(crate::specs::Machine::Stamps::wait_stamp))]
 fn stamp_wait(wait: &Suspended, out: &mut Vec<u8>) -> Result<(), NoMemory>
     ensures { OnOk result (out.new.items ≡ out.old.items ++ wait_stamp wait.now) }
 {
@@ -84,7 +84,7 @@ fn stamp_waits(waits: &Waits, out: &mut Vec<u8>) -> Result<(), NoMemory>
 
 impl Dispatcher {
     /// Appends the stamp of the region, as `Region::stamp` does.
-    #[tactic(auto, unfolding(cics_machine::specs::Stamps::region_stamp))]
+    #[tactic(auto, unfolding(crate::specs::Machine::Stamps::region_stamp))]
     pub(crate) fn stamp(&self, out: &mut Vec<u8>) -> Result<(), NoMemory>
         ensures { OnOk result (out.new.items ≡ out.old.items ++ region_stamp self.now.machine) }
     {

@@ -1,7 +1,7 @@
 use Rattle.std.proofs.Common.{◌≡◌, sym, ap, subst}
 use Rattle.cics_history.specs.Execution.{IsOpenOrNone, after_end}
 use Rattle.cics_history.specs.declared.ops.UnitState.TheVariants.{Committed, BackedOut}
-use Rattle.cics_machine.specs.Machine.{units_after, state_after}
+use Rattle.cics_dispatch.specs.Machine.Machine.{units_after, state_after}
 use Rattle.cics_dispatch.proofs.dispatcher.end_unit.Goals as goal
 
 pub returns-in_default-clause-state : goal.returns-in_default-clause-state

@@ -1,5 +1,5 @@
-use Rattle.cics_machine.specs.Steps.{attached}
-use Rattle.cics_machine.specs.Shutdown.{unless_down}
+use Rattle.cics_dispatch.specs.Machine.Steps.{attached}
+use Rattle.cics_dispatch.specs.Machine.Shutdown.{unless_down}
 use Rattle.cics_orders.specs.Giving.{attaching}
 use Rattle.cics_orders.proofs.Steps.{happened}
 use Rattle.cics_orders.proofs.events.attach.Goals as goal

@@ -1,5 +1,5 @@
-use Rattle.cics_machine.specs.Steps.{issued}
-use Rattle.cics_machine.specs.Shutdown.{unless_down}
+use Rattle.cics_dispatch.specs.Machine.Steps.{issued}
+use Rattle.cics_dispatch.specs.Machine.Shutdown.{unless_down}
 use Rattle.cics_orders.specs.Giving.{issuing}
 use Rattle.cics_orders.proofs.Steps.{happened}
 use Rattle.cics_orders.proofs.events.issue.Goals as goal

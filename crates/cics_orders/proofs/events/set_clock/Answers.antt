@@ -1,5 +1,5 @@
-use Rattle.cics_machine.specs.Waking.{clock_set}
-use Rattle.cics_machine.specs.Shutdown.{unless_down}
+use Rattle.cics_dispatch.specs.Machine.Waking.{clock_set}
+use Rattle.cics_dispatch.specs.Machine.Shutdown.{unless_down}
 use Rattle.cics_orders.specs.Giving.{timing}
 use Rattle.cics_orders.proofs.Steps.{happened}
 use Rattle.cics_orders.proofs.events.set_clock.Goals as goal

@@ -1,4 +1,4 @@
-use Rattle.cics_machine.specs.Shutdown.{shut_down, unless_down}
+use Rattle.cics_dispatch.specs.Machine.Shutdown.{shut_down, unless_down}
 use Rattle.cics_orders.specs.Giving.{shutting}
 use Rattle.cics_orders.proofs.Steps.{happened}
 use Rattle.cics_orders.proofs.events.shut_down.Goals as goal

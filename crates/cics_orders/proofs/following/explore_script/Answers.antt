@@ -1,9 +1,9 @@
 use Rattle.std.proofs.Common.{◌≡◌, ◌≤◌, ap, ◌∙◌, subst, true, false}
 use Rattle.std.specs.Prelude.{IfOk}
-use Rattle.cics_search.specs.Levels.{state_count}
-use Rattle.cics_search.specs.Reports.{IsReport}
-use Rattle.cics_plans.specs.declared.plans.Plan.{Plan}
-use Rattle.cics_plans.specs.Proper.{is_proper}
+use Rattle.cics_orders.specs.Search.Levels.{state_count}
+use Rattle.cics_orders.specs.Search.Reports.{IsReport}
+use Rattle.cics_orders.specs.declared.plans.plans.Plan.{Plan}
+use Rattle.cics_orders.specs.Plans.Proper.{is_proper}
 use Rattle.cics_orders.specs.Giving.{State, lanes, initial_state, line_count}
 use Rattle.cics_orders.specs.StampLaws.{initial_of, proper_stays}
 use Rattle.cics_orders.specs.Stamps.{state_stamp}

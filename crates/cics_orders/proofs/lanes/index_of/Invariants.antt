@@ -1,5 +1,5 @@
 use Rattle.std.proofs.Common.{◌≡◌, ◌+◌, drop, option_map}
-use Rattle.cics_plans.specs.Firsts.{first_index}
+use Rattle.cics_orders.specs.Plans.Firsts.{first_index}
 use Rattle.cics_orders.specs.Giving.{is_of}
 use Rattle.cics_orders.proofs.lanes.index_of.Given as goal
 

@@ -1,6 +1,6 @@
 use Rattle.std.proofs.Common.{arith, ◌≡◌, ◌∙◌, ◌+◌, ◌++◌, suc, ap, map, take, drop, get_or, slice_set}
 use Rattle.cics_orders.specs.Giving.{shut}
-use Rattle.cics_plans.proofs.Changed.{map_step}
+use Rattle.cics_orders.proofs.OfPlans.Changed.{map_step}
 use Rattle.cics_orders.proofs.lanes.shut_all.Goals as goal
 
 -- one more lane is shut

@@ -1,7 +1,7 @@
 use Rattle.std.proofs.Common.{◌∙◌, sym, arith}
 use Rattle.std.proofs.lemmas.Result.{on_ok_weaker}
 use Rattle.cics_orders.specs.Giving.{is_of, told_more}
-use Rattle.cics_plans.proofs.Changed.{within, changed, unchanged}
+use Rattle.cics_orders.proofs.OfPlans.Changed.{within, changed, unchanged}
 use Rattle.cics_orders.proofs.lanes.tell.Goals as goal
 
 -- the index that was found is in range

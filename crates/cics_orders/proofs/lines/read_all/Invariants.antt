@@ -1,6 +1,6 @@
 use Rattle.std.proofs.Common.{◌≡◌, ◌++◌, map, drop}
 use Rattle.cics_script.specs.Lines.{line}
-use Rattle.cics_plans.specs.Taking.{NumberedLine}
+use Rattle.cics_orders.specs.Plans.Taking.{NumberedLine}
 use Rattle.cics_orders.proofs.lines.read_all.Given as goal
 
 -- what the lines so far say, and what those that are left do, is all

@@ -1,6 +1,6 @@
 use Rattle.std.proofs.Common.{◌≡◌, ◌+◌, Bool, true, false, List, drop, refl, ap, sym, ◌∙◌, arith}
 use Rattle.std.specs.Prelude.{if◌then◌else◌}
-use Rattle.cics_plans.specs.Taking.{NumberedLine}
+use Rattle.cics_orders.specs.Plans.Taking.{NumberedLine}
 use Rattle.cics_orders.specs.Turns.{has_shutdown, lines_to_shutdown}
 use Rattle.cics_orders.proofs.LinesLeft.{none_there, count_said}
 use Rattle.cics_orders.proofs.shutdowns.lines_to_shutdown.Goals as goal

@@ -1,5 +1,5 @@
 use Rattle.std.proofs.Common.{◌≡◌}
-use Rattle.cics_lanes.specs.Orders.{numbered_from}
+use Rattle.cics_orders.specs.Space.Orders.{numbered_from}
 use Rattle.cics_orders.specs.Giving.{may_give}
 use Rattle.cics_orders.proofs.walks.giver_from.Given as goal
 

@@ -1,6 +1,6 @@
 use Rattle.std.proofs.Common.{◌++◌, ap, ◌∙◌, append_assoc}
-use Rattle.cics_markup.specs.declared.names.Tag.TheVariants as tag
-use Rattle.cics_markup.specs.Documents.{said, document_text, end_text}
+use Rattle.cics_picture.specs.declared.xml.names.Tag.TheVariants as tag
+use Rattle.cics_picture.specs.Xml.Documents.{said, document_text, end_text}
 use Rattle.cics_picture.specs.Elements.{words, words_start}
 use Rattle.cics_picture.proofs.Chains.{filled, onto}
 use Rattle.cics_picture.proofs.Markup.{said-both}

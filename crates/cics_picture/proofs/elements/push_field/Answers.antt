@@ -1,8 +1,8 @@
 use Rattle.std.proofs.Common.{[], ◌∷◌, ◌++◌, ap, ◌∙◌}
-use Rattle.cics_markup.specs.declared.names.Tag.TheVariants as tag
-use Rattle.cics_markup.specs.declared.names.Key.TheVariants as key
-use Rattle.cics_markup.specs.Names.{tag_name}
-use Rattle.cics_markup.specs.Documents.{attribute_text, number_of, start_text, end_text}
+use Rattle.cics_picture.specs.declared.xml.names.Tag.TheVariants as tag
+use Rattle.cics_picture.specs.declared.xml.names.Key.TheVariants as key
+use Rattle.cics_picture.specs.Xml.Names.{tag_name}
+use Rattle.cics_picture.specs.Xml.Documents.{attribute_text, number_of, start_text, end_text}
 use Rattle.cics_picture.specs.Elements.{field, class}
 use Rattle.cics_picture.proofs.Chains.{five_put, started, hollow, onto}
 use Rattle.cics_picture.proofs.elements.push_field.Goals as goal

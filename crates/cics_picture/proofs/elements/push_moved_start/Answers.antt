@@ -1,7 +1,7 @@
 use Rattle.std.proofs.Common.{[], ◌++◌, ap, ◌∙◌}
-use Rattle.cics_markup.specs.declared.names.Tag.TheVariants as tag
-use Rattle.cics_markup.specs.Names.{tag_name}
-use Rattle.cics_markup.specs.Documents.{attribute_text, moved_to}
+use Rattle.cics_picture.specs.declared.xml.names.Tag.TheVariants as tag
+use Rattle.cics_picture.specs.Xml.Names.{tag_name}
+use Rattle.cics_picture.specs.Xml.Documents.{attribute_text, moved_to}
 use Rattle.cics_picture.specs.Elements.{moved_start}
 use Rattle.cics_picture.proofs.Chains.{one, started, onto}
 use Rattle.cics_picture.proofs.elements.push_moved_start.Goals as goal

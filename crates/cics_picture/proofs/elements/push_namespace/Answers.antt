@@ -1,8 +1,8 @@
 use Rattle.std.proofs.Common.{◌≡◌, ◌++◌, subst, map}
 use Rattle.std.specs.Prelude.{OnOk}
-use Rattle.cics_markup.specs.declared.names.Key.TheVariants as key
-use Rattle.cics_markup.specs.Characters.{shown}
-use Rattle.cics_markup.specs.Documents.{attribute, attribute_text}
+use Rattle.cics_picture.specs.declared.xml.names.Key.TheVariants as key
+use Rattle.cics_picture.specs.Xml.Characters.{shown}
+use Rattle.cics_picture.specs.Xml.Documents.{attribute, attribute_text}
 use Rattle.cics_picture.specs.Elements.{namespace}
 use Rattle.cics_picture.proofs.elements.push_namespace.Goals as goal
 

@@ -1,9 +1,9 @@
 use Rattle.std.proofs.Common.{[], ◌∷◌, ◌++◌, ap, ◌∙◌, map}
-use Rattle.cics_markup.specs.declared.names.Tag.TheVariants as tag
-use Rattle.cics_markup.specs.declared.names.Key.TheVariants as key
-use Rattle.cics_markup.specs.Names.{tag_name}
-use Rattle.cics_markup.specs.Characters.{shown}
-use Rattle.cics_markup.specs.Documents.{attribute, attribute_text, moved_to, start_text, end_text}
+use Rattle.cics_picture.specs.declared.xml.names.Tag.TheVariants as tag
+use Rattle.cics_picture.specs.declared.xml.names.Key.TheVariants as key
+use Rattle.cics_picture.specs.Xml.Names.{tag_name}
+use Rattle.cics_picture.specs.Xml.Characters.{shown}
+use Rattle.cics_picture.specs.Xml.Documents.{attribute, attribute_text, moved_to, start_text, end_text}
 use Rattle.cics_picture.specs.Elements.{shape, class}
 use Rattle.cics_picture.proofs.Chains.{three_put, started, hollow, onto}
 use Rattle.cics_picture.proofs.elements.push_shape.Goals as goal

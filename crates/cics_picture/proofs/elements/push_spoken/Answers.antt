@@ -1,6 +1,6 @@
 use Rattle.std.proofs.Common.{[], ◌++◌, ap, ◌∙◌, append_assoc}
-use Rattle.cics_markup.specs.Names.{tag_name}
-use Rattle.cics_markup.specs.Documents.{said, document_text, start_text, end_text}
+use Rattle.cics_picture.specs.Xml.Names.{tag_name}
+use Rattle.cics_picture.specs.Xml.Documents.{said, document_text, start_text, end_text}
 use Rattle.cics_picture.specs.Elements.{spoken}
 use Rattle.cics_picture.proofs.Chains.{filled, onto}
 use Rattle.cics_picture.proofs.elements.push_spoken.Goals as goal

@@ -1,6 +1,6 @@
 use Rattle.std.proofs.Common.{◌≡◌, ◌++◌, subst}
 use Rattle.std.specs.Prelude.{OnOk}
-use Rattle.cics_markup.specs.declared.names.Tag.TheVariants as tag
+use Rattle.cics_picture.specs.declared.xml.names.Tag.TheVariants as tag
 use Rattle.cics_picture.specs.Elements.{spoken}
 use Rattle.cics_picture.specs.Sheets.{style_text}
 use Rattle.cics_picture.proofs.sheet.push_style.Goals as goal

@@ -9,7 +9,7 @@ use Rattle.cics_history.specs.Store.{only, numbered}
 use Rattle.cics_history.specs.declared.ops.Op.TheVariants.{TsWrite, TsRewrite, TsDelete, TdWrite, TdRead, TdDelete}
 use Rattle.cics_units.specs.Applied.{IsApplied, IsBound, IsSeen, IsSeenIn}
 use Rattle.cics_units.proofs.Applied.{temp_applied, queue_here, trans_applied, read_told}
-use Rattle.cics_opening.proofs.Changing.{all_stay}
+use Rattle.cics_units.proofs.OfOpening.Changing.{all_stay}
 use Rattle.cics_units.proofs.QueueClauses.{write_change, read_change, delete_change}
 use Rattle.cics_units.proofs.store.apply.Goals as goal
 

@@ -9,7 +9,7 @@ use Rattle.cics_history.specs.declared.ops.Op.TheVariants.{Write, Rewrite, Delet
 use Rattle.cics_units.specs.Applied.{IsApplied, IsBound, counted_as}
 use Rattle.cics_units.specs.Parts.{IsRecordOf, IsFitOp}
 use Rattle.cics_units.specs.TableInPlace.{is_read}
-use Rattle.cics_opening.proofs.Changing.{all_stay}
+use Rattle.cics_units.proofs.OfOpening.Changing.{all_stay}
 use Rattle.cics_units.proofs.Applied.{bound_here, write_applied, rewrite_applied, delete_applied, generic_applied, read_otherwise}
 use Rattle.cics_units.proofs.store.apply_to_file.Goals as goal
 

@@ -1,11 +1,11 @@
 use Rattle.std.proofs.Common.{◌≡◌, ◌∙◌, sym, ap, subst}
 use Rattle.cics_history.specs.Execution.{IsOpenOrNone}
 use Rattle.cics_history.specs.declared.ops.UnitState.TheVariants.{BackedOut}
-use Rattle.cics_machine.specs.Machine.{abended, not_waiting, units_after}
-use Rattle.cics_machine.specs.Regions.{region_of}
-use Rattle.cics_machine.specs.Calls.{OfTask}
-use Rattle.cics_machine.proofs.KeptTasks.{acting_or_none}
-use Rattle.cics_machine.proofs.RegionSteps.{abended_kept, one_task}
+use Rattle.cics_dispatch.specs.Machine.Machine.{abended, not_waiting, units_after}
+use Rattle.cics_dispatch.specs.Machine.Regions.{region_of}
+use Rattle.cics_dispatch.specs.Machine.Calls.{OfTask}
+use Rattle.cics_dispatch.proofs.OfMachine.KeptTasks.{acting_or_none}
+use Rattle.cics_dispatch.proofs.OfMachine.RegionSteps.{abended_kept, one_task}
 use Rattle.cics_dispatch.proofs.dispatcher.Dispatcher.abend.Goals as goal
 
 pub end_unit-requires-clause-is_open : goal.end_unit-requires-clause-is_open

@@ -2,14 +2,14 @@ use Rattle.std.proofs.Common.{◌≡◌, ◌<◌, ◌∙◌, ℕ, sym, ap, subst
 use Rattle.std.specs.Prelude.{if◌then◌else◌, is_some, is_none, slice_get, IfSome}
 use Rattle.std.proofs.lemmas.Bool.{false≢true}
 use Rattle.cics_names.specs.Keyed.{Bytes}
-use Rattle.cics_machine.specs.Machine.{Task, task_at}
-use Rattle.cics_machine.specs.Regions.{region_of, IsRegionKept}
-use Rattle.cics_machine.specs.Steps.{with_new_task, refused_or, attached}
-use Rattle.cics_machine.specs.declared.outcomes.Refused.TheVariants.{DuplicateLabel}
-use Rattle.cics_machine.proofs.KeptTasks.{kept_attached}
-use Rattle.cics_machine.proofs.OwnedUnits.{owned_attached}
-use Rattle.cics_machine.proofs.RegionPerforming.{refused_memory}
-use Rattle.cics_machine.proofs.RegionSteps.{kept_as, none_found, task_there}
+use Rattle.cics_dispatch.specs.Machine.Machine.{Task, task_at}
+use Rattle.cics_dispatch.specs.Machine.Regions.{region_of, IsRegionKept}
+use Rattle.cics_dispatch.specs.Machine.Steps.{with_new_task, refused_or, attached}
+use Rattle.cics_dispatch.specs.declared.machine.outcomes.Refused.TheVariants.{DuplicateLabel}
+use Rattle.cics_dispatch.proofs.OfMachine.KeptTasks.{kept_attached}
+use Rattle.cics_dispatch.proofs.OfMachine.OwnedUnits.{owned_attached}
+use Rattle.cics_dispatch.proofs.OfMachine.RegionPerforming.{refused_memory}
+use Rattle.cics_dispatch.proofs.OfMachine.RegionSteps.{kept_as, none_found, task_there}
 use Rattle.cics_dispatch.proofs.dispatcher.Dispatcher.attach.Goals as goal
 
 -- a label at which a place is found is a task's

@@ -1,6 +1,6 @@
 use Rattle.std.proofs.Common.{◌∙◌, sym, ap, refl, Some, None}
 use Rattle.std.specs.Option.{option_copied}
-use Rattle.cics_machine.proofs.RegionSteps.{ready_again, attempt_again}
+use Rattle.cics_dispatch.proofs.OfMachine.RegionSteps.{ready_again, attempt_again}
 use Rattle.cics_dispatch.proofs.dispatcher.Dispatcher.attempt.Goals as goal
 
 pub execute-requires-clause-ready : goal.execute-requires-clause-ready

@@ -3,14 +3,14 @@ use Rattle.std.specs.Prelude.{IfSome}
 use Rattle.cics_history.specs.Execution.{IsOpenOrNone, IsOpenUnit}
 use Rattle.cics_history.specs.Holding.{awaited}
 use Rattle.cics_history.specs.Isolation.{IsSound}
-use Rattle.cics_machine.specs.Calls.{OfTask, HasReady}
-use Rattle.cics_machine.specs.KeptTasks.{IsReady}
-use Rattle.cics_machine.specs.Regions.{region_of}
-use Rattle.cics_machine.specs.Waking.{awaited_by}
-use Rattle.cics_machine.proofs.KeptTasks.{acting_or_none}
-use Rattle.cics_machine.proofs.Ready.{value_ready}
-use Rattle.cics_machine.proofs.RegionEnqueuing.{first_fit}
-use Rattle.cics_machine.proofs.RegionSteps.{one_task}
+use Rattle.cics_dispatch.specs.Machine.Calls.{OfTask, HasReady}
+use Rattle.cics_dispatch.specs.Machine.KeptTasks.{IsReady}
+use Rattle.cics_dispatch.specs.Machine.Regions.{region_of}
+use Rattle.cics_dispatch.specs.Machine.Waking.{awaited_by}
+use Rattle.cics_dispatch.proofs.OfMachine.KeptTasks.{acting_or_none}
+use Rattle.cics_dispatch.proofs.OfMachine.Ready.{value_ready}
+use Rattle.cics_dispatch.proofs.OfMachine.RegionEnqueuing.{first_fit}
+use Rattle.cics_dispatch.proofs.OfMachine.RegionSteps.{one_task}
 use Rattle.cics_dispatch.proofs.dispatcher.Dispatcher.awaited.Goals as goal
 
 pub awaited-requires-clause-is_open : goal.awaited-requires-clause-is_open

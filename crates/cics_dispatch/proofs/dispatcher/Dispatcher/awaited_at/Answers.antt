@@ -1,11 +1,11 @@
 use Rattle.std.proofs.Common.{◌≡◌, ◌<◌, ◌∙◌, sym, ap, subst, Some, length}
 use Rattle.std.specs.Prelude.{slice_get}
-use Rattle.cics_machine.specs.Machine.{task_at}
-use Rattle.cics_machine.specs.Regions.{IsRegionKept}
-use Rattle.cics_machine.specs.Waits.{wait_of, AreApart}
-use Rattle.cics_machine.proofs.Blockers.{task_waits}
-use Rattle.cics_machine.proofs.RegionSteps.{task_there}
-use Rattle.cics_machine.proofs.Looks.{look_ready}
+use Rattle.cics_dispatch.specs.Machine.Machine.{task_at}
+use Rattle.cics_dispatch.specs.Machine.Regions.{IsRegionKept}
+use Rattle.cics_dispatch.specs.Machine.Waits.{wait_of, AreApart}
+use Rattle.cics_dispatch.proofs.OfMachine.Blockers.{task_waits}
+use Rattle.cics_dispatch.proofs.OfMachine.RegionSteps.{task_there}
+use Rattle.cics_dispatch.proofs.OfMachine.Looks.{look_ready}
 use Rattle.cics_dispatch.proofs.dispatcher.Dispatcher.awaited_at.Goals as goal
 
 pub awaited-requires-clause-ready : goal.awaited-requires-clause-ready

@@ -1,8 +1,8 @@
 use Rattle.std.proofs.Common.{◌∙◌, sym, ap, subst, IfNone}
-use Rattle.cics_machine.specs.Machine.{label_of}
-use Rattle.cics_machine.specs.Regions.{IsRegionKept}
-use Rattle.cics_machine.specs.Tasks.{HasNoOwner}
-use Rattle.cics_machine.proofs.Blockers.{owner_found}
+use Rattle.cics_dispatch.specs.Machine.Machine.{label_of}
+use Rattle.cics_dispatch.specs.Machine.Regions.{IsRegionKept}
+use Rattle.cics_dispatch.specs.Machine.Tasks.{HasNoOwner}
+use Rattle.cics_dispatch.proofs.OfMachine.Blockers.{owner_found}
 use Rattle.cics_dispatch.proofs.dispatcher.Dispatcher.blocker.Goals as goal
 
 pub returns : goal.returns

@@ -1,10 +1,10 @@
 use Rattle.std.proofs.Common.{◌≡◌, ◌∙◌, sym, ap, subst}
 use Rattle.cics_history.specs.Execution.{IsOpenOrNone}
-use Rattle.cics_machine.specs.Machine.{unit_closed, units_after, state_after}
-use Rattle.cics_machine.specs.Regions.{region_of}
-use Rattle.cics_machine.specs.Calls.{OfTask}
-use Rattle.cics_machine.proofs.KeptTasks.{acting_or_none}
-use Rattle.cics_machine.proofs.RegionSteps.{seen_task, seen_awake, closed_kept, end_shut}
+use Rattle.cics_dispatch.specs.Machine.Machine.{unit_closed, units_after, state_after}
+use Rattle.cics_dispatch.specs.Machine.Regions.{region_of}
+use Rattle.cics_dispatch.specs.Machine.Calls.{OfTask}
+use Rattle.cics_dispatch.proofs.OfMachine.KeptTasks.{acting_or_none}
+use Rattle.cics_dispatch.proofs.OfMachine.RegionSteps.{seen_task, seen_awake, closed_kept, end_shut}
 use Rattle.cics_dispatch.proofs.dispatcher.Dispatcher.close.Goals as goal
 
 pub end_unit-requires-clause-is_open : goal.end_unit-requires-clause-is_open

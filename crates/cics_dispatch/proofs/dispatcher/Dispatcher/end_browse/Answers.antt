@@ -1,10 +1,10 @@
 use Rattle.std.proofs.Common.{◌∙◌, ap}
 use Rattle.cics_names.specs.Keyed.{without}
 use Rattle.cics_names.specs.declared.conditions.Condition.TheVariants.{Normal}
-use Rattle.cics_machine.specs.Replies.{plain}
-use Rattle.cics_machine.specs.Steps.{browse_ended}
-use Rattle.cics_machine.proofs.RegionBrowses.{owner_within, browses_kept, then_told_so, end_answered}
-use Rattle.cics_machine.proofs.RegionSteps.{seen_task, seen_awake, seen_step}
+use Rattle.cics_dispatch.specs.Machine.Replies.{plain}
+use Rattle.cics_dispatch.specs.Machine.Steps.{browse_ended}
+use Rattle.cics_dispatch.proofs.OfMachine.RegionBrowses.{owner_within, browses_kept, then_told_so, end_answered}
+use Rattle.cics_dispatch.proofs.OfMachine.RegionSteps.{seen_task, seen_awake, seen_step}
 use Rattle.cics_dispatch.proofs.dispatcher.Dispatcher.end_browse.Goals as goal
 
 pub invariant_of-self : goal.invariant_of-self

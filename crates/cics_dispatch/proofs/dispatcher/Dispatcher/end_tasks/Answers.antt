@@ -3,10 +3,10 @@ use Rattle.std.specs.Prelude.{suc, drop, is_some, slice_get}
 use Rattle.std.proofs.lemmas.Option.{slice_get_within}
 use Rattle.std.proofs.lemmas.List.{drop_all}
 use Rattle.cics_history.specs.declared.ops.UnitState.TheVariants.{BackedOut}
-use Rattle.cics_machine.specs.Machine.{is_waiting, unit_closed}
-use Rattle.cics_machine.specs.Tasks.{own_label, IsOwn}
-use Rattle.cics_machine.specs.Shutdown.{units_of, all_ended}
-use Rattle.cics_machine.proofs.RegionShutdown.{ended_long, ended_then, count_then, none_then, one_more, none_more}
+use Rattle.cics_dispatch.specs.Machine.Machine.{is_waiting, unit_closed}
+use Rattle.cics_dispatch.specs.Machine.Tasks.{own_label, IsOwn}
+use Rattle.cics_dispatch.specs.Machine.Shutdown.{units_of, all_ended}
+use Rattle.cics_dispatch.proofs.OfMachine.RegionShutdown.{ended_long, ended_then, count_then, none_then, one_more, none_more}
 use Rattle.cics_dispatch.proofs.dispatcher.Dispatcher.end_tasks.Goals.{then-is_some, else-is_some}
 use Rattle.cics_dispatch.proofs.dispatcher.Dispatcher.end_tasks.Goals as goal
 

@@ -1,8 +1,8 @@
 use Rattle.std.proofs.Common.{◌≡◌, ◌+◌, ◌≤◌, ◌<◌, ℕ, length, [], None, Some}
 use Rattle.std.specs.Prelude.{drop, slice_get}
-use Rattle.cics_machine.specs.Machine.{Task}
-use Rattle.cics_machine.specs.Shutdown.{units_of, all_ended}
-use Rattle.cics_machine.specs.Calls.{KeepsRegion}
+use Rattle.cics_dispatch.specs.Machine.Machine.{Task}
+use Rattle.cics_dispatch.specs.Machine.Shutdown.{units_of, all_ended}
+use Rattle.cics_dispatch.specs.Machine.Calls.{KeepsRegion}
 use Rattle.cics_dispatch.proofs.dispatcher.Dispatcher.end_tasks.Given as goal
 
 -- the tasks that were passed have ended and have no unit; what comes of the others is what comes of

@@ -1,6 +1,6 @@
 use Rattle.std.proofs.Common.{None}
-use Rattle.cics_machine.proofs.RegionEnqueuing.{enq_waits}
-use Rattle.cics_machine.proofs.RegionSteps.{tried_told, wait_within, wait_awake, wait_ready, wait_open, wait_told}
+use Rattle.cics_dispatch.proofs.OfMachine.RegionEnqueuing.{enq_waits}
+use Rattle.cics_dispatch.proofs.OfMachine.RegionSteps.{tried_told, wait_within, wait_awake, wait_ready, wait_open, wait_told}
 use Rattle.cics_dispatch.proofs.dispatcher.Dispatcher.enqueue.Goals as goal
 
 pub make_wait-requires-clause-within : goal.make_wait-requires-clause-within

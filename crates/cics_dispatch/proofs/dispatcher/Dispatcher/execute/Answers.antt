@@ -1,14 +1,14 @@
 use Rattle.std.proofs.Common.{◌∙◌, sym, ap, subst, Some, Ok}
 use Rattle.std.proofs.lemmas.Option.{slice_get_within}
-use Rattle.cics_machine.specs.Regions.{region_of, IsRegionKept}
-use Rattle.cics_machine.specs.Calls.{HasReady, IsAttempt, going_on}
+use Rattle.cics_dispatch.specs.Machine.Regions.{region_of, IsRegionKept}
+use Rattle.cics_dispatch.specs.Machine.Calls.{HasReady, IsAttempt, going_on}
 use Rattle.cics_history.specs.Execution.{execution, IfMustWait, IsOpenOrNone, IsOpenUnit}
 use Rattle.cics_history.specs.Holding.{awaited}
 use Rattle.cics_units.specs.Submitting.{as_done, IsBackIfItWaits}
-use Rattle.cics_machine.specs.Machine.{with_unit}
-use Rattle.cics_machine.specs.declared.outcomes.Attempt.TheVariants.{Told, MustWait}
-use Rattle.cics_machine.proofs.KeptTasks.{acting_or_none}
-use Rattle.cics_machine.proofs.RegionSteps.{then_told, executes, waits_same, acts_in, holder_awaited, acted_kept, acted_step, owner_free, owner_there, placed_within, one_task, seen_awake}
+use Rattle.cics_dispatch.specs.Machine.Machine.{with_unit}
+use Rattle.cics_dispatch.specs.declared.machine.outcomes.Attempt.TheVariants.{Told, MustWait}
+use Rattle.cics_dispatch.proofs.OfMachine.KeptTasks.{acting_or_none}
+use Rattle.cics_dispatch.proofs.OfMachine.RegionSteps.{then_told, executes, waits_same, acts_in, holder_awaited, acted_kept, acted_step, owner_free, owner_there, placed_within, one_task, seen_awake}
 use Rattle.cics_dispatch.proofs.dispatcher.Dispatcher.execute.Goals as goal
 
 pub submit-requires-clause-ready : goal.submit-requires-clause-ready

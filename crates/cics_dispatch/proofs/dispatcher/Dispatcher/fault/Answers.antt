@@ -8,12 +8,12 @@ use Rattle.cics_ksds.specs.declared.definition.FileDef.{FileDef}
 use Rattle.cics_history.specs.Openings.{is_key}
 use Rattle.cics_history.specs.Records.{key_of}
 use Rattle.cics_history.specs.declared.ops.Op.{Op}
-use Rattle.cics_machine.specs.Calls.{OfTask}
-use Rattle.cics_machine.specs.Checks.{file_fault, named_fault, defined_fault, fault_of, open_key}
-use Rattle.cics_machine.specs.Machine.{Machine, Task, definition_of}
-use Rattle.cics_machine.specs.Steps.{key_read, op_of}
-use Rattle.cics_machine.proofs.Ready.{named_key_short}
-use Rattle.cics_machine.proofs.RegionSteps.{one_task}
+use Rattle.cics_dispatch.specs.Machine.Calls.{OfTask}
+use Rattle.cics_dispatch.specs.Machine.Checks.{file_fault, named_fault, defined_fault, fault_of, open_key}
+use Rattle.cics_dispatch.specs.Machine.Machine.{Machine, Task, definition_of}
+use Rattle.cics_dispatch.specs.Machine.Steps.{key_read, op_of}
+use Rattle.cics_dispatch.proofs.OfMachine.Ready.{named_key_short}
+use Rattle.cics_dispatch.proofs.OfMachine.RegionSteps.{one_task}
 use Rattle.cics_dispatch.proofs.dispatcher.Dispatcher.fault.Goals as goal
 use Rattle.cics_dispatch.proofs.dispatcher.Dispatcher.fault.Goals.{After-file_fault}
 

@@ -1,5 +1,5 @@
 use Rattle.std.proofs.Common.{is_ok}
-use Rattle.cics_machine.proofs.Looked.{looked_alone, looked_more, looked_since, first_more, only_uses}
+use Rattle.cics_dispatch.proofs.OfMachine.Looked.{looked_alone, looked_more, looked_since, first_more, only_uses}
 use Rattle.cics_dispatch.proofs.dispatcher.Dispatcher.file.Goals as goal
 
 pub returns-in_default-need : goal.returns-in_default-need

@@ -1,5 +1,5 @@
 use Rattle.std.proofs.Common.{is_ok}
-use Rattle.cics_machine.proofs.Looked.{looked_alone, looked_line}
+use Rattle.cics_dispatch.proofs.OfMachine.Looked.{looked_alone, looked_line}
 use Rattle.cics_dispatch.proofs.dispatcher.Dispatcher.file_in.Goals as goal
 
 pub returns-then-may_close : goal.returns-then-may_close

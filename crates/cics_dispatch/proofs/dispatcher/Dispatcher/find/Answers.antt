@@ -1,6 +1,6 @@
 use Rattle.std.proofs.Common.{◌≡◌, ◌<◌, subst, length, None}
 use Rattle.std.specs.Prelude.{IfNone, IfSome, slice_get}
-use Rattle.cics_machine.specs.Machine.{task_at}
+use Rattle.cics_dispatch.specs.Machine.Machine.{task_at}
 use Rattle.cics_dispatch.proofs.dispatcher.Dispatcher.find.Goals as goal
 
 pub returns-clause-task : goal.returns-clause-task

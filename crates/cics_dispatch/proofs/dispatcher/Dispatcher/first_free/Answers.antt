@@ -1,7 +1,7 @@
 use Rattle.std.proofs.Common.{◌<◌, true, sym, subst}
-use Rattle.cics_machine.specs.Notes.{AreNotedNow, IsLooked}
-use Rattle.cics_waits.specs.Notes.{NotesValue}
-use Rattle.cics_machine.proofs.Looked.{looked_waits, looked_free, left_open, open_less}
+use Rattle.cics_dispatch.specs.Machine.Notes.{AreNotedNow, IsLooked}
+use Rattle.cics_dispatch.specs.Notes.Notes.{NotesValue}
+use Rattle.cics_dispatch.proofs.OfMachine.Looked.{looked_waits, looked_free, left_open, open_less}
 use Rattle.cics_dispatch.proofs.dispatcher.Dispatcher.first_free.Goals as goal
 
 pub look-requires : goal.look-requires

@@ -1,7 +1,7 @@
 use Rattle.std.proofs.Common.{◌≡◌, length}
-use Rattle.cics_machine.specs.Notes.{AreNotedNow}
-use Rattle.cics_waits.specs.Notes.{count}
-use Rattle.cics_machine.proofs.Looked.{left_open}
+use Rattle.cics_dispatch.specs.Machine.Notes.{AreNotedNow}
+use Rattle.cics_dispatch.specs.Notes.Notes.{count}
+use Rattle.cics_dispatch.proofs.OfMachine.Looked.{left_open}
 use Rattle.cics_dispatch.proofs.dispatcher.Dispatcher.first_free.Given as goal
 
 -- each waiting command has its note

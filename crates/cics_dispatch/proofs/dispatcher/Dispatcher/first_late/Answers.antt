@@ -1,11 +1,11 @@
 use Rattle.std.proofs.Common.{rules, arith, ◌≡◌, ◌≤◌, ◌∙◌, sym, subst, length, None}
 use Rattle.std.specs.Prelude.{slice_get, All}
-use Rattle.cics_waits.specs.Firsts.{IsFirstBelow}
-use Rattle.cics_machine.specs.Machine.{task_at}
-use Rattle.cics_machine.specs.Waits.{AreApart}
-use Rattle.cics_waits.specs.Notes.{count}
-use Rattle.cics_waits.specs.Notes.{never}
-use Rattle.cics_machine.proofs.Deadlines.{IsLateAt, late_at, none_late_at_all, late_unnoted, late_has_task, late_first, late_place}
+use Rattle.cics_dispatch.specs.Notes.Firsts.{IsFirstBelow}
+use Rattle.cics_dispatch.specs.Machine.Machine.{task_at}
+use Rattle.cics_dispatch.specs.Machine.Waits.{AreApart}
+use Rattle.cics_dispatch.specs.Notes.Notes.{count}
+use Rattle.cics_dispatch.specs.Notes.Notes.{never}
+use Rattle.cics_dispatch.proofs.OfMachine.Deadlines.{IsLateAt, late_at, none_late_at_all, late_unnoted, late_has_task, late_first, late_place}
 use Rattle.cics_dispatch.proofs.dispatcher.Dispatcher.first_late.Goals as goal
 use Rattle.cics_dispatch.proofs.dispatcher.Dispatcher.first_late.Goals.{After-first_late, In_default, In-Some}
 

@@ -1,4 +1,4 @@
-use Rattle.cics_machine.proofs.RegionWaking.{first_late-here}
+use Rattle.cics_dispatch.proofs.OfMachine.RegionWaking.{first_late-here}
 use Rattle.cics_dispatch.proofs.dispatcher.Dispatcher.first_late_of_all.Goals as goal
 
 pub returns-in-Some-late-clause-task : goal.returns-in-Some-late-clause-task

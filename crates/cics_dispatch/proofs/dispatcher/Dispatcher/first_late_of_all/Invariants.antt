@@ -1,5 +1,5 @@
 use Rattle.std.proofs.Common.{◌≡◌}
-use Rattle.cics_machine.specs.Waking.{first_late}
+use Rattle.cics_dispatch.specs.Machine.Waking.{first_late}
 use Rattle.cics_dispatch.proofs.dispatcher.Dispatcher.first_late_of_all.Given as goal
 
 -- none of those that were passed has waited too long

@@ -1,5 +1,5 @@
 use Rattle.std.proofs.Common.{◌≡◌, ◌∙◌, sym, Some, None}
-use Rattle.cics_machine.proofs.RegionSteps.{task_there, tried_told, tried_waits}
+use Rattle.cics_dispatch.proofs.OfMachine.RegionSteps.{task_there, tried_told, tried_waits}
 use Rattle.cics_dispatch.proofs.dispatcher.Dispatcher.go_on.Goals as goal
 
 pub unreachable-requires : goal.unreachable-requires

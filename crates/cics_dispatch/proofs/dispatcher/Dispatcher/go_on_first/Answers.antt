@@ -1,12 +1,12 @@
 use Rattle.std.proofs.Common.{◌≡◌, ◌∙◌, sym, ap, subst, Some, None, ◌<◌, length}
 use Rattle.std.specs.Prelude.{slice_get}
-use Rattle.cics_machine.specs.Machine.{task_at}
-use Rattle.cics_machine.specs.KeptTasks.{IsWaitKept}
-use Rattle.cics_machine.specs.Steps.{with_outcome}
-use Rattle.cics_machine.specs.Waking.{woken_first, went_on, first_free}
-use Rattle.cics_machine.proofs.RegionSteps.{task_there}
-use Rattle.cics_machine.proofs.RegionWaking.{first_free_has, first_free_awaits, went_alone}
-use Rattle.cics_machine.proofs.Looks.{wait_of_label, first_found, first_there, first_has_task}
+use Rattle.cics_dispatch.specs.Machine.Machine.{task_at}
+use Rattle.cics_dispatch.specs.Machine.KeptTasks.{IsWaitKept}
+use Rattle.cics_dispatch.specs.Machine.Steps.{with_outcome}
+use Rattle.cics_dispatch.specs.Machine.Waking.{woken_first, went_on, first_free}
+use Rattle.cics_dispatch.proofs.OfMachine.RegionSteps.{task_there}
+use Rattle.cics_dispatch.proofs.OfMachine.RegionWaking.{first_free_has, first_free_awaits, went_alone}
+use Rattle.cics_dispatch.proofs.OfMachine.Looks.{wait_of_label, first_found, first_there, first_has_task}
 use Rattle.cics_dispatch.proofs.dispatcher.Dispatcher.go_on_first.Goals as goal
 
 pub unreachable-requires : goal.unreachable-requires

@@ -2,11 +2,11 @@ use Rattle.std.proofs.Common.{◌≡◌, ◌∙◌, ℕ, slice_get, sym, ap, sub
 use Rattle.std.specs.Prelude.{◌≤◌, length, IfNone, IfSome, IsTrue}
 use Rattle.cics_names.specs.Keyed.{Bytes}
 use Rattle.cics_history.specs.Records.{key_of}
-use Rattle.cics_machine.specs.Machine.{RegionValue, task_at}
-use Rattle.cics_machine.specs.Answers.{is_growing}
-use Rattle.cics_machine.specs.Calls.{OfTask, KeepsRegion, MayPerform}
-use Rattle.cics_machine.specs.Steps.{answered, asked_op, op_of, performed}
-use Rattle.cics_machine.proofs.RegionPerforming.{issued_to, issued_waiting, issued_awake, issued_told, wants_memory, refused_memory}
+use Rattle.cics_dispatch.specs.Machine.Machine.{RegionValue, task_at}
+use Rattle.cics_dispatch.specs.Machine.Answers.{is_growing}
+use Rattle.cics_dispatch.specs.Machine.Calls.{OfTask, KeepsRegion, MayPerform}
+use Rattle.cics_dispatch.specs.Machine.Steps.{answered, asked_op, op_of, performed}
+use Rattle.cics_dispatch.proofs.OfMachine.RegionPerforming.{issued_to, issued_waiting, issued_awake, issued_told, wants_memory, refused_memory}
 use Rattle.cics_dispatch.proofs.dispatcher.Dispatcher.issue.Goals as goal
 
 -- what is found in a region is found in its parts

@@ -1,8 +1,8 @@
 use Rattle.std.proofs.Common.{◌∙◌, ◌<◌, ◌≤◌, sym, ap, subst, Some}
 use Rattle.std.specs.Prelude.{option_map}
 use Rattle.std.proofs.lemmas.Option.{slice_get_past}
-use Rattle.cics_machine.specs.Blockers.{label_at}
-use Rattle.cics_machine.specs.Machine.{Task}
+use Rattle.cics_dispatch.specs.Machine.Blockers.{label_at}
+use Rattle.cics_dispatch.specs.Machine.Machine.{Task}
 use Rattle.cics_dispatch.proofs.dispatcher.Dispatcher.label_at.Goals as goal
 
 pub get-requires : goal.get-requires

@@ -1,9 +1,9 @@
 use Rattle.std.proofs.Common.{◌≡◌, ◌∙◌, ◌<◌, ◌-◌, sym, ap, subst, length, false}
 use Rattle.std.specs.Prelude.{◌&&◌, nat_lt, nat_le, slice_get, IfNone}
 use Rattle.std.proofs.lemmas.Bool.{lt-ltb, le-ltb, le-leb, lt-leb}
-use Rattle.cics_machine.specs.Machine.{task_at}
-use Rattle.cics_machine.specs.Regions.{region_of}
-use Rattle.cics_machine.specs.Waking.{is_late}
+use Rattle.cics_dispatch.specs.Machine.Machine.{task_at}
+use Rattle.cics_dispatch.specs.Machine.Regions.{region_of}
+use Rattle.cics_dispatch.specs.Machine.Waking.{is_late}
 use Rattle.cics_dispatch.proofs.dispatcher.Dispatcher.late.Goals as goal
 use Rattle.cics_dispatch.proofs.dispatcher.Dispatcher.late.Goals.{After-saturating_sub-waited, else-limit-gt0-via-then-limit-gt0+else-limit-waited, else-limit-gt0-via-else-limit-gt0}
 

@@ -1,10 +1,10 @@
 use Rattle.std.proofs.Common.{◌≡◌, ◌∙◌, ap, subst, Some, None, ◌<◌, length}
 use Rattle.std.specs.Prelude.{slice_get}
-use Rattle.cics_machine.specs.Machine.{task_at}
-use Rattle.cics_machine.specs.KeptTasks.{AreTasksKept}
-use Rattle.cics_machine.specs.Regions.{IsRegionKept}
-use Rattle.cics_machine.specs.Waits.{wait_of, AreApart}
-use Rattle.cics_machine.proofs.Looks.{wait_there, wait_has_task, look_ready, look_goes, look_blocked}
+use Rattle.cics_dispatch.specs.Machine.Machine.{task_at}
+use Rattle.cics_dispatch.specs.Machine.KeptTasks.{AreTasksKept}
+use Rattle.cics_dispatch.specs.Machine.Regions.{IsRegionKept}
+use Rattle.cics_dispatch.specs.Machine.Waits.{wait_of, AreApart}
+use Rattle.cics_dispatch.proofs.OfMachine.Looks.{wait_there, wait_has_task, look_ready, look_goes, look_blocked}
 use Rattle.cics_dispatch.proofs.dispatcher.Dispatcher.look.Goals as goal
 use Rattle.cics_dispatch.proofs.dispatcher.Dispatcher.look.Goals.{In-Some, In-Some-find}
 

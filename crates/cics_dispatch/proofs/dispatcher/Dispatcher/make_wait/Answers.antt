@@ -1,7 +1,7 @@
 use Rattle.std.proofs.Common.{◌∙◌, sym, ap}
-use Rattle.cics_machine.specs.Steps.{answered, made_to_wait, suspended}
-use Rattle.cics_machine.specs.Calls.{waiting_for}
-use Rattle.cics_machine.proofs.RegionSteps.{told_as, may_told_as}
+use Rattle.cics_dispatch.specs.Machine.Steps.{answered, made_to_wait, suspended}
+use Rattle.cics_dispatch.specs.Machine.Calls.{waiting_for}
+use Rattle.cics_dispatch.proofs.OfMachine.RegionSteps.{told_as, may_told_as}
 use Rattle.cics_dispatch.proofs.dispatcher.Dispatcher.make_wait.Goals as goal
 
 pub returns-in-Some : goal.returns-in-Some

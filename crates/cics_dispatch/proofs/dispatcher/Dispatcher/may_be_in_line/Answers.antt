@@ -1,6 +1,6 @@
 use Rattle.std.proofs.Common.{◌∙◌, sym}
 use Rattle.std.proofs.lemmas.Bool.{true≢false}
-use Rattle.cics_machine.proofs.Looks.{not_in_line}
+use Rattle.cics_dispatch.proofs.OfMachine.Looks.{not_in_line}
 use Rattle.cics_dispatch.proofs.dispatcher.Dispatcher.may_be_in_line.Goals as goal
 
 pub returns-in-Some : goal.returns-in-Some

@@ -4,10 +4,10 @@ use Rattle.std.proofs.lemmas.List.{length-take-le}
 use Rattle.cics_names.specs.declared.commands.Verb.TheVariants.{Enq}
 use Rattle.cics_history.specs.Resources.{bytes_of}
 use Rattle.cics_history.specs.declared.resources.Resource.TheVariants.{User}
-use Rattle.cics_machine.specs.Regions.{region_of}
-use Rattle.cics_machine.specs.Waits.{wait_of, AreApart}
-use Rattle.cics_machine.specs.Notes.{IsOnlyNeed}
-use Rattle.cics_machine.proofs.Looks.{of_wait, need_used, need_value, value_short}
+use Rattle.cics_dispatch.specs.Machine.Regions.{region_of}
+use Rattle.cics_dispatch.specs.Machine.Waits.{wait_of, AreApart}
+use Rattle.cics_dispatch.specs.Machine.Notes.{IsOnlyNeed}
+use Rattle.cics_dispatch.proofs.OfMachine.Looks.{of_wait, need_used, need_value, value_short}
 use Rattle.cics_dispatch.proofs.dispatcher.Dispatcher.need.Goals as goal
 
 pub returns-then-has_short_key : goal.returns-then-has_short_key

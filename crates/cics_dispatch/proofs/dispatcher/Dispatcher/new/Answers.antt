@@ -1,11 +1,11 @@
 use Rattle.std.specs.Prelude.{◌≡◌, false, List, []}
 use Rattle.std.proofs.Common.{ap, ◌∙◌}
 use Rattle.cics_history.specs.State.{OpeningState, UnitsValue, initial_units}
-use Rattle.cics_machine.specs.Machine.{Task, Suspended, initial_region}
-use Rattle.cics_machine.specs.Regions.{region_of}
-use Rattle.cics_machine.proofs.KeptTasks.{kept_begins}
-use Rattle.cics_machine.proofs.OwnedUnits.{owned_begins}
-use Rattle.cics_machine.proofs.RegionSteps.{kept_as}
+use Rattle.cics_dispatch.specs.Machine.Machine.{Task, Suspended, initial_region}
+use Rattle.cics_dispatch.specs.Machine.Regions.{region_of}
+use Rattle.cics_dispatch.proofs.OfMachine.KeptTasks.{kept_begins}
+use Rattle.cics_dispatch.proofs.OfMachine.OwnedUnits.{owned_begins}
+use Rattle.cics_dispatch.proofs.OfMachine.RegionSteps.{kept_as}
 use Rattle.cics_dispatch.proofs.dispatcher.Dispatcher.new.Goals as goal
 
 -- units that have just begun, without a task or a wait, are the beginning of a region

@@ -1,6 +1,6 @@
 use Rattle.std.proofs.Common.{◌≡◌, ◌≤◌, ◌+◌, ◌-◌, drop}
-use Rattle.cics_machine.specs.Notes.{AreNotedNow}
-use Rattle.cics_waits.specs.Notes.{count}
+use Rattle.cics_dispatch.specs.Machine.Notes.{AreNotedNow}
+use Rattle.cics_dispatch.specs.Notes.Notes.{count}
 use Rattle.cics_dispatch.proofs.dispatcher.Dispatcher.note_behind.Given as goal
 
 -- those that are left are behind those that were passed and those that got a note

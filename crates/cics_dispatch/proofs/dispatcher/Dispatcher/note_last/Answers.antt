@@ -1,10 +1,10 @@
 use Rattle.std.proofs.Common.{◌≡◌, ◌-◌, ◌∙◌, ◌∷◌, ◌++◌, [], Some, ap, suc, subst, length, drop, slice_get, arith}
-use Rattle.cics_waits.specs.Notes.{new_note, count}
-use Rattle.cics_machine.specs.Regions.{IsRegionKept}
-use Rattle.cics_machine.specs.Waits.{AreApart}
-use Rattle.cics_waits.proofs.FiledNotes.{count_push}
-use Rattle.cics_machine.proofs.Deadlines.{due_push, due_new}
-use Rattle.cics_machine.proofs.Noted.{noted_as, noted_push, drop_last}
+use Rattle.cics_dispatch.specs.Notes.Notes.{new_note, count}
+use Rattle.cics_dispatch.specs.Machine.Regions.{IsRegionKept}
+use Rattle.cics_dispatch.specs.Machine.Waits.{AreApart}
+use Rattle.cics_dispatch.proofs.OfNotes.FiledNotes.{count_push}
+use Rattle.cics_dispatch.proofs.OfMachine.Deadlines.{due_push, due_new}
+use Rattle.cics_dispatch.proofs.OfMachine.Noted.{noted_as, noted_push, drop_last}
 use Rattle.cics_dispatch.proofs.dispatcher.Dispatcher.note_last.Goals as goal
 
 pub returns : goal.returns

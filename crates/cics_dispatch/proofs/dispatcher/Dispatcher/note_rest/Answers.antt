@@ -1,6 +1,6 @@
 use Rattle.std.proofs.Common.{◌∙◌, ap, sym, subst}
-use Rattle.cics_machine.specs.Notes.{AreNotedNow}
-use Rattle.cics_machine.proofs.Noted.{noted_empty}
+use Rattle.cics_dispatch.specs.Machine.Notes.{AreNotedNow}
+use Rattle.cics_dispatch.proofs.OfMachine.Noted.{noted_empty}
 use Rattle.cics_dispatch.proofs.dispatcher.Dispatcher.note_rest.Goals.{then-have_grown, else-have_grown}
 use Rattle.cics_dispatch.proofs.dispatcher.Dispatcher.note_rest.Goals as goal
 

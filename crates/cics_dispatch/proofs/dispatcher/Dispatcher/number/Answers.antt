@@ -1,6 +1,6 @@
 use Rattle.std.proofs.Common.{◌∙◌, ap}
-use Rattle.cics_machine.specs.Blockers.{number_of}
-use Rattle.cics_machine.proofs.Blockers.{number_found}
+use Rattle.cics_dispatch.specs.Machine.Blockers.{number_of}
+use Rattle.cics_dispatch.proofs.OfMachine.Blockers.{number_found}
 use Rattle.cics_dispatch.proofs.dispatcher.Dispatcher.number.Goals as goal
 
 pub returns : goal.returns

@@ -2,10 +2,10 @@ use Rattle.std.proofs.Common.{◌≡◌, ◌∙◌, ◌<◌, sym, ap, subst, len
 use Rattle.std.specs.Option.{option_copied}
 use Rattle.cics_names.specs.Commands.{file_named}
 use Rattle.cics_history.specs.Execution.{has_read}
-use Rattle.cics_machine.specs.Calls.{OfTask}
-use Rattle.cics_machine.specs.Regions.{region_of}
-use Rattle.cics_machine.specs.Steps.{key_read}
-use Rattle.cics_machine.proofs.RegionSteps.{one_task}
+use Rattle.cics_dispatch.specs.Machine.Calls.{OfTask}
+use Rattle.cics_dispatch.specs.Machine.Regions.{region_of}
+use Rattle.cics_dispatch.specs.Machine.Steps.{key_read}
+use Rattle.cics_dispatch.proofs.OfMachine.RegionSteps.{one_task}
 use Rattle.cics_dispatch.proofs.dispatcher.Dispatcher.open_key.Goals as goal
 
 pub returns-in_err-file-clause-key : goal.returns-in_err-file-clause-key

@@ -1,7 +1,7 @@
 use Rattle.std.proofs.Common.{◌∙◌, sym, ap, subst}
-use Rattle.cics_machine.specs.Machine.{label_of, is_waiting}
-use Rattle.cics_machine.specs.Regions.{IsRegionKept}
-use Rattle.cics_machine.proofs.Looks.{owner_awake, owner_not_in_line}
+use Rattle.cics_dispatch.specs.Machine.Machine.{label_of, is_waiting}
+use Rattle.cics_dispatch.specs.Machine.Regions.{IsRegionKept}
+use Rattle.cics_dispatch.proofs.OfMachine.Looks.{owner_awake, owner_not_in_line}
 use Rattle.cics_dispatch.proofs.dispatcher.Dispatcher.owner_waits_in.Goals as goal
 
 pub returns-then-not-is_waiting : goal.returns-then-not-is_waiting

@@ -1,11 +1,11 @@
 use Rattle.std.proofs.Common.{◌≡◌, ◌∙◌, ap, sym, subst, Some, None}
 use Rattle.std.specs.Prelude.{IsTrue, OnErr}
-use Rattle.cics_machine.specs.Answers.{is_growing}
-use Rattle.cics_machine.specs.Calls.{MayPerform, going_on}
-use Rattle.cics_machine.specs.Emptied.{whole}
-use Rattle.cics_machine.specs.Steps.{by_op, op_of, performed}
-use Rattle.cics_machine.proofs.RegionSteps.{task_there, may_told_as}
-use Rattle.cics_machine.proofs.RegionPerforming.{op_grows, on_error, performed_by}
+use Rattle.cics_dispatch.specs.Machine.Answers.{is_growing}
+use Rattle.cics_dispatch.specs.Machine.Calls.{MayPerform, going_on}
+use Rattle.cics_dispatch.specs.Machine.Emptied.{whole}
+use Rattle.cics_dispatch.specs.Machine.Steps.{by_op, op_of, performed}
+use Rattle.cics_dispatch.proofs.OfMachine.RegionSteps.{task_there, may_told_as}
+use Rattle.cics_dispatch.proofs.OfMachine.RegionPerforming.{op_grows, on_error, performed_by}
 use Rattle.cics_dispatch.proofs.dispatcher.Dispatcher.perform.Goals as goal
 
 pub update-requires-clause-may : goal.update-requires-clause-may

@@ -3,15 +3,15 @@ use Rattle.cics_names.specs.declared.conditions.Condition.TheVariants.{Invreq}
 use Rattle.cics_names.specs.Commands.{file_named}
 use Rattle.cics_names.specs.declared.commands.Verb.{Verb}
 use Rattle.cics_names.specs.declared.commands.Verb.TheVariants.{Write, Rewrite, Delete, StartBr, ResetBr, ReadNext, ReadPrev, EndBr}
-use Rattle.cics_machine.specs.Calls.{going_on, reading_on, reads_or_unlocks}
-use Rattle.cics_machine.specs.Machine.{Task}
-use Rattle.cics_machine.specs.Answers.{is_growing}
+use Rattle.cics_dispatch.specs.Machine.Calls.{going_on, reading_on, reads_or_unlocks}
+use Rattle.cics_dispatch.specs.Machine.Machine.{Task}
+use Rattle.cics_dispatch.specs.Machine.Answers.{is_growing}
 use Rattle.cics_names.specs.Keyed.{Bytes, value_at}
-use Rattle.cics_machine.specs.Replies.{plain}
-use Rattle.cics_machine.specs.Steps.{answered, browse_ended, other_command, reset, started}
-use Rattle.cics_machine.specs.declared.browses.Direction.TheVariants.{Forward, Back}
-use Rattle.cics_machine.proofs.RegionSteps.{told_as, may_told_as}
-use Rattle.cics_machine.proofs.RegionPerforming.{file_of, browse_of, moves_browse, on_error}
+use Rattle.cics_dispatch.specs.Machine.Replies.{plain}
+use Rattle.cics_dispatch.specs.Machine.Steps.{answered, browse_ended, other_command, reset, started}
+use Rattle.cics_dispatch.specs.declared.machine.browses.Direction.TheVariants.{Forward, Back}
+use Rattle.cics_dispatch.proofs.OfMachine.RegionSteps.{told_as, may_told_as}
+use Rattle.cics_dispatch.proofs.OfMachine.RegionPerforming.{file_of, browse_of, moves_browse, on_error}
 use Rattle.cics_dispatch.proofs.dispatcher.Dispatcher.perform_on_browse.Goals as goal
 
 pub start_browse-requires-clause-there : goal.start_browse-requires-clause-there

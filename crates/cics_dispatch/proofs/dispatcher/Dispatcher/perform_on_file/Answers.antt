@@ -2,12 +2,12 @@ use Rattle.std.proofs.Common.{◌≡◌, ◌∙◌, ap, sym, refl, false, None}
 use Rattle.cics_names.specs.Commands.{file_named}
 use Rattle.cics_names.specs.declared.commands.Verb.{Verb}
 use Rattle.cics_names.specs.declared.commands.Verb.TheVariants.{Read, Unlock}
-use Rattle.cics_machine.specs.Calls.{going_on, reading, reads_or_unlocks}
-use Rattle.cics_machine.specs.Machine.{records_in}
-use Rattle.cics_machine.specs.Replies.{read_told}
-use Rattle.cics_machine.specs.Steps.{answered, other_command}
-use Rattle.cics_machine.proofs.RegionSteps.{may_told_as}
-use Rattle.cics_machine.proofs.RegionPerforming.{file_of}
+use Rattle.cics_dispatch.specs.Machine.Calls.{going_on, reading, reads_or_unlocks}
+use Rattle.cics_dispatch.specs.Machine.Machine.{records_in}
+use Rattle.cics_dispatch.specs.Machine.Replies.{read_told}
+use Rattle.cics_dispatch.specs.Machine.Steps.{answered, other_command}
+use Rattle.cics_dispatch.proofs.OfMachine.RegionSteps.{may_told_as}
+use Rattle.cics_dispatch.proofs.OfMachine.RegionPerforming.{file_of}
 use Rattle.cics_dispatch.proofs.dispatcher.Dispatcher.perform_on_file.Goals as goal
 
 pub read-requires-clause-there : goal.read-requires-clause-there

@@ -3,14 +3,14 @@ use Rattle.cics_names.specs.declared.conditions.Condition.TheVariants.{Invreq}
 use Rattle.cics_names.specs.Commands.{file_named}
 use Rattle.cics_names.specs.declared.commands.Verb.{Verb}
 use Rattle.cics_names.specs.declared.commands.Verb.TheVariants.{WriteqTs, ReadqTs, DeleteqTs, WriteqTd, ReadqTd, DeleteqTd, Enq, Deq, Syncpoint, Rollback, Return, Abend}
-use Rattle.cics_machine.specs.Calls.{going_on}
-use Rattle.cics_machine.specs.Machine.{Task}
-use Rattle.cics_machine.specs.Replies.{plain}
-use Rattle.cics_machine.specs.Steps.{answered, other_command, with_outcome}
-use Rattle.cics_machine.specs.declared.outcomes.Outcome.TheVariants.{Abended, Ended}
-use Rattle.cics_machine.proofs.Ready.{ready_value}
-use Rattle.cics_machine.proofs.RegionSteps.{told_as}
-use Rattle.cics_machine.proofs.RegionPerforming.{deq_fits}
+use Rattle.cics_dispatch.specs.Machine.Calls.{going_on}
+use Rattle.cics_dispatch.specs.Machine.Machine.{Task}
+use Rattle.cics_dispatch.specs.Machine.Replies.{plain}
+use Rattle.cics_dispatch.specs.Machine.Steps.{answered, other_command, with_outcome}
+use Rattle.cics_dispatch.specs.declared.machine.outcomes.Outcome.TheVariants.{Abended, Ended}
+use Rattle.cics_dispatch.proofs.OfMachine.Ready.{ready_value}
+use Rattle.cics_dispatch.proofs.OfMachine.RegionSteps.{told_as}
+use Rattle.cics_dispatch.proofs.OfMachine.RegionPerforming.{deq_fits}
 use Rattle.cics_dispatch.proofs.dispatcher.Dispatcher.perform_on_no_file.Goals as goal
 
 pub enqueue-requires-clause-ready : goal.enqueue-requires-clause-ready

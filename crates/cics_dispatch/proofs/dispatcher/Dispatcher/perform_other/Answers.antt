@@ -1,5 +1,5 @@
 use Rattle.std.proofs.Common.{◌∙◌, ap, is_some, sym}
-use Rattle.cics_machine.proofs.RegionPerforming.{copied_some}
+use Rattle.cics_dispatch.proofs.OfMachine.RegionPerforming.{copied_some}
 use Rattle.cics_dispatch.proofs.dispatcher.Dispatcher.perform_other.Goals as goal
 
 pub perform_on_file-requires-clause-named : goal.perform_on_file-requires-clause-named

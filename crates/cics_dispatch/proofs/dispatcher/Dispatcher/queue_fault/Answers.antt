@@ -2,8 +2,8 @@ use Rattle.std.proofs.Common.{◌≡◌, ◌∙◌, ap, refl, Option, Some, None
 use Rattle.std.specs.Prelude.{is_some, option_map}
 use Rattle.cics_names.specs.Keyed.{value_at}
 use Rattle.cics_names.specs.declared.conditions.Condition.TheVariants.{Qiderr}
-use Rattle.cics_machine.specs.Checks.{queue_fault}
-use Rattle.cics_machine.specs.Lengths.{fault_unless}
+use Rattle.cics_dispatch.specs.Machine.Checks.{queue_fault}
+use Rattle.cics_dispatch.specs.Machine.Lengths.{fault_unless}
 use Rattle.cics_dispatch.proofs.dispatcher.Dispatcher.queue_fault.Goals as goal
 
 -- there is something of a value just if there is a value

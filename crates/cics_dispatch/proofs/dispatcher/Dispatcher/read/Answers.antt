@@ -1,11 +1,11 @@
 use Rattle.std.proofs.Common.{◌≡◌, ◌∙◌, sym, ap, subst, refl, true}
 use Rattle.std.specs.Prelude.{is_some, slice_get}
-use Rattle.cics_machine.specs.Calls.{reading}
-use Rattle.cics_machine.specs.Machine.{definition_of, records_in}
-use Rattle.cics_machine.specs.Replies.{read_told}
-use Rattle.cics_machine.specs.Steps.{answered}
-use Rattle.cics_machine.proofs.RegionBrowses.{never_none, own_records}
-use Rattle.cics_machine.proofs.RegionSteps.{told_as, refused_as_was}
+use Rattle.cics_dispatch.specs.Machine.Calls.{reading}
+use Rattle.cics_dispatch.specs.Machine.Machine.{definition_of, records_in}
+use Rattle.cics_dispatch.specs.Machine.Replies.{read_told}
+use Rattle.cics_dispatch.specs.Machine.Steps.{answered}
+use Rattle.cics_dispatch.proofs.OfMachine.RegionBrowses.{never_none, own_records}
+use Rattle.cics_dispatch.proofs.OfMachine.RegionSteps.{told_as, refused_as_was}
 use Rattle.cics_dispatch.proofs.dispatcher.Dispatcher.read.Goals as goal
 
 pub unreachable-requires : goal.unreachable-requires

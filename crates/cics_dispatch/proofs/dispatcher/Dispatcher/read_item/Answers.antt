@@ -2,12 +2,12 @@ use Rattle.std.proofs.Common.{◌<◌, ◌∙◌, sym, ap, subst, length}
 use Rattle.std.specs.Prelude.{option_map}
 use Rattle.cics_names.specs.Commands.{length_of}
 use Rattle.cics_history.specs.Execution.{item_asked}
-use Rattle.cics_machine.specs.Calls.{reading_item}
-use Rattle.cics_machine.specs.Regions.{region_of, IsRegionKept}
-use Rattle.cics_machine.specs.Steps.{answered, reply_with}
-use Rattle.cics_machine.specs.declared.outcomes.Number.TheVariants.{Item}
-use Rattle.cics_machine.proofs.RegionSteps.{seen_task, seen_awake, seen_step, then_told, refused_as_was}
-use Rattle.cics_machine.proofs.RegionQueues.{item_read_machine, item_read_kept}
+use Rattle.cics_dispatch.specs.Machine.Calls.{reading_item}
+use Rattle.cics_dispatch.specs.Machine.Regions.{region_of, IsRegionKept}
+use Rattle.cics_dispatch.specs.Machine.Steps.{answered, reply_with}
+use Rattle.cics_dispatch.specs.declared.machine.outcomes.Number.TheVariants.{Item}
+use Rattle.cics_dispatch.proofs.OfMachine.RegionSteps.{seen_task, seen_awake, seen_step, then_told, refused_as_was}
+use Rattle.cics_dispatch.proofs.OfMachine.RegionQueues.{item_read_machine, item_read_kept}
 use Rattle.cics_dispatch.proofs.dispatcher.Dispatcher.read_item.Goals as goal
 
 pub invariant_of-self-2 : goal.invariant_of-self-2

@@ -1,14 +1,14 @@
 use Rattle.std.specs.Prelude.{is_some}
-use Rattle.cics_machine.specs.Machine.{definition_of}
+use Rattle.cics_dispatch.specs.Machine.Machine.{definition_of}
 use Rattle.std.proofs.Common.{◌≡◌, ◌∙◌, ap, sym, subst, true}
 use Rattle.std.specs.Option.{option_copied_mut}
 use Rattle.cics_names.specs.Commands.{length_of}
 use Rattle.cics_names.specs.Keyed.{value_at}
-use Rattle.cics_machine.specs.Calls.{reading_on}
-use Rattle.cics_machine.specs.Replies.{cut}
-use Rattle.cics_machine.specs.Steps.{browse_reply}
-use Rattle.cics_machine.proofs.RegionBrowses.{never_none, lent, owner_within, browses_kept, same_browses, own_records, then_told_so, read_answered}
-use Rattle.cics_machine.proofs.RegionSteps.{seen_task, seen_awake, seen_browse, seen_step, refused_as_was}
+use Rattle.cics_dispatch.specs.Machine.Calls.{reading_on}
+use Rattle.cics_dispatch.specs.Machine.Replies.{cut}
+use Rattle.cics_dispatch.specs.Machine.Steps.{browse_reply}
+use Rattle.cics_dispatch.proofs.OfMachine.RegionBrowses.{never_none, lent, owner_within, browses_kept, same_browses, own_records, then_told_so, read_answered}
+use Rattle.cics_dispatch.proofs.OfMachine.RegionSteps.{seen_task, seen_awake, seen_browse, seen_step, refused_as_was}
 use Rattle.cics_dispatch.proofs.dispatcher.Dispatcher.read_on.Goals as goal
 
 pub unreachable-requires-in_default-get_mut : goal.unreachable-requires-in_default-get_mut

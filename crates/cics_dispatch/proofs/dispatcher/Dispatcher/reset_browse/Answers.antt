@@ -1,12 +1,12 @@
 use Rattle.std.specs.Prelude.{is_some}
-use Rattle.cics_machine.specs.Machine.{definition_of}
+use Rattle.cics_dispatch.specs.Machine.Machine.{definition_of}
 use Rattle.std.proofs.Common.{◌≡◌, ◌∙◌, ap, sym, subst, true}
 use Rattle.std.specs.Option.{option_copied_mut}
 use Rattle.cics_names.specs.Keyed.{value_at}
-use Rattle.cics_machine.specs.Replies.{plain}
-use Rattle.cics_machine.specs.Steps.{reset}
-use Rattle.cics_machine.proofs.RegionBrowses.{never_none, lent, owner_within, browses_kept, own_records, then_told_so, reset_answered}
-use Rattle.cics_machine.proofs.RegionSteps.{seen_task, seen_awake, seen_browse, seen_step}
+use Rattle.cics_dispatch.specs.Machine.Replies.{plain}
+use Rattle.cics_dispatch.specs.Machine.Steps.{reset}
+use Rattle.cics_dispatch.proofs.OfMachine.RegionBrowses.{never_none, lent, owner_within, browses_kept, own_records, then_told_so, reset_answered}
+use Rattle.cics_dispatch.proofs.OfMachine.RegionSteps.{seen_task, seen_awake, seen_browse, seen_step}
 use Rattle.cics_dispatch.proofs.dispatcher.Dispatcher.reset_browse.Goals as goal
 
 pub unreachable-requires-in_default-get_mut : goal.unreachable-requires-in_default-get_mut

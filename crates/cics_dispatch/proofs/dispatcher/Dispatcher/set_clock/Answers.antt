@@ -1,12 +1,12 @@
 use Rattle.std.proofs.Common.{◌≡◌, ◌∙◌, sym, ap, subst, refl, true, false, Some, None, Ok}
 use Rattle.std.specs.Prelude.{if◌then◌else◌, nat_lt}
 use Rattle.std.proofs.lemmas.Bool.{lt-ltb, le-ltb}
-use Rattle.cics_machine.specs.Regions.{region_of}
-use Rattle.cics_machine.specs.Steps.{refused_or}
-use Rattle.cics_machine.specs.Waking.{clock_set}
-use Rattle.cics_machine.specs.declared.outcomes.Refused.TheVariants.{ClockBack}
-use Rattle.cics_machine.proofs.KeptTasks.{kept_clock}
-use Rattle.cics_machine.proofs.OwnedUnits.{owned_clock}
+use Rattle.cics_dispatch.specs.Machine.Regions.{region_of}
+use Rattle.cics_dispatch.specs.Machine.Steps.{refused_or}
+use Rattle.cics_dispatch.specs.Machine.Waking.{clock_set}
+use Rattle.cics_dispatch.specs.declared.machine.outcomes.Refused.TheVariants.{ClockBack}
+use Rattle.cics_dispatch.proofs.OfMachine.KeptTasks.{kept_clock}
+use Rattle.cics_dispatch.proofs.OfMachine.OwnedUnits.{owned_clock}
 use Rattle.cics_dispatch.proofs.dispatcher.Dispatcher.set_clock.Goals as goal
 
 pub returns-then-now-self-clause-step : goal.returns-then-now-self-clause-step

@@ -1,15 +1,15 @@
 use Rattle.std.proofs.Common.{◌∙◌, sym, ap, refl, true, Ok, List, [], ◌∷◌}
 use Rattle.std.specs.Prelude.{slice_get, All}
 use Rattle.std.proofs.lemmas.List.Elements.{All-nil, All-cons, All-head, All-tail}
-use Rattle.cics_machine.specs.Machine.{Machine, Suspended, with_waiting}
-use Rattle.cics_machine.specs.KeptTasks.{IsWaitKept}
-use Rattle.cics_machine.specs.Regions.{region_of}
-use Rattle.cics_machine.specs.Shutdown.{units_of, all_ended, shut_down}
-use Rattle.cics_machine.specs.Steps.{with_outcome}
-use Rattle.cics_machine.proofs.KeptTasks.{kept_aside}
-use Rattle.cics_machine.proofs.OwnedUnits.{owned_same, owned_suspended}
-use Rattle.cics_machine.proofs.RegionShutdown.{none_live}
-use Rattle.cics_machine.proofs.RegionSteps.{kept_as}
+use Rattle.cics_dispatch.specs.Machine.Machine.{Machine, Suspended, with_waiting}
+use Rattle.cics_dispatch.specs.Machine.KeptTasks.{IsWaitKept}
+use Rattle.cics_dispatch.specs.Machine.Regions.{region_of}
+use Rattle.cics_dispatch.specs.Machine.Shutdown.{units_of, all_ended, shut_down}
+use Rattle.cics_dispatch.specs.Machine.Steps.{with_outcome}
+use Rattle.cics_dispatch.proofs.OfMachine.KeptTasks.{kept_aside}
+use Rattle.cics_dispatch.proofs.OfMachine.OwnedUnits.{owned_same, owned_suspended}
+use Rattle.cics_dispatch.proofs.OfMachine.RegionShutdown.{none_live}
+use Rattle.cics_dispatch.proofs.OfMachine.RegionSteps.{kept_as}
 use Rattle.cics_dispatch.proofs.dispatcher.Dispatcher.shut_down.Goals as goal
 
 -- what is known of waiting commands isn't about a shutdown

@@ -3,7 +3,7 @@ use Rattle.std.proofs.lemmas.Result.{on_ok_weaker}
 use Rattle.cics_names.proofs.Stamps.{appended_two}
 use Rattle.cics_names.specs.Stamps.{number_stamp, flag_stamp, list_stamp}
 use Rattle.cics_history.specs.Stamps.{shared_stamp}
-use Rattle.cics_machine.specs.Stamps.{task_stamp, wait_stamp, region_stamp}
+use Rattle.cics_dispatch.specs.Machine.Stamps.{task_stamp, wait_stamp, region_stamp}
 use Rattle.cics_dispatch.proofs.dispatcher.Dispatcher.stamp.Goals as goal
 
 -- the five parts, one after the other

@@ -1,13 +1,13 @@
 use Rattle.std.specs.Prelude.{is_some}
-use Rattle.cics_machine.specs.Machine.{definition_of}
+use Rattle.cics_dispatch.specs.Machine.Machine.{definition_of}
 use Rattle.std.proofs.Common.{◌≡◌, ◌∙◌, ap, sym, subst, true}
 use Rattle.cics_names.specs.Keyed.{with_value}
 use Rattle.cics_names.specs.declared.conditions.Condition.TheVariants.{Normal}
-use Rattle.cics_machine.specs.Regions.{region_of}
-use Rattle.cics_machine.specs.Replies.{plain}
-use Rattle.cics_machine.specs.Steps.{answered, started}
-use Rattle.cics_machine.proofs.RegionBrowses.{never_none, owner_within, browses_kept, same_browses, own_records, then_told_so, started_there, not_started}
-use Rattle.cics_machine.proofs.RegionSteps.{seen_task, seen_awake, seen_step, told_as, refused_as_was}
+use Rattle.cics_dispatch.specs.Machine.Regions.{region_of}
+use Rattle.cics_dispatch.specs.Machine.Replies.{plain}
+use Rattle.cics_dispatch.specs.Machine.Steps.{answered, started}
+use Rattle.cics_dispatch.proofs.OfMachine.RegionBrowses.{never_none, owner_within, browses_kept, same_browses, own_records, then_told_so, started_there, not_started}
+use Rattle.cics_dispatch.proofs.OfMachine.RegionSteps.{seen_task, seen_awake, seen_step, told_as, refused_as_was}
 use Rattle.cics_dispatch.proofs.dispatcher.Dispatcher.start_browse.Goals as goal
 
 pub returns-in_default-start : goal.returns-in_default-start

@@ -1,16 +1,16 @@
 use Rattle.std.proofs.Common.{◌∙◌, sym, ap, subst, length, Ok}
 use Rattle.cics_history.specs.Execution.{IsOpenUnit}
 use Rattle.std.proofs.lemmas.Bool.{and_from, lt-ltb}
-use Rattle.cics_machine.specs.Regions.{region_of}
-use Rattle.cics_machine.specs.Calls.{HasReady, IsStepOrRefused}
+use Rattle.cics_dispatch.specs.Machine.Regions.{region_of}
+use Rattle.cics_dispatch.specs.Machine.Calls.{HasReady, IsStepOrRefused}
 use Rattle.std.specs.Prelude.{◌++◌, ◌∷◌, []}
-use Rattle.cics_machine.specs.Machine.{is_waiting, with_waiting}
-use Rattle.cics_machine.proofs.KeptTasks.{begins_now, kept_suspended}
-use Rattle.cics_machine.proofs.OwnedUnits.{owned_suspended}
+use Rattle.cics_dispatch.specs.Machine.Machine.{is_waiting, with_waiting}
+use Rattle.cics_dispatch.proofs.OfMachine.KeptTasks.{begins_now, kept_suspended}
+use Rattle.cics_dispatch.proofs.OfMachine.OwnedUnits.{owned_suspended}
 use Rattle.std.specs.Prelude.{unwrap_or}
-use Rattle.cics_machine.specs.Steps.{with_outcome, suspended}
-use Rattle.cics_machine.specs.declared.outcomes.Outcome.TheVariants.{Waiting}
-use Rattle.cics_machine.proofs.RegionSteps.{kept_as, one_task, seen_awake, refused_as_was}
+use Rattle.cics_dispatch.specs.Machine.Steps.{with_outcome, suspended}
+use Rattle.cics_dispatch.specs.declared.machine.outcomes.Outcome.TheVariants.{Waiting}
+use Rattle.cics_dispatch.proofs.OfMachine.RegionSteps.{kept_as, one_task, seen_awake, refused_as_was}
 use Rattle.cics_dispatch.proofs.dispatcher.Dispatcher.suspend.Goals as goal
 
 pub invariant_of-self-2 : goal.invariant_of-self-2

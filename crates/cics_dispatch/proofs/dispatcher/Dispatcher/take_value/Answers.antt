@@ -1,17 +1,17 @@
 use Rattle.std.proofs.Common.{refl, ◌∙◌, sym, ap, subst, None, Ok}
 use Rattle.std.specs.Prelude.{take}
 use Rattle.std.proofs.lemmas.Option.{slice_get_within}
-use Rattle.cics_machine.specs.Regions.{region_of, IsRegionKept}
-use Rattle.cics_machine.specs.Calls.{IsAttempt, going_on}
+use Rattle.cics_dispatch.specs.Machine.Regions.{region_of, IsRegionKept}
+use Rattle.cics_dispatch.specs.Machine.Calls.{IsAttempt, going_on}
 use Rattle.cics_history.specs.Execution.{IfEnqMustWait, IsOpenOrNone, IsOpenUnit}
-use Rattle.cics_machine.specs.Machine.{with_unit}
-use Rattle.cics_machine.specs.Steps.{other_command}
-use Rattle.cics_machine.specs.Waking.{awaited_by}
-use Rattle.cics_machine.specs.declared.outcomes.Attempt.TheVariants.{Told, MustWait}
-use Rattle.cics_machine.proofs.KeptTasks.{acting_or_none}
-use Rattle.cics_machine.proofs.Ready.{value_ready, only_enq}
-use Rattle.cics_machine.proofs.RegionSteps.{then_told, placed_within, one_task, seen_awake}
-use Rattle.cics_machine.proofs.RegionEnqueuing.{first_fit, enqueues, enq_awaited, waits_same, full_kept, full_step, owner_free, owner_there, taken_kept, taken_step}
+use Rattle.cics_dispatch.specs.Machine.Machine.{with_unit}
+use Rattle.cics_dispatch.specs.Machine.Steps.{other_command}
+use Rattle.cics_dispatch.specs.Machine.Waking.{awaited_by}
+use Rattle.cics_dispatch.specs.declared.machine.outcomes.Attempt.TheVariants.{Told, MustWait}
+use Rattle.cics_dispatch.proofs.OfMachine.KeptTasks.{acting_or_none}
+use Rattle.cics_dispatch.proofs.OfMachine.Ready.{value_ready, only_enq}
+use Rattle.cics_dispatch.proofs.OfMachine.RegionSteps.{then_told, placed_within, one_task, seen_awake}
+use Rattle.cics_dispatch.proofs.OfMachine.RegionEnqueuing.{first_fit, enqueues, enq_awaited, waits_same, full_kept, full_step, owner_free, owner_there, taken_kept, taken_step}
 use Rattle.cics_dispatch.proofs.dispatcher.Dispatcher.take_value.Goals as goal
 
 pub unreachable-requires : goal.unreachable-requires

@@ -1,7 +1,7 @@
 use Rattle.std.proofs.Common.{◌∙◌, sym, ap, arith, [], ◌∷◌, ◌++◌}
 use Rattle.std.specs.Prelude.{length, slice_get}
 use Rattle.std.proofs.lemmas.List.{take_all}
-use Rattle.cics_machine.proofs.RegionListing.{rows_of, rows_ended, rows_more}
+use Rattle.cics_dispatch.proofs.OfMachine.RegionListing.{rows_of, rows_ended, rows_more}
 use Rattle.cics_dispatch.proofs.dispatcher.Dispatcher.tasks_listed.Goals.{then-not-has_ended+in_ok-push, else-not-has_ended}
 use Rattle.cics_dispatch.proofs.dispatcher.Dispatcher.tasks_listed.Goals as goal
 

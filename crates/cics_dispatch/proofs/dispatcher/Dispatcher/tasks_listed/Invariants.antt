@@ -1,5 +1,5 @@
 use Rattle.std.proofs.Common.{◌≡◌, take}
-use Rattle.cics_machine.proofs.RegionListing.{rows_of}
+use Rattle.cics_dispatch.proofs.OfMachine.RegionListing.{rows_of}
 use Rattle.cics_dispatch.proofs.dispatcher.Dispatcher.tasks_listed.Given as goal
 
 -- the tasks that were passed stand in the listing

@@ -1,6 +1,6 @@
 use Rattle.std.proofs.Common.{◌∙◌, sym, ap}
-use Rattle.cics_machine.specs.Tasks.{had_by, own_unit}
-use Rattle.cics_machine.proofs.RegionSteps.{task_there}
+use Rattle.cics_dispatch.specs.Machine.Tasks.{had_by, own_unit}
+use Rattle.cics_dispatch.proofs.OfMachine.RegionSteps.{task_there}
 use Rattle.cics_dispatch.proofs.dispatcher.Dispatcher.unit_of.Goals as goal
 
 pub returns-in_err-at : goal.returns-in_err-at

@@ -1,12 +1,12 @@
 use Rattle.std.proofs.Common.{◌∙◌, sym, ap, subst}
 use Rattle.cics_history.specs.Execution.{IsOpenOrNone}
-use Rattle.cics_machine.specs.Regions.{region_of}
+use Rattle.cics_dispatch.specs.Machine.Regions.{region_of}
 use Rattle.cics_names.specs.declared.conditions.Condition.TheVariants.{Normal}
-use Rattle.cics_machine.specs.Replies.{plain}
-use Rattle.cics_machine.specs.Steps.{answered, unlocked}
-use Rattle.cics_machine.proofs.KeptTasks.{acting_or_none}
-use Rattle.cics_machine.proofs.RegionSteps.{seen_awake, seen_step, then_told}
-use Rattle.cics_machine.proofs.RegionBrowses.{unlocked_kept, unlock_answered}
+use Rattle.cics_dispatch.specs.Machine.Replies.{plain}
+use Rattle.cics_dispatch.specs.Machine.Steps.{answered, unlocked}
+use Rattle.cics_dispatch.proofs.OfMachine.KeptTasks.{acting_or_none}
+use Rattle.cics_dispatch.proofs.OfMachine.RegionSteps.{seen_awake, seen_step, then_told}
+use Rattle.cics_dispatch.proofs.OfMachine.RegionBrowses.{unlocked_kept, unlock_answered}
 use Rattle.cics_dispatch.proofs.dispatcher.Dispatcher.unlock.Goals as goal
 
 pub invariant_of-self : goal.invariant_of-self

@@ -1,9 +1,9 @@
 use Rattle.std.proofs.Common.{◌∙◌, ap, sym, subst, Some}
-use Rattle.cics_machine.specs.Calls.{HasReady, IsStepOrRefused, going_on, waiting_for}
-use Rattle.cics_machine.specs.Emptied.{whole}
-use Rattle.cics_machine.proofs.Emptied.{told_refilled}
-use Rattle.cics_machine.proofs.Ready.{ready_to}
-use Rattle.cics_machine.proofs.RegionSteps.{tried_told, tried_waits, refused_as_was, waits_for, wait_within, wait_awake, wait_ready, wait_open, wait_told}
+use Rattle.cics_dispatch.specs.Machine.Calls.{HasReady, IsStepOrRefused, going_on, waiting_for}
+use Rattle.cics_dispatch.specs.Machine.Emptied.{whole}
+use Rattle.cics_dispatch.proofs.OfMachine.Emptied.{told_refilled}
+use Rattle.cics_dispatch.proofs.OfMachine.Ready.{ready_to}
+use Rattle.cics_dispatch.proofs.OfMachine.RegionSteps.{tried_told, tried_waits, refused_as_was, waits_for, wait_within, wait_awake, wait_ready, wait_open, wait_told}
 use Rattle.cics_dispatch.proofs.dispatcher.Dispatcher.update.Goals as goal
 
 pub execute-requires-clause-awake : goal.execute-requires-clause-awake

@@ -1,16 +1,16 @@
 use Rattle.std.proofs.Common.{◌≡◌, ◌∙◌, sym, ap, subst, refl, Some}
-use Rattle.cics_machine.specs.Regions.{region_of, IsRegionKept}
+use Rattle.cics_dispatch.specs.Machine.Regions.{region_of, IsRegionKept}
 use Rattle.std.specs.Prelude.{[], All}
-use Rattle.cics_machine.specs.Machine.{Machine, with_waiting}
-use Rattle.cics_machine.specs.Steps.{with_outcome}
-use Rattle.cics_machine.specs.Waking.{woken}
-use Rattle.cics_machine.specs.Notes.{IsFirstFree}
-use Rattle.cics_machine.specs.KeptTasks.{AreTasksKept, IsWaitKept}
-use Rattle.cics_machine.proofs.KeptTasks.{kept_aside, waits_aside}
-use Rattle.cics_machine.proofs.OwnedUnits.{owned_suspended}
-use Rattle.cics_machine.proofs.RegionSteps.{kept_as}
-use Rattle.cics_machine.proofs.RegionWaking.{woken_kept}
-use Rattle.cics_machine.proofs.Looks.{went_back}
+use Rattle.cics_dispatch.specs.Machine.Machine.{Machine, with_waiting}
+use Rattle.cics_dispatch.specs.Machine.Steps.{with_outcome}
+use Rattle.cics_dispatch.specs.Machine.Waking.{woken}
+use Rattle.cics_dispatch.specs.Machine.Notes.{IsFirstFree}
+use Rattle.cics_dispatch.specs.Machine.KeptTasks.{AreTasksKept, IsWaitKept}
+use Rattle.cics_dispatch.proofs.OfMachine.KeptTasks.{kept_aside, waits_aside}
+use Rattle.cics_dispatch.proofs.OfMachine.OwnedUnits.{owned_suspended}
+use Rattle.cics_dispatch.proofs.OfMachine.RegionSteps.{kept_as}
+use Rattle.cics_dispatch.proofs.OfMachine.RegionWaking.{woken_kept}
+use Rattle.cics_dispatch.proofs.OfMachine.Looks.{went_back}
 use Rattle.cics_dispatch.proofs.dispatcher.Dispatcher.wake.Goals as goal
 use Rattle.cics_dispatch.proofs.dispatcher.Dispatcher.wake.Goals.{After-remove, After-drop-self-inside-in-Err}
 

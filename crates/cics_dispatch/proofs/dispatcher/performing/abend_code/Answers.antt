@@ -2,8 +2,8 @@ use Rattle.std.proofs.Common.{◌≡◌, ◌∙◌, sym, ap, ℕ, List, [], ◌�
 use Rattle.cics_names.specs.Ebcdic.{code_of}
 use Rattle.cics_names.specs.Names.{name_of}
 use Rattle.cics_names.specs.declared.names.NameFault.{NameFault}
-use Rattle.cics_machine.specs.Machine.{no_code}
-use Rattle.cics_machine.specs.Steps.{code_of as abend_code_of}
+use Rattle.cics_dispatch.specs.Machine.Machine.{no_code}
+use Rattle.cics_dispatch.specs.Machine.Steps.{code_of as abend_code_of}
 use Rattle.cics_dispatch.proofs.dispatcher.performing.abend_code.Goals as goal
 
 -- four question marks name the code

@@ -4,7 +4,7 @@ use Rattle.std.proofs.lemmas.List.{take_more, flat_map_more}
 use Rattle.std.proofs.lemmas.Option.{get_or_from_slice_get}
 use Rattle.cics_names.specs.Stamps.{number_stamp, item_stamp}
 use Rattle.cics_names.proofs.Stamps.{appended_two}
-use Rattle.cics_machine.specs.Stamps.{task_stamp}
+use Rattle.cics_dispatch.specs.Machine.Stamps.{task_stamp}
 use Rattle.cics_dispatch.proofs.dispatcher.stamping.stamp_tasks.Goals as goal
 
 -- one task more is stamped

@@ -1,7 +1,7 @@
 use Rattle.std.proofs.Common.{◌≡◌, ◌++◌, take}
 use Rattle.std.specs.List.{flat_map}
 use Rattle.cics_names.specs.Stamps.{item_stamp}
-use Rattle.cics_machine.specs.Stamps.{task_stamp}
+use Rattle.cics_dispatch.specs.Machine.Stamps.{task_stamp}
 use Rattle.cics_dispatch.proofs.dispatcher.stamping.stamp_tasks.Given as goal
 
 -- the tasks that were passed are stamped

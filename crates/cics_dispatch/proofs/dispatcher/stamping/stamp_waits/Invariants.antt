@@ -2,7 +2,7 @@ use Rattle.std.proofs.Common.{◌≡◌, ◌++◌, map}
 use Rattle.std.specs.List.{flat_map}
 use Rattle.std.specs.Map.Iter.{deref}
 use Rattle.cics_names.specs.Stamps.{item_stamp}
-use Rattle.cics_machine.specs.Stamps.{wait_stamp}
+use Rattle.cics_dispatch.specs.Machine.Stamps.{wait_stamp}
 use Rattle.cics_dispatch.proofs.dispatcher.stamping.stamp_waits.Given as goal
 
 -- the waits that were passed are stamped

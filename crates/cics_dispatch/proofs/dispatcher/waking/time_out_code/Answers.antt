@@ -2,7 +2,7 @@ use Rattle.std.proofs.Common.{◌≡◌, ◌∙◌, sym, ℕ, List, [], ◌∷�
 use Rattle.cics_names.specs.Ebcdic.{code_of}
 use Rattle.cics_names.specs.Names.{name_of}
 use Rattle.cics_names.specs.declared.names.NameFault.{NameFault}
-use Rattle.cics_machine.specs.Machine.{timed_out}
+use Rattle.cics_dispatch.specs.Machine.Machine.{timed_out}
 use Rattle.cics_dispatch.proofs.dispatcher.waking.time_out_code.Goals as goal
 
 -- the letters AKCS name the code

@@ -1,8 +1,8 @@
 use Rattle.std.proofs.Common.{subst}
-use Rattle.cics_machine.specs.Steps.{attached}
-use Rattle.cics_machine.specs.Answers.{IsHeadlineRegion, IsSerializableRegion, attach_may_want}
-use Rattle.cics_machine.specs.Notes.{IsRemembered}
-use Rattle.cics_machine.proofs.RegionRemembers.{after_step, remembered_attached}
+use Rattle.cics_dispatch.specs.Machine.Steps.{attached}
+use Rattle.cics_dispatch.specs.Machine.Answers.{IsHeadlineRegion, IsSerializableRegion, attach_may_want}
+use Rattle.cics_dispatch.specs.Machine.Notes.{IsRemembered}
+use Rattle.cics_dispatch.proofs.OfMachine.RegionRemembers.{after_step, remembered_attached}
 use Rattle.cics_dispatch.proofs.RegionCalls.{refused_down, made_up}
 use Rattle.cics_dispatch.proofs.regions.Region.attach.Goals as goal
 

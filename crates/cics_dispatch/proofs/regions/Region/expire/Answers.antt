@@ -1,13 +1,13 @@
 use Rattle.std.proofs.Common.{◌≡◌, ◌∙◌, sym, ap, subst, map, Some}
-use Rattle.cics_waits.specs.Notes.{given_up, forgotten, without, without_deadline, IsPlaceOf}
-use Rattle.cics_machine.specs.Waking.{expired, expired_task, first_late}
-use Rattle.cics_machine.proofs.Deadlines.{due_dropped}
-use Rattle.cics_machine.proofs.Noted.{noted_dropped}
-use Rattle.cics_machine.specs.Answers.{IsHeadlineRegion, IsSerializableRegion}
-use Rattle.cics_machine.proofs.RegionSteps.{task_there}
-use Rattle.cics_machine.proofs.RegionRemembers.{expired_in_time, remembered_early, remembered_expired, note_at}
-use Rattle.cics_machine.specs.First.{IsFirstTooLate}
-use Rattle.cics_machine.proofs.FirstWaits.{first_expired}
+use Rattle.cics_dispatch.specs.Notes.Notes.{given_up, forgotten, without, without_deadline, IsPlaceOf}
+use Rattle.cics_dispatch.specs.Machine.Waking.{expired, expired_task, first_late}
+use Rattle.cics_dispatch.proofs.OfMachine.Deadlines.{due_dropped}
+use Rattle.cics_dispatch.proofs.OfMachine.Noted.{noted_dropped}
+use Rattle.cics_dispatch.specs.Machine.Answers.{IsHeadlineRegion, IsSerializableRegion}
+use Rattle.cics_dispatch.proofs.OfMachine.RegionSteps.{task_there}
+use Rattle.cics_dispatch.proofs.OfMachine.RegionRemembers.{expired_in_time, remembered_early, remembered_expired, note_at}
+use Rattle.cics_dispatch.specs.Machine.First.{IsFirstTooLate}
+use Rattle.cics_dispatch.proofs.OfMachine.FirstWaits.{first_expired}
 use Rattle.cics_dispatch.proofs.regions.Region.expire.Goals as goal
 
 pub returns-then-self-clause-outcome : goal.returns-then-self-clause-outcome

@@ -1,7 +1,7 @@
 use Rattle.std.proofs.Common.{◌≡◌, Bool, true, false, ap, subst, refl}
 use Rattle.std.specs.Bool.{OnTrue}
-use Rattle.cics_machine.specs.Waking.{IsAtRest}
-use Rattle.cics_machine.proofs.RegionRemembers.{woken_settled, expired_in_time}
+use Rattle.cics_dispatch.specs.Machine.Waking.{IsAtRest}
+use Rattle.cics_dispatch.proofs.OfMachine.RegionRemembers.{woken_settled, expired_in_time}
 use Rattle.cics_dispatch.proofs.regions.Region.is_at_rest.Goals as goal
 
 if_true : (b : Bool) (P : Type 0) → (b ≡ true → P) → OnTrue b P

@@ -1,10 +1,10 @@
 use Rattle.std.proofs.Common.{◌∙◌, sym, ap, subst, refl, Ok, Err}
 use Rattle.std.specs.Prelude.{◌&&◌, not, if◌then◌else◌, None}
-use Rattle.cics_machine.specs.Steps.{issued_by, issued}
-use Rattle.cics_machine.specs.Answers.{may_want, IsHeadlineRegion, IsSerializableRegion}
-use Rattle.cics_machine.specs.declared.outcomes.Refused.TheVariants.{NoTask}
-use Rattle.cics_machine.specs.Settled.{goes_on}
-use Rattle.cics_machine.proofs.RegionRemembers.{remembered_issued}
+use Rattle.cics_dispatch.specs.Machine.Steps.{issued_by, issued}
+use Rattle.cics_dispatch.specs.Machine.Answers.{may_want, IsHeadlineRegion, IsSerializableRegion}
+use Rattle.cics_dispatch.specs.declared.machine.outcomes.Refused.TheVariants.{NoTask}
+use Rattle.cics_dispatch.specs.Machine.Settled.{goes_on}
+use Rattle.cics_dispatch.proofs.OfMachine.RegionRemembers.{remembered_issued}
 use Rattle.cics_dispatch.proofs.RegionCalls.{passed_on, refused_down, made_up}
 use Rattle.cics_dispatch.proofs.regions.Region.issue.Goals as goal
 

@@ -1,7 +1,7 @@
 use Rattle.std.proofs.Common.{◌≡◌, ◌∙◌, ap, subst}
 use Rattle.std.specs.Prelude.{IfOk}
-use Rattle.cics_machine.specs.Answers.{IsHeadlineRegion, IsSerializableRegion, region_listing, replayed_listing, without_tasks}
-use Rattle.cics_machine.proofs.RegionSteps.{IfOk-then}
+use Rattle.cics_dispatch.specs.Machine.Answers.{IsHeadlineRegion, IsSerializableRegion, region_listing, replayed_listing, without_tasks}
+use Rattle.cics_dispatch.proofs.OfMachine.RegionSteps.{IfOk-then}
 use Rattle.cics_dispatch.proofs.regions.Region.listing.Goals as goal
 
 pub returns-clause-listing : goal.returns-clause-listing

@@ -1,5 +1,5 @@
 use Rattle.std.proofs.lemmas.Bool.{false≢true}
-use Rattle.cics_machine.proofs.Noted.{noted_empty}
+use Rattle.cics_dispatch.proofs.OfMachine.Noted.{noted_empty}
 use Rattle.cics_dispatch.proofs.regions.Region.new.Goals as goal
 
 -- a region without a task remembers nothing

@@ -1,6 +1,6 @@
 use Rattle.std.proofs.Common.{◌≡◌, subst}
 use Rattle.std.specs.Prelude.{IfOk}
-use Rattle.cics_machine.specs.Answers.{IsHeadlineRegion, IsSerializableRegion, replayed_listing}
+use Rattle.cics_dispatch.specs.Machine.Answers.{IsHeadlineRegion, IsSerializableRegion, replayed_listing}
 use Rattle.cics_dispatch.proofs.regions.Region.replayed.Goals as goal
 
 pub returns-clause-replayed : goal.returns-clause-replayed

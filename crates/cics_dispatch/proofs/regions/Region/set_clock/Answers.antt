@@ -1,8 +1,8 @@
 use Rattle.std.proofs.Common.{subst, false}
-use Rattle.cics_machine.specs.Waking.{clock_set}
-use Rattle.cics_machine.specs.Answers.{IsHeadlineRegion, IsSerializableRegion}
-use Rattle.cics_machine.specs.Notes.{IsRemembered}
-use Rattle.cics_machine.proofs.RegionRemembers.{after_step, remembered_late, remembered_clock}
+use Rattle.cics_dispatch.specs.Machine.Waking.{clock_set}
+use Rattle.cics_dispatch.specs.Machine.Answers.{IsHeadlineRegion, IsSerializableRegion}
+use Rattle.cics_dispatch.specs.Machine.Notes.{IsRemembered}
+use Rattle.cics_dispatch.proofs.OfMachine.RegionRemembers.{after_step, remembered_late, remembered_clock}
 use Rattle.cics_dispatch.proofs.RegionCalls.{refused_down, made_up}
 use Rattle.cics_dispatch.proofs.regions.Region.set_clock.Goals as goal
 

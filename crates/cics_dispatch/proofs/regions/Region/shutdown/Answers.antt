@@ -1,8 +1,8 @@
 use Rattle.std.proofs.Common.{◌∙◌, ap}
-use Rattle.cics_machine.specs.Machine.{with_waiting}
+use Rattle.cics_dispatch.specs.Machine.Machine.{with_waiting}
 use Rattle.std.specs.Prelude.{[]}
-use Rattle.cics_machine.proofs.RegionShutdown.{ended_waiting}
-use Rattle.cics_machine.proofs.RegionRemembers.{remembered_alone}
+use Rattle.cics_dispatch.proofs.OfMachine.RegionShutdown.{ended_waiting}
+use Rattle.cics_dispatch.proofs.OfMachine.RegionRemembers.{remembered_alone}
 use Rattle.cics_dispatch.proofs.regions.Region.shutdown.Goals as goal
 
 pub returns-clause-committed : goal.returns-clause-committed

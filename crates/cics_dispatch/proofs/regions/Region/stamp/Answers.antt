@@ -1,7 +1,7 @@
 use Rattle.std.proofs.Common.{◌≡◌, ◌++◌, subst}
 use Rattle.std.specs.Prelude.{OnOk}
-use Rattle.cics_machine.specs.Answers.{IsHeadlineRegion, IsSerializableRegion}
-use Rattle.cics_machine.specs.Stamps.{region_stamp}
+use Rattle.cics_dispatch.specs.Machine.Answers.{IsHeadlineRegion, IsSerializableRegion}
+use Rattle.cics_dispatch.specs.Machine.Stamps.{region_stamp}
 use Rattle.cics_dispatch.proofs.regions.Region.stamp.Goals as goal
 
 pub returns-clause-stamp : goal.returns-clause-stamp

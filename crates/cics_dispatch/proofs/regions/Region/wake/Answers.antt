@@ -1,18 +1,18 @@
 use Rattle.std.specs.Prelude.{◌≡◌, Bool, true, false, All, refl}
 use Rattle.std.proofs.Common.{◌∙◌, sym, ap, subst, IfSome, IfNone, Ok}
 use Rattle.std.proofs.lemmas.Bool.{false≢true}
-use Rattle.cics_waits.specs.Notes.{NotesValue}
-use Rattle.cics_machine.specs.Machine.{Machine}
-use Rattle.cics_machine.specs.declared.findings.Free.{Free}
-use Rattle.cics_machine.specs.Notes.{AreNotedNow, IsFreeAt, AreSettled, IsRemembered}
-use Rattle.cics_machine.specs.Settled.{IsInTime}
-use Rattle.cics_machine.specs.Waking.{woken}
-use Rattle.cics_machine.specs.Answers.{IsHeadlineRegion, IsSerializableRegion}
-use Rattle.cics_machine.specs.Tasks.{had_by, own_unit}
-use Rattle.cics_machine.proofs.Deadlines.{due_within}
-use Rattle.cics_machine.proofs.FirstWaits.{first_woken}
-use Rattle.cics_machine.proofs.RegionPerforming.{refused_memory}
-use Rattle.cics_machine.proofs.RegionRemembers.{woken_settled, settled_free, remembered_woken}
+use Rattle.cics_dispatch.specs.Notes.Notes.{NotesValue}
+use Rattle.cics_dispatch.specs.Machine.Machine.{Machine}
+use Rattle.cics_dispatch.specs.declared.machine.findings.Free.{Free}
+use Rattle.cics_dispatch.specs.Machine.Notes.{AreNotedNow, IsFreeAt, AreSettled, IsRemembered}
+use Rattle.cics_dispatch.specs.Machine.Settled.{IsInTime}
+use Rattle.cics_dispatch.specs.Machine.Waking.{woken}
+use Rattle.cics_dispatch.specs.Machine.Answers.{IsHeadlineRegion, IsSerializableRegion}
+use Rattle.cics_dispatch.specs.Machine.Tasks.{had_by, own_unit}
+use Rattle.cics_dispatch.proofs.OfMachine.Deadlines.{due_within}
+use Rattle.cics_dispatch.proofs.OfMachine.FirstWaits.{first_woken}
+use Rattle.cics_dispatch.proofs.OfMachine.RegionPerforming.{refused_memory}
+use Rattle.cics_dispatch.proofs.OfMachine.RegionRemembers.{woken_settled, settled_free, remembered_woken}
 use Rattle.cics_dispatch.proofs.regions.Region.wake.Goals as goal
 
 -- right notes are remembered while a command may have to be looked at

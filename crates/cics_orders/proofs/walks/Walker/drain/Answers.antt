@@ -1,5 +1,5 @@
 use Rattle.std.proofs.Common.{◌∙◌, true, false, sym, subst}
-use Rattle.cics_machine.specs.Waking.{IsAtRest}
+use Rattle.cics_dispatch.specs.Machine.Waking.{IsAtRest}
 use Rattle.cics_orders.specs.Giving.{State, drained_once, Takes}
 use Rattle.cics_orders.proofs.Draining.{once_fewer, drained_on, drained_none, drained_rests}
 use Rattle.cics_orders.proofs.walks.Walker.drain.Goals as goal

@@ -4,7 +4,7 @@ use Rattle.std.proofs.lemmas.Bool.{ltb-true}
 use Rattle.std.proofs.lemmas.Option.{slice_get_read, slice_get_past}
 use Rattle.std.proofs.lemmas.Result.{on_ok_weaker}
 use Rattle.cics_script.specs.Lines.{line}
-use Rattle.cics_plans.specs.Taking.{NumberedLine}
+use Rattle.cics_orders.specs.Plans.Taking.{NumberedLine}
 use Rattle.cics_orders.specs.Giving.{after_line, counted, drained}
 use Rattle.cics_orders.proofs.Steps.{next_says, gives_none, gives, said_next, no_lane_says}
 use Rattle.cics_orders.proofs.walks.Walker.give.Goals as goal

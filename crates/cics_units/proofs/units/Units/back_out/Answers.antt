@@ -10,7 +10,7 @@ use Rattle.cics_history.proofs.Alone.{leaves_no_trace}
 use Rattle.cics_history.specs.declared.ops.UnitState.TheVariants.{BackedOut}
 use Rattle.cics_images.specs.Cells.{AreReadyInTurn, LeadBack, images_of, is_unnamed, all_swept}
 use Rattle.cics_units.specs.Parts.{CoreValue}
-use Rattle.cics_opening.specs.StoreMatching.{shown_store, cell_of_any, any_content, AnyLeads, IsAnyReady, any_undone, any_swept, any_holds, AnyKeep}
+use Rattle.cics_units.specs.Opening.StoreMatching.{shown_store, cell_of_any, any_content, AnyLeads, IsAnyReady, any_undone, any_swept, any_holds, AnyKeep}
 use Rattle.cics_units.specs.ImageRows.{AreOthersKept, kept_by}
 use Rattle.cics_units.specs.ImageRowsLaws.{held_after_end}
 use Rattle.cics_units.specs.Cores.{core_value}

@@ -13,7 +13,7 @@ use Rattle.cics_images.specs.Cells.{is_unnamed, all_swept}
 use Rattle.cics_units.specs.KeptUnits.{state_shown, AreValid}
 use Rattle.cics_units.specs.Parts.{CoreValue}
 use Rattle.cics_units.specs.StoreEnds.{any_fixed, ends_settled}
-use Rattle.cics_opening.specs.StoreMatching.{StoreValue, AnyImage, cell_of_any, any_content, any_swept, any_holds, AnyKeep}
+use Rattle.cics_units.specs.Opening.StoreMatching.{StoreValue, AnyImage, cell_of_any, any_content, any_swept, any_holds, AnyKeep}
 use Rattle.cics_units.specs.ImageRows.{AreOthersKept, kept_by, AreHeldForImages}
 use Rattle.cics_units.specs.ImageRowsLaws.{held_after_end}
 use Rattle.cics_units.proofs.KeptUnits.{kept_headline, kept_serializable, kept_committed, committed_store}

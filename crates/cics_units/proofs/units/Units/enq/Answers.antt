@@ -6,7 +6,7 @@ use Rattle.cics_history.specs.Execution.{IsOpenUnit, IsOpenOrNone, unit_or_next,
 use Rattle.cics_history.specs.Events.{may_act}
 use Rattle.cics_history.specs.Headline.{IsHeadline}
 use Rattle.cics_history.specs.Serial.{IsSerializable}
-use Rattle.cics_opening.specs.StoreMatching.{shown_store}
+use Rattle.cics_units.specs.Opening.StoreMatching.{shown_store}
 use Rattle.cics_units.specs.Cores.{core_value}
 use Rattle.cics_units.specs.KeptUnits.{state_shown, AreValid}
 use Rattle.cics_units.specs.Parts.{CoreValue, AreRoomier, AreEnqueued, IsCoreAsBefore}

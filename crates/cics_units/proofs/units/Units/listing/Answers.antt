@@ -3,7 +3,7 @@ use Rattle.cics_history.specs.Headline.{IsHeadline}
 use Rattle.cics_history.specs.Serial.{IsSerializable}
 use Rattle.cics_units.specs.Cores.{core_value}
 use Rattle.cics_units.specs.KeptUnits.{state_shown}
-use Rattle.cics_replay.specs.Listings.{listing_of, replayed_listing}
+use Rattle.cics_units.specs.Replay.Listings.{listing_of, replayed_listing}
 use Rattle.cics_units.proofs.KeptUnits.{store_is, kept_headline, kept_serializable}
 use Rattle.cics_units.proofs.units.Units.listing.Goals as goal
 

@@ -9,7 +9,7 @@ use Rattle.cics_images.specs.StoreCells.{with_temp_storage}
 use Rattle.cics_units.specs.Cores.{core_value}
 use Rattle.cics_units.specs.KeptUnits.{state_shown, AreValid}
 use Rattle.cics_units.specs.Parts.{CoreValue}
-use Rattle.cics_opening.specs.StoreMatching.{shown_store}
+use Rattle.cics_units.specs.Opening.StoreMatching.{shown_store}
 use Rattle.cics_units.specs.StorePlaces.{number_asked}
 use Rattle.cics_units.proofs.KeptUnits.{kept_headline, kept_serializable}
 use Rattle.cics_units.proofs.TsReadings.{asked_told, reading_told, read_state, read_kept, read_store}

@@ -2,7 +2,7 @@ use Rattle.std.proofs.Common.{arith, ◌≡◌, ◌≤◌, ◌∙◌, length, sy
 use Rattle.std.specs.Vec.{vec_capacity}
 use Rattle.cics_units.specs.Cores.{core_value}
 use Rattle.cics_units.specs.KeptUnits.{state_shown, opened_store, AreValid}
-use Rattle.cics_opening.specs.StoreMatching.{StoreValue}
+use Rattle.cics_units.specs.Opening.StoreMatching.{StoreValue}
 use Rattle.cics_units.proofs.KeptUnits.{kept_headline, kept_serializable, kept_begins}
 use Rattle.cics_units.proofs.ShownUnits.{begun_shown}
 use Rattle.cics_units.proofs.units.Units.start.Goals as goal

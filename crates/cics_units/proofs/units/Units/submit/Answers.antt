@@ -13,7 +13,7 @@ use Rattle.cics_history.specs.declared.ops.Entry.{Entry}
 use Rattle.cics_history.specs.declared.ops.Done.TheVariants.{Answered}
 use Rattle.cics_units.specs.Cores.{core_value}
 use Rattle.cics_units.specs.KeptUnits.{state_shown, AreValid}
-use Rattle.cics_opening.specs.StoreMatching.{shown_store}
+use Rattle.cics_units.specs.Opening.StoreMatching.{shown_store}
 use Rattle.cics_units.specs.Uses.{uses_if, AreFreeFor}
 use Rattle.cics_units.specs.Parts.{CoreValue}
 use Rattle.cics_units.specs.Executed.{IsExecuted}

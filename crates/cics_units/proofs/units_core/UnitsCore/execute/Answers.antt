@@ -14,7 +14,7 @@ use Rattle.cics_units.specs.Applied.{IsApplied, IsBound, read_given}
 use Rattle.cics_units.specs.Cores.{core_value}
 use Rattle.cics_units.specs.Executed.{IsDone, IsExecuted}
 use Rattle.cics_units.specs.Parts.{CoreValue, AreRoomier, IsCoreAsBefore, given_record}
-use Rattle.cics_opening.specs.StoreMatching.{AnyImage}
+use Rattle.cics_units.specs.Opening.StoreMatching.{AnyImage}
 use Rattle.cics_units.specs.TableInPlace.{is_read}
 use Rattle.cics_units.specs.ImageRows.{kept_by, AreOthersKept}
 use Rattle.cics_units.specs.Uses.{uses_if, listed, taken_all}

@@ -1,7 +1,7 @@
 use Rattle.std.proofs.Common.{◌∙◌, sym, ap}
 use Rattle.cics_names.specs.Keyed.{value_at}
 use Rattle.cics_history.specs.declared.ops.Answer.{Answer}
-use Rattle.cics_opening.proofs.Changing.{IfOk-more}
+use Rattle.cics_units.proofs.OfOpening.Changing.{IfOk-more}
 use Rattle.cics_units.proofs.FileChanges.{read_answer}
 use Rattle.cics_units.proofs.units_core.UnitsCore.given_record.Goals as goal
 

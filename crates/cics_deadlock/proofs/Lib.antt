@@ -1,4 +1,0 @@
-mod Rows
-pub mod Ways
-pub mod Walked
-pub mod Told

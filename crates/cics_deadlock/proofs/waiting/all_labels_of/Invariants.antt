@@ -1,9 +1,0 @@
-use Rattle.std.proofs.Common.{◌≡◌, ◌++◌, drop}
-use Rattle.std.specs.Prelude.{map}
-use Rattle.cics_deadlock.specs.Deadlocks.{labels_of}
-use Rattle.cics_deadlock.proofs.waiting.all_labels_of.Given as goal
-
--- the labels so far, and those of the circles that are left, are all
-abbrev pub invariant-loop-circle : goal.invariant-loop-circle
-invariant-loop-circle l =
-    l.all ++ map (labels_of l.region.machine) (drop l.circle-index l.circles) ≡ map (labels_of l.region.machine) l.circles

@@ -1,0 +1,4 @@
+pub mod Rows
+pub mod Ways
+pub mod Walked
+pub mod Told

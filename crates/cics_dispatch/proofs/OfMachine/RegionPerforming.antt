@@ -1,0 +1,183 @@
+-- The commands of the tasks of a region: what their checks tell, and what they answer.
+use Rattle.std.specs.Prelude.{◌≡◌, ℕ, ◌<◌, ◌≤◌, ◌&&◌, if◌then◌else◌, Bool, true, false, Option, Some, None, is_some, is_none, Result, Ok, Err, OnErr, IsErr, IsErrAnd, length, slice_get, take, [], ◌∷◌, refl}
+use Rattle.std.specs.Option.{option_copied}
+use Rattle.std.proofs.Common.{Bor, ◌∙◌, sym, ap, subst}
+use Rattle.std.proofs.lemmas.Bool.{false≢true}
+use Rattle.cics_names.specs.Keyed.{Bytes, value_at}
+use Rattle.cics_names.specs.declared.conditions.Condition.{Condition}
+use Rattle.cics_browse.specs.Positions.{Position}
+use Rattle.cics_ksds.specs.declared.definition.FileDef.{FileDef}
+use Rattle.cics_history.specs.declared.ops.Op.{Op}
+use Rattle.cics_dispatch.specs.Machine.Machine.{Machine, Task, RegionValue, definition_of, task_at, is_waiting}
+use Rattle.cics_dispatch.specs.Machine.Lengths.{first_fault, key_fault}
+use Rattle.cics_dispatch.specs.Machine.Checks.{file_fault, named_fault, defined_fault, browse_fault, back_fault, fault_of, open_key}
+use Rattle.cics_names.specs.Commands.{file_named}
+use Rattle.cics_dispatch.specs.Machine.Steps.{Stepped, with_outcome, op_of, by_op, performed, checked, issue_refusal, refused_or, issued_by, issued}
+use Rattle.cics_dispatch.specs.Machine.Calls.{MayPerform, IsAwake, HasBrowse}
+use Rattle.cics_dispatch.specs.Machine.Answers.{is_growing, passes_checks, may_want, IsStep}
+use Rattle.cics_names.specs.declared.commands.Command.{Command}
+use Rattle.cics_names.specs.declared.commands.Verb.{Verb}
+use Rattle.cics_names.specs.declared.commands.Verb.TheVariants.{Unlock, ResetBr, ReadNext, ReadPrev, EndBr, Deq, Syncpoint, Rollback, Return, Abend}
+use Rattle.cics_dispatch.specs.declared.machine.outcomes.Outcome.{Outcome}
+use Rattle.cics_dispatch.specs.declared.machine.outcomes.Refused.{Refused}
+use Rattle.cics_dispatch.specs.declared.machine.outcomes.Refused.TheVariants.{NoMemory, TaskEnded, TaskWaiting}
+use Rattle.cics_dispatch.proofs.OfMachine.TaskPlaces.{place_of_task}
+use Rattle.cics_dispatch.proofs.OfMachine.Ready.{value_within}
+use Rattle.cics_dispatch.proofs.OfMachine.RegionSteps.{task_there, one_task}
+use Rattle.cics_dispatch.proofs.OfMachine.RegionEnqueuing.{first_fit}
+
+-- ---- The updating command that is asked for
+
+-- there is something behind a reference just if there is one
+pub copied_some : {X : Type 0} (o : Option (Bor X)) → is_some (option_copied o) ≡ is_some o
+copied_some None = refl
+copied_some (Some x) = refl
+
+-- a command that asks for an updating command takes memory
+pub op_grows : (m : Machine) (t : Task) (verb : Verb) (c : Op) → op_of m t verb ≡ Some c → is_growing verb ≡ true
+op_grows m t (Unlock f) c is = cc
+op_grows m t (ResetBr f key given generic equal) c is = cc
+op_grows m t (EndBr f) c is = cc
+op_grows m t (Deq value n) c is = cc
+op_grows m t Syncpoint c is = cc
+op_grows m t Rollback c is = cc
+op_grows m t Return c is = cc
+op_grows m t (Abend code) c is = cc
+op_grows m t verb c is = refl
+
+-- what holds holds of a refusal
+pub on_error : {A E Q : Type 0} (r : Result A E) → Q → OnErr r Q
+on_error (Ok a) q = tt
+on_error (Err e) q = q
+
+-- a command that asks for an updating command is performed as that asks, or else as another
+pub performed_by : (m : Machine) (t : Task) (c : Command) (o : Option Op) → op_of m t c.verb ≡ o → by_op m t c o ≡ performed m t c
+performed_by m t c o is = ap (by_op m t c) (sym is)
+
+-- ---- A command that is issued
+
+module _ (m : Machine) (label : Bytes) (c : Command) (t : Task) (is : task_at m.tasks label ≡ Some t) where
+  -- whether it is refused
+  refusal : (ended waits : Bool) → t.has_ended ≡ ended → is_waiting m.waiting label ≡ waits →
+      issue_refusal m (task_at m.tasks label) ≡ (if ended then Some TaskEnded else if waits then Some TaskWaiting else None)
+  refusal ended waits has waiting =
+      ap (issue_refusal m) is
+      ∙ (λ i. if has i then Some TaskEnded else if (ap (is_waiting m.waiting) (place_of_task m.tasks label t is).2 ∙ waiting) i then Some TaskWaiting else None)
+
+  -- of a task that waits it is refused
+  pub issued_waiting : t.has_ended ≡ false → is_waiting m.waiting label ≡ true → (issued m label c).outcome ≡ Err TaskWaiting
+  issued_waiting has waiting =
+      ap (λ o. (issued_by m c o).outcome) is
+      ∙ ap (λ r. (refused_or m r (checked m t c (fault_of m t c.verb))).outcome) (sym (ap (issue_refusal m) is) ∙ refusal false true has waiting)
+
+  -- of a task that goes on it is checked
+  pub issued_checked : (fault : Option Condition) → t.has_ended ≡ false → is_waiting m.waiting label ≡ false → fault_of m t c.verb ≡ fault →
+      issued m label c ≡ refused_or m None (checked m t c fault)
+  issued_checked fault has waiting checks =
+      ap (issued_by m c) is
+      ∙ (λ i. refused_or m ((sym (ap (issue_refusal m) is) ∙ refusal false false has waiting) i) (checked m t c (checks i)))
+
+  -- and it may want memory if it takes some and its checks have passed
+  pub wants_memory : t.has_ended ≡ false → is_waiting m.waiting label ≡ false → fault_of m t c.verb ≡ None → is_growing c.verb ≡ true → may_want m label c ≡ true
+  wants_memory has waiting passes grows =
+      (λ i. is_none (refusal false false has waiting i) && grows i && (ap (passes_checks m c.verb) is ∙ ap is_none passes) i)
+
+-- the task of a command that is issued is found at its place, hasn't ended, and waits or doesn't
+pub record IsIssuedTo (m : Machine) (label : Bytes) (at : ℕ) (t : Task) (waits : Bool) : Type 0 where
+  pub of_label : task_at m.tasks label ≡ Some t
+  pub there : slice_get m.tasks at ≡ Some t
+  pub goes_on : t.has_ended ≡ false
+  pub waiting : is_waiting m.waiting label ≡ waits
+
+pub issued_to : {old : RegionValue} (now : RegionValue) (label : Bytes) (at : ℕ) (t : Task) (waits : Bool) → old ≡ now → slice_get old.machine.tasks at ≡ task_at old.machine.tasks label →
+    slice_get old.machine.tasks at ≡ Some t → t.has_ended ≡ false → is_waiting old.machine.waiting label ≡ waits → IsIssuedTo now.machine label at t waits
+issued_to now label at t waits seen found there goes_on waiting = subst (λ v. IsIssuedTo v.machine label at t waits) seen (record {
+  of_label = sym found ∙ there;
+  there = there;
+  goes_on = goes_on;
+  waiting = waiting;
+})
+
+-- it is awake if it doesn't wait
+pub issued_awake : (m : Machine) (label : Bytes) (at : ℕ) (t : Task) → IsIssuedTo m label at t false → IsAwake m at
+issued_awake m label at t to = λ s here.
+    ap (λ x. is_waiting m.waiting x.label) (one_task m.tasks at here to.there) ∙ ap (is_waiting m.waiting) (place_of_task m.tasks label t to.of_label).2 ∙ to.waiting
+
+-- what comes of its command is the step's
+pub issued_told : (m : Machine) (label : Bytes) (c : Command) (at : ℕ) (t : Task) (fault : Option Condition) (x : Outcome) (new : Machine) → IsIssuedTo m label at t false → fault_of m t c.verb ≡ fault →
+    with_outcome x new ≡ checked m t c fault → ((issued m label c).outcome ≡ Ok x) × (new ≡ (issued m label c).machine)
+issued_told m label c at t fault x new to checks told =
+    let step = issued_checked m label c t to.of_label fault to.goes_on to.waiting checks in
+    (ap (λ s. s.outcome) step ∙ ap (λ s. Ok s.outcome) (sym told), ap (λ s. s.machine) told ∙ ap (λ s. s.machine) (sym step))
+
+-- a refusal for want of memory, which may come and changes nothing, is the step's
+pub refused_memory : {X : Type 0} (wants : Bool) (old : RegionValue) (s : Stepped (Result X Refused)) (r : Result X Refused) (new : RegionValue) →
+    IsErr r × IsErrAnd r (λ e. e ≡ NoMemory) → wants ≡ true → new ≡ old → IsStep wants old s r new
+refused_memory wants old s (Ok x) new is may same = absurd (false≢true is.0)
+refused_memory wants old s (Err e) new is may same = subst (λ e. IsStep wants old s (Err e) new) (sym is.1) (may, same)
+
+-- ---- A command that updates nothing
+
+-- the file of a command whose checks have passed is defined
+pub file_there : (m : Machine) (t : Task) (verb : Verb) (f : Bytes) → file_named verb ≡ Some f → fault_of m t verb ≡ None →
+    is_some (definition_of m f) ≡ true
+file_there m t verb f named passes = by (definition_of m f) (subst (λ o. named_fault m t verb o ≡ None) named passes)
+  where
+    by : (o : Option FileDef) → defined_fault o (λ d. file_fault d (open_key m t f) (value_at f t.browses) verb) ≡ None → is_some o ≡ true
+    by None e = cc
+    by (Some d) e = refl
+
+-- a command that moves a browse
+abbrev pub moves_browse : Verb → Bool
+moves_browse (ResetBr f key given generic equal) = true
+moves_browse (ReadNext f n) = true
+moves_browse (ReadPrev f n) = true
+moves_browse _ = false
+
+-- the browse of one whose checks have passed is open
+pub browse_there : (m : Machine) (t : Task) (verb : Verb) (f : Bytes) → file_named verb ≡ Some f → moves_browse verb ≡ true → fault_of m t verb ≡ None →
+    is_some (value_at f t.browses) ≡ true
+browse_there m t verb f named moves passes = by (definition_of m f) (subst (λ o. named_fault m t verb o ≡ None) named passes)
+  where
+    last : (fault : Option Condition) (browse : Option Position) → first_fault (fault ∷ browse_fault browse ∷ []) ≡ None → is_some browse ≡ true
+    last (Some condition) browse e = cc
+    last None None e = cc
+    last None (Some p) e = refl
+
+    unless_open : (browse : Option Position) → browse_fault browse ≡ None → is_some browse ≡ true
+    unless_open None e = cc
+    unless_open (Some p) e = refl
+
+    back : (browse : Option Position) → back_fault browse ≡ None → is_some browse ≡ true
+    back None e = cc
+    back (Some p) e = refl
+
+    moving : (d : FileDef) (v : Verb) (browse : Option Position) → moves_browse v ≡ true → file_fault d (open_key m t f) browse v ≡ None → is_some browse ≡ true
+    moving d (ResetBr g key given generic equal) browse moves e = last (key_fault d key given generic) browse e
+    moving d (ReadNext g n) browse moves e = unless_open browse e
+    moving d (ReadPrev g n) browse moves e = back browse e
+    moving d v browse moves e = cc
+
+    by : (o : Option FileDef) → defined_fault o (λ d. file_fault d (open_key m t f) (value_at f t.browses) verb) ≡ None → is_some (value_at f t.browses) ≡ true
+    by None e = cc
+    by (Some d) e = moving d verb (value_at f t.browses) moves e
+
+-- what its checks have told of the task at a place that may perform a command: its file is defined,
+-- and its browse is open
+module _ (m : Machine) (at : ℕ) (verb : Verb) (f : Bytes) where
+  pub file_of : at < length m.tasks → MayPerform m at verb → file_named verb ≡ Some f → is_some (definition_of m f) ≡ true
+  file_of within may named = task_there m.tasks at within (λ t there. file_there m t verb f named (may.passed t there))
+
+  pub browse_of : MayPerform m at verb → file_named verb ≡ Some f → moves_browse verb ≡ true → HasBrowse m at f
+  browse_of may named moves = λ t there. browse_there m t verb f named moves (may.passed t there)
+
+-- LENGTH of a DEQ whose checks have passed
+pub deq_count : (m : Machine) (t : Task) (verb : Verb) (value : Bytes) (n : ℕ) → verb ≡ Deq value n → fault_of m t verb ≡ None →
+    (1 ≤ n) × (n ≤ 255) × (n ≤ length value)
+deq_count m t verb value n is passes = value_within value n (subst (λ v. fault_of m t v ≡ None) is passes)
+
+-- and the value that it names, no longer than it may be
+pub deq_fits : (m : Machine) (at : ℕ) (verb : Verb) (value : Bytes) (n : ℕ) (bytes : Bytes) → at < length m.tasks → MayPerform m at verb → verb ≡ Deq value n → bytes ≡ value →
+    (n ≡ length (take n bytes)) × (length (take n bytes) ≤ 255)
+deq_fits m at verb value n bytes within may is own =
+    first_fit n value bytes own (task_there m.tasks at within (λ t there. deq_count m t verb value n is (may.passed t there)))

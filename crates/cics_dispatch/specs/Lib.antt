@@ -1,0 +1,4 @@
+pub mod Machine
+pub mod Future
+pub mod Notes
+pub mod Deadlocks

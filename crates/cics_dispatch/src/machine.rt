@@ -1,0 +1,34 @@
+//! A region as a machine: the definitions of its steps, and the parts that a region is made of.
+//!
+//! `specs/Machine`, `Checks`, `Steps`, `Waking`, `Shutdown` and `Answers` define a region as a
+//! machine. `cics_dispatch` has the region, each call of which is a step. Read the modules in this
+//! order:
+//!
+//! - `outcomes`: what the calls of a region return.
+//! - `checks`: the checks before a command looks at what other units own.
+//! - `updates`: the updating command (`Op`) that a task's command asks for, if it asks for one.
+//! - `reads`, `replies`: what a command is answered.
+//! - `task`, `tasks`, `browses`, `waits`: what a region stores.
+//! - `findings`: what looks at waiting commands find.
+
+mod browses;
+mod checks;
+mod findings;
+mod outcomes;
+mod reads;
+mod replies;
+mod task;
+mod tasks;
+mod updates;
+mod waits;
+
+pub use browses::{Browses, Direction, Start, read_on};
+pub use checks::{file_fault, item_fault, value_fault};
+pub use findings::{Free, Late, Look};
+pub use outcomes::{Attempt, Ending, Expired, Number, Outcome, Refused, Reply, Woken};
+pub use reads::{plain_reply, read_plain};
+pub use replies::{reply_of_answer, reply_of_browsed, reply_of_item};
+pub use task::Task;
+pub use tasks::Tasks;
+pub use updates::{refill, take, take_op};
+pub use waits::{Suspended, Waits};

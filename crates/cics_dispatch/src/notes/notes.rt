@@ -1,0 +1,527 @@
+//! What is known of the waiting commands: the blocker and the deadline of each.
+
+ghost use Rattle.std.specs.Prelude.{◌≡◌, ◌<◌, ◌≤◌, ℕ, [], ◌∷◌, ◌++◌, length, map, All, None, Some};
+ghost use Rattle.std.specs.Prelude.{is_some, IfSome, IfNone, MatchOption, is_ok, IfOk, OnOk};
+ghost use Rattle.std.specs.Prelude.{true, false, if◌then◌else◌, slice_get, slice_set};
+ghost use Rattle.std.specs.BTreeSet.{BTreeSet as Places};
+ghost use Rattle.cics_dispatch.specs.declared.notes.notes.Note.{Note as NoteValue};
+ghost use Rattle.cics_dispatch.specs.declared.notes.notes.Parked.{Parked as ParkedValue};
+ghost use Rattle.cics_dispatch.specs.declared.notes.notes.Parked.TheVariants.{Group as OfGroup};
+ghost use Rattle.cics_dispatch.specs.Notes.Notes.{new_note, alone, in_line, count, of_line, blocker_in};
+ghost use Rattle.cics_dispatch.specs.Notes.Notes.{AreClosed, IsOpenAt, IsFirstOpen, IsNoteAt};
+ghost use Rattle.cics_dispatch.specs.Notes.Notes.{forgotten, given_up, never, without, without_deadline};
+ghost use Rattle.cics_dispatch.specs.Notes.Notes.{KeepsResources, KeepsBlockers};
+ghost use Rattle.cics_dispatch.specs.Notes.Filed.{has, AreShown, IsFirstShown, IsLeft, IsParked, KeepParked};
+ghost use Rattle.cics_dispatch.specs.Notes.Filed.{Reopens, IsAlone, IsNotOf};
+ghost use Rattle.cics_dispatch.specs.Notes.Firsts.{IsFirstBelow};
+
+use crate::notes::firsts::{Firsts, push_each};
+use cics_history::{Resource, UnitId};
+use cics_names::{Name8, NoMemory};
+use indexmap::{IndexMap, IndexSet};
+use std::alloc::Global;
+use std::collections::BTreeSet;
+use std::marker::Model;
+
+/// What is known of a waiting command.
+#[derive(Clone, Copy)]
+pub struct Note {
+    /// The label of its task.
+    pub label: Name8,
+    /// The index of its wait group. `None` if it is in none.
+    pub line: Option<usize>,
+    /// Its blocker, if it is in no wait group and its blocker is known. Else `None`.
+    pub blocker: Option<UnitId>,
+}
+
+// What a unit blocks.
+#[derive(Clone, Copy)]
+enum Parked {
+    // A wait group, by its index.
+    Group(usize),
+    // A command in no wait group, by the index of its note.
+    Row(usize),
+}
+
+// The notes with their wait groups, and which commands must be looked at.
+#[derive(Drop)]
+struct Groups {
+    // The notes, and None for each command that waits no more.
+    rows: Vec<Option<Note>>,
+    // The blocker of each wait group. None if its commands must be looked at.
+    blockers: Vec<Option<UnitId>>,
+    // The indexes of the notes of each wait group.
+    members: Vec<BTreeSet<usize>>,
+    // For each index LOOK if the command must be looked at, and is in no wait group or the first of
+    // its group. Else WAIT, or perhaps LOOK.
+    keys: Firsts,
+}
+
+// The lists of what each unit blocks, and perhaps of what it blocked before.
+type Lists = IndexMap<UnitId, Vec<Parked>>;
+
+/// Notes of the earliest waiting commands, in the order in which the waits began.
+///
+/// A command's blocker is a unit that it must wait for, as long as that releases nothing. A command
+/// whose blocker isn't known must be looked at. The commands of a wait group, a `line` in public
+/// names, use the same one resource and nothing else, and share their blocker.
+///
+/// On `NoMemory` all notes stay as they are.
+///
+/// Cost: O(log commands) to find the first command that must be looked at, to add a command, to
+/// note its blocker, and to drop it. To forget a unit costs as much for each wait group, and each
+/// command in none, that was noted as blocked by it.
+#[derive(Drop)]
+pub struct Notes {
+    groups: Groups,
+    // How many notes there are.
+    count: usize,
+    // The resource of each wait group.
+    resources: IndexSet<Resource>,
+    parked: Lists,
+    // For each index the last clock at which the task hasn't waited too long. u64::MAX if the task
+    // may wait without limit, or the command waits no more.
+    deadlines: Firsts,
+}
+
+impl Model for Notes {
+    ghost use Rattle.cics_dispatch.specs.Notes.Notes.{NotesValue};
+    ghost use Rattle.cics_dispatch.specs.Notes.Filed.{IsFiled};
+
+    ghost Value = { NotesValue };
+
+    ghost view = { λ n. record {
+      rows = n.groups.rows.items;
+      resources = n.resources.keys;
+      blockers = n.groups.blockers.items;
+      deadlines = n.deadlines;
+    } };
+
+    ghost invariant = { λ n. IsFiled n.groups.rows.items n.count n.resources.keys
+        n.groups.blockers.items n.groups.members.items n.parked.entries n.groups.keys };
+}
+
+// The key of a command that must be looked at.
+const LOOK: u64 = 0;
+
+// The key of every other command.
+const WAIT: u64 = 1;
+
+// Returns the blocker of a note's command, or of its wait group, if it is known.
+fn note_blocker(blockers: &[Option<UnitId>], note: &Note) -> Option<UnitId>
+    ensures { result ≡ blocker_in blockers.now note.now }
+{
+    let Some(group) = note.line else {
+        return note.blocker;
+    };
+    match blockers.get(group) {
+        Some(blocker) => *blocker,
+        None => None,
+    }
+}
+
+// Returns a note, if there is one and its command must be looked at.
+fn open_note(blockers: &[Option<UnitId>], row: Option<Note>) -> Option<Note>
+    ensures some { IfSome result (λ n. (row ≡ Some n) × (blocker_in blockers.now n ≡ None)) }
+    ensures none { IfNone result ((n : NoteValue) → row ≡ Some n
+        → is_some (blocker_in blockers.now n) ≡ true) }
+{
+    let note = row?;
+    match note_blocker(blockers, &note) {
+        Some(_) => None,
+        None => Some(note),
+    }
+}
+
+// Sets the key of a wait group's first command to LOOK, if the group's blocker isn't known.
+fn show_first(keys: &mut Firsts, blocker: Option<UnitId>, members: &BTreeSet<usize>)
+    requires within { (i : ℕ) → has members.now i ≡ true → i < length keys.old }
+    ensures { IsFirstShown blocker members.now keys.old keys.new }
+{
+    if blocker.is_some() {
+        return;
+    }
+    if let Some(first) = members.first() {
+        keys.set(*first, LOOK);
+    }
+}
+
+impl Groups {
+    // Returns the index and the note of the first command that must be looked at. Sets the key of
+    // each that it passes over to WAIT.
+    fn first_open(&mut self) -> Option<(usize, Note)>
+        requires { AreShown self.old }
+        ensures shown { AreShown self.new }
+        ensures rows { self.new.rows ≡ self.old.rows }
+        ensures blockers { self.new.blockers ≡ self.old.blockers }
+        ensures first { IfSome result (λ p.
+            IsOpenAt self.new.rows.items self.new.blockers.items p.0 p.1) }
+        ensures none { IfNone result (AreClosed self.new.blockers.items self.new.rows.items) }
+    {
+        while let Some(at) = self.keys.first_below(WAIT) {
+            if let Some(note) = open_note(self.blockers.as_slice(), self.rows[at]) {
+                return Some((at, note));
+            }
+            self.keys.set(at, WAIT);
+        }
+        None
+    }
+
+    // Takes the command of the note at an index out of its wait group, if it is in one.
+    fn leave(&mut self, at: usize, note: &Note)
+        requires line { IfSome note.now.line (λ g. g < length self.old.members.items) }
+        requires even { length self.old.members.items ≡ length self.old.blockers.items }
+        requires within { (g : ℕ) (s : Places ℕ) (i : ℕ)
+            → slice_get self.old.members.items g ≡ Some s → has s i ≡ true
+            → i < length self.old.keys }
+        ensures rows { self.new.rows ≡ self.old.rows }
+        ensures blockers { self.new.blockers ≡ self.old.blockers }
+        ensures left { IsLeft at note.now.line self.old.blockers.items self.old.members.items
+            self.old.keys self.new.members.items self.new.keys }
+    {
+        let Some(group) = note.line else {
+            return;
+        };
+        self.members[group].remove(&at);
+        show_first(&mut self.keys, self.blockers[group], &self.members[group]);
+    }
+
+    // Forgets the blocker of a wait group, if it is this unit. The group must then be looked at.
+    fn reopen_group(&mut self, group: usize, unit: UnitId)
+        requires { AreShown self.old }
+        ensures shown { AreShown self.new }
+        ensures reopening { Reopens unit self.old self.new }
+        ensures opened { of_line self.new.blockers.items group ≡ Some unit → ⊥ }
+    {
+        if group >= self.blockers.len() {
+            return;
+        }
+        if self.blockers[group] == Some(unit) {
+            self.blockers[group] = None;
+            show_first(&mut self.keys, None, &self.members[group]);
+        }
+    }
+
+    // Forgets the blocker of a command in no wait group, if it is this unit. The command must then
+    // be looked at.
+    fn reopen_row(&mut self, at: usize, unit: UnitId)
+        requires { AreShown self.old }
+        ensures shown { AreShown self.new }
+        ensures reopening { Reopens unit self.old self.new }
+        ensures opened { IsAlone self.new.rows.items at unit → ⊥ }
+    {
+        if at >= self.rows.len() {
+            return;
+        }
+        let Some(note) = self.rows[at] else {
+            return;
+        };
+        if note.blocker == Some(unit) {
+            self.rows[at] = Some(Note {
+                blocker: None,
+                ..note
+            });
+            self.keys.set(at, LOOK);
+        }
+    }
+
+    // Forgets a unit as the blocker of an entry of its list.
+    fn reopen_one(&mut self, what: Parked, unit: UnitId)
+        requires { AreShown self.old }
+        ensures shown { AreShown self.new }
+        ensures reopening { Reopens unit self.old self.new }
+        ensures opened { IsNotOf self.new.rows.items self.new.blockers.items unit what }
+    {
+        match what {
+            Parked::Group(group) => self.reopen_group(group, unit),
+            Parked::Row(at) => self.reopen_row(at, unit),
+        }
+    }
+
+    // Forgets a unit as the blocker of each entry of its list.
+    fn reopen(&mut self, parked: &[Parked], unit: UnitId)
+        requires { AreShown self.old }
+        ensures shown { AreShown self.new }
+        ensures reopening { Reopens unit self.old self.new }
+        ensures opened { (k : ℕ) (p : ParkedValue) → slice_get parked.now k ≡ Some p
+            → IsNotOf self.new.rows.items self.new.blockers.items unit p }
+    {
+        for place in 0..parked.len() {
+            self.reopen_one(parked[place], unit);
+        }
+    }
+}
+
+// Adds to the list of what a unit blocks. On error every list keeps what it has.
+fn park(parked: &mut Lists, unit: UnitId, what: Parked) -> Result<(), NoMemory>
+    ensures added { OnOk result (IsParked parked.new.entries unit what) }
+    ensures kept { KeepParked parked.old.entries parked.new.entries }
+{
+    let none = Vec::new(*parked.allocator());
+    parked.entry(unit)?.or_insert(none).push(what)?;
+    Ok(())
+}
+
+// Adds a wait group to what a unit blocks, unless `blocker`, the group's blocker, is that unit.
+fn park_group(
+    parked: &mut Lists,
+    group: usize,
+    blocker: Option<UnitId>,
+    unit: UnitId,
+) -> Result<(), NoMemory>
+    requires { blocker ≡ Some unit → IsParked parked.old.entries unit (OfGroup group) }
+    ensures added { OnOk result (IsParked parked.new.entries unit (OfGroup group)) }
+    ensures kept { KeepParked parked.old.entries parked.new.entries }
+{
+    if blocker == Some(unit) {
+        return Ok(());
+    }
+    park(parked, unit, Parked::Group(group))
+}
+
+impl Notes {
+    /// Returns empty notes. `alloc` gives the memory for those to come.
+    pub fn new(alloc: Global) -> Notes
+        ensures rows { result.rows ≡ [] }
+        ensures deadlines { result.deadlines ≡ [] }
+    {
+        Notes {
+            groups: Groups {
+                rows: Vec::new(alloc),
+                blockers: Vec::new(alloc),
+                members: Vec::new(alloc),
+                keys: Firsts::new(alloc),
+            },
+            count: 0,
+            resources: IndexSet::new(alloc),
+            parked: IndexMap::new(alloc),
+            deadlines: Firsts::new(alloc),
+        }
+    }
+
+    /// Returns how many commands have a note.
+    pub fn count(&self) -> usize
+        ensures { result ≡ count self.now.rows }
+    {
+        self.count
+    }
+
+    /// Returns whether most indexes are of commands that wait no more. It is so if an eighth of the
+    /// indexes is more than `waits`, the number of waiting commands, plus 1,000. To clear all notes
+    /// and add them anew then costs little for each command that came and went.
+    pub fn have_grown(&self, waits: usize) -> bool {
+        self.groups.rows.len() / 8 > waits.saturating_add(1000)
+    }
+
+    /// Drops all notes and wait groups. Takes no memory.
+    pub fn clear(&mut self)
+        ensures rows { self.new.rows ≡ [] }
+        ensures deadlines { self.new.deadlines ≡ [] }
+    {
+        self.groups.rows.clear();
+        self.groups.blockers.clear();
+        self.groups.members.clear();
+        self.groups.keys.clear();
+        self.count = 0;
+        self.resources.clear();
+        self.parked.clear();
+        self.deadlines.clear();
+    }
+
+    /// Adds the note of a command of a label's task, last of all. The command must be looked at.
+    /// `deadline` is the last clock at which the task hasn't waited too long.
+    pub fn push(&mut self, label: Name8, deadline: u64) -> Result<(), NoMemory>
+        ensures rows { self.new.rows ≡ (if is_ok result
+            then self.old.rows ++ Some (new_note label) ∷ [] else self.old.rows) }
+        ensures deadlines { self.new.deadlines ≡ (if is_ok result
+            then self.old.deadlines ++ deadline ∷ [] else self.old.deadlines) }
+        ensures resources { self.new.resources ≡ self.old.resources }
+        ensures blockers { self.new.blockers ≡ self.old.blockers }
+    {
+        let Some(count) = self.count.checked_add(1) else {
+            return Err(NoMemory);
+        };
+        self.groups.rows.reserve(1)?;
+        push_each(&mut self.groups.keys, LOOK, &mut self.deadlines, deadline)?;
+        self.groups.rows.push_reserved(Some(Note {
+            label,
+            line: None,
+            blocker: None,
+        }));
+        self.count = count;
+        Ok(())
+    }
+
+    /// Returns the index and the note of the first command that must be looked at, if there is one.
+    pub fn first_open(&mut self) -> Option<(usize, Note)>
+        ensures first { IfSome result (λ p. IsFirstOpen self.new p.0 p.1) }
+        ensures none { IfNone result (AreClosed self.new.blockers self.new.rows) }
+        ensures same { self.new ≡ self.old }
+    {
+        self.groups.first_open()
+    }
+
+    /// Returns the index of the first note whose deadline is below the clock `now`, if there is
+    /// one: its task has waited too long.
+    pub fn first_late(&self, now: u64) -> Option<usize>
+        ensures { MatchOption result (All (λ key. now ≤ key) self.now.deadlines)
+            (λ at. IsFirstBelow self.now.deadlines now at) }
+    {
+        self.deadlines.first_below(now)
+    }
+
+    /// Returns the label of the note at an index.
+    pub fn label_at(&self, at: usize) -> Name8
+        requires there { (n : NoteValue) × (slice_get self.now.rows at ≡ Some (Some n)) }
+        ensures { (n : NoteValue) → slice_get self.now.rows at ≡ Some (Some n)
+            → result ≡ n.label }
+    {
+        match self.groups.rows[at] {
+            Some(note) => note.label,
+            None => unreachable!(),
+        }
+    }
+
+    /// Drops the note at an index, if one is given: its command waits no more. Takes no memory.
+    pub fn remove_any(&mut self, at: Option<usize>)
+        requires { IfSome at (IsNoteAt self.old) }
+        ensures rows { self.new.rows ≡ without self.old.rows at }
+        ensures deadlines { self.new.deadlines ≡ without_deadline self.old.deadlines at }
+        ensures resources { self.new.resources ≡ self.old.resources }
+        ensures blockers { self.new.blockers ≡ self.old.blockers }
+    {
+        let Some(at) = at else {
+            return;
+        };
+        self.remove(at);
+    }
+
+    /// Drops the note at an index: its command waits no more. Takes no memory.
+    pub fn remove(&mut self, at: usize)
+        requires there { (n : NoteValue) × (slice_get self.old.rows at ≡ Some (Some n)) }
+        requires timed { at < length self.old.deadlines }
+        ensures rows { self.new.rows ≡ slice_set self.old.rows at None }
+        ensures deadlines { self.new.deadlines ≡ slice_set self.old.deadlines at never }
+        ensures resources { self.new.resources ≡ self.old.resources }
+        ensures blockers { self.new.blockers ≡ self.old.blockers }
+    {
+        let Some(note) = self.groups.rows[at] else {
+            unreachable!();
+        };
+        self.groups.leave(at, &note);
+        self.groups.rows[at] = None;
+        self.count -= 1;
+        self.deadlines.set(at, u64::MAX);
+    }
+
+    /// Forgets a unit, if one is given, as a blocker: it may have released something. The commands
+    /// that it blocked must then be looked at again. Returns false only if it blocked none. Takes
+    /// no memory.
+    pub fn forget(&mut self, unit: Option<UnitId>) -> bool
+        ensures rows { self.new.rows ≡ map (forgotten unit) self.old.rows }
+        ensures blockers { self.new.blockers ≡ map (given_up unit) self.old.blockers }
+        ensures none { result ≡ false → (self.new.rows ≡ self.old.rows)
+            × (self.new.blockers ≡ self.old.blockers) }
+        ensures resources { self.new.resources ≡ self.old.resources }
+        ensures deadlines { self.new.deadlines ≡ self.old.deadlines }
+    {
+        let Some(unit) = unit else {
+            return false;
+        };
+        let Some(parked) = self.parked.swap_remove(&unit) else {
+            return false;
+        };
+        self.groups.reopen(parked.as_slice(), unit);
+        true
+    }
+
+    /// Returns the index of the wait group of a resource. Adds the group, without a command, if
+    /// there is none.
+    pub fn line_of(&mut self, resource: Resource) -> Result<usize, NoMemory>
+        ensures line { IfOk result (λ g. slice_get self.new.resources g ≡ Some resource) }
+        ensures within { IfOk result (λ g. g < length self.new.blockers) }
+        ensures rows { self.new.rows ≡ self.old.rows }
+        ensures resources { KeepsResources self.old.resources self.new.resources }
+        ensures blockers { KeepsBlockers self.old.blockers self.new.blockers }
+        ensures deadlines { self.new.deadlines ≡ self.old.deadlines }
+    {
+        self.groups.blockers.reserve(1)?;
+        self.groups.members.reserve(1)?;
+        let (group, is_new) = self.resources.insert_full(resource)?;
+        if is_new {
+            let members = BTreeSet::new(*self.parked.allocator());
+            self.groups.blockers.push_reserved(None);
+            self.groups.members.push_reserved(members);
+        }
+        Ok(group)
+    }
+
+    /// Returns whether a wait group is that of a resource.
+    pub fn is_line_of(&self, line: usize, resource: &Resource) -> bool
+        ensures { slice_get self.now.resources line ≡ Some resource.now → result ≡ true }
+    {
+        match self.resources.get_index(line) {
+            Some(own) => own == resource,
+            None => false,
+        }
+    }
+
+    /// Returns the blocker of a wait group, if it is known.
+    pub fn line_blocker(&self, line: usize) -> Option<UnitId>
+        requires { line < length self.now.blockers }
+        ensures { result ≡ of_line self.now.blockers line }
+    {
+        self.groups.blockers[line]
+    }
+
+    /// Notes a unit as the blocker of the command of the note at an index, which leaves its wait
+    /// group, if it is in one.
+    pub fn set_alone(&mut self, at: usize, note: &Note, unit: UnitId) -> Result<(), NoMemory>
+        requires there { slice_get self.old.rows at ≡ Some (Some note.now) }
+        ensures rows { self.new.rows ≡ (if is_ok result
+            then slice_set self.old.rows at (Some (alone unit note.now)) else self.old.rows) }
+        ensures resources { self.new.resources ≡ self.old.resources }
+        ensures deadlines { self.new.deadlines ≡ self.old.deadlines }
+        ensures blockers { self.new.blockers ≡ self.old.blockers }
+    {
+        park(&mut self.parked, unit, Parked::Row(at))?;
+        self.groups.leave(at, note);
+        self.groups.rows[at] = Some(Note {
+            label: note.label,
+            line: None,
+            blocker: Some(unit),
+        });
+        Ok(())
+    }
+
+    /// Notes a unit as the blocker of a wait group, and puts the command of the note at an index
+    /// into the group. That command is in no other group.
+    pub fn close(
+        &mut self,
+        at: usize,
+        note: &Note,
+        line: usize,
+        unit: UnitId,
+    ) -> Result<(), NoMemory>
+        requires there { slice_get self.old.rows at ≡ Some (Some note.now) }
+        requires within { line < length self.old.blockers }
+        requires only { IfSome note.now.line (λ g. g ≡ line) }
+        ensures rows { self.new.rows ≡ (if is_ok result
+            then slice_set self.old.rows at (Some (in_line line note.now)) else self.old.rows) }
+        ensures blockers { self.new.blockers ≡ (if is_ok result
+            then slice_set self.old.blockers line (Some unit) else self.old.blockers) }
+        ensures resources { self.new.resources ≡ self.old.resources }
+        ensures deadlines { self.new.deadlines ≡ self.old.deadlines }
+    {
+        park_group(&mut self.parked, line, self.groups.blockers[line], unit)?;
+        self.groups.members[line].insert(at)?;
+        self.groups.blockers[line] = Some(unit);
+        self.groups.rows[at] = Some(Note {
+            label: note.label,
+            line: Some(line),
+            blocker: None,
+        });
+        self.groups.keys.set(at, WAIT);
+        Ok(())
+    }
+}

@@ -1,9 +1,0 @@
-use Rattle.cics_draw.specs.Pictures.{outcomes_of}
-use Rattle.cics_draw.proofs.Outcomes.{filled-told, hollow-told}
-use Rattle.cics_draw.proofs.drawing.bars_tell_outcomes.Goals as goal
-
-pub returns-clause-filled : goal.returns-clause-filled
-returns-clause-filled c script b = filled-told (outcomes_of script) b
-
-pub returns-clause-hollow : goal.returns-clause-hollow
-returns-clause-hollow c script b = hollow-told (outcomes_of script) b

@@ -1,5 +1,0 @@
-use Rattle.cics_draw.proofs.Blocking.{blocker-shown}
-use Rattle.cics_draw.proofs.drawing.waits_name_blockers.Goals as goal
-
-pub returns : goal.returns
-returns c = blocker-shown

@@ -1,6 +1,0 @@
-use Rattle.std.proofs.Common.{◌≡◌, ◌++◌, map, take}
-use Rattle.cics_listing.specs.Listings.{kept_text}
-use Rattle.cics_endings.proofs.blocks.add_kept.Given as goal
-
-abbrev pub invariant-loop-row : goal.invariant-loop-row
-invariant-loop-row l = l.parts ≡ l.fn.parts ++ map (kept_text l.words.0.now l.words.1.now) (take l.row-index l.rows)

@@ -1,6 +1,0 @@
-use Rattle.std.proofs.Common.{◌≡◌, ◌++◌, map, take}
-use Rattle.cics_listing.specs.Listings.{transient_text}
-use Rattle.cics_endings.proofs.blocks.add_transient.Given as goal
-
-abbrev pub invariant-loop-queue : goal.invariant-loop-queue
-invariant-loop-queue l = l.parts ≡ l.fn.parts ++ map transient_text (take l.queue-index l.queues)

@@ -1,8 +1,0 @@
-use Rattle.std.proofs.Common.{◌≡◌, ◌++◌, drop}
-use Rattle.cics_endings.specs.Telling.{told_parts}
-use Rattle.cics_endings.proofs.telling.add_told.Given as goal
-
--- the parts so far, and those of the lines that are left, are all
-abbrev pub invariant-loop-i : goal.invariant-loop-i
-invariant-loop-i l =
-    l.parts ++ told_parts l.label (drop l.i l.lines) (drop l.i l.told) ≡ l.fn.parts ++ told_parts l.label l.lines l.told

@@ -1,8 +1,0 @@
-//! The parts that an ending of a script's orders is told in.
-#![tactic(auto)]
-
-mod blocks;
-mod tasks;
-mod telling;
-
-pub use telling::parts_of;

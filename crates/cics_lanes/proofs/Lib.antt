@@ -1,4 +1,0 @@
-pub mod Adding
-pub mod Givers
-pub mod Orders
-pub mod SameParts

@@ -1,6 +1,0 @@
-pub mod Orders
-pub mod Endings
-pub mod EndingLaws
-pub mod Groups
-pub mod Tallies
-pub mod States

@@ -1,6 +1,0 @@
-use Rattle.cics_listing.specs.Listings.{kept_text}
-use Rattle.cics_spelling.proofs.Each.{each-step}
-use Rattle.cics_listing.proofs.listing.push_kept.Goals as goal
-
-pub loop-row-preserved : goal.loop-row-preserved
-loop-row-preserved c = each-step (kept_text c.args.kind.now c.args.counted.now) c.args.rows.now c.loop-row.row-index c.row-item.result c.args.out.now.items _ _ c.loop-row-test.true c.row-item.is c.loop-row.invariant c.in_ok-push_block.ensures

@@ -1,7 +1,0 @@
-use Rattle.std.proofs.Common.{◌≡◌, ◌++◌, take}
-use Rattle.std.specs.List.{flat_map}
-use Rattle.cics_listing.specs.Listings.{kept_text}
-use Rattle.cics_listing.proofs.listing.push_kept.Given as goal
-
-abbrev pub invariant-loop-row : goal.invariant-loop-row
-invariant-loop-row l = l.out.items ≡ l.fn.out.items ++ flat_map (kept_text l.kind l.counted) (take l.row-index l.rows)

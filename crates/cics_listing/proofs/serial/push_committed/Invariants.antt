@@ -1,8 +1,0 @@
-use Rattle.std.proofs.Common.{◌≡◌, ◌++◌, take}
-use Rattle.std.specs.List.{flat_map}
-use Rattle.cics_listing.specs.Serial.{committed_lines}
-use Rattle.cics_listing.specs.UnitLines.{lines_at}
-use Rattle.cics_listing.proofs.serial.push_committed.Given as goal
-
-abbrev pub invariant-loop-unit : goal.invariant-loop-unit
-invariant-loop-unit l = l.out.items ≡ l.fn.out.items ++ flat_map (committed_lines (lines_at l.rows)) (take l.unit-index l.commits)

@@ -1,6 +1,0 @@
-use Rattle.cics_listing.specs.Serial.{file_lines}
-use Rattle.cics_spelling.proofs.Each.{each-step}
-use Rattle.cics_listing.proofs.serial.push_files.Goals as goal
-
-pub loop-file-preserved : goal.loop-file-preserved
-loop-file-preserved c = each-step file_lines c.args.files.now c.loop-file.file-index c.file-item.result c.args.out.now.items _ _ c.loop-file-test.true c.file-item.is c.loop-file.invariant c.in_ok-push_file.ensures

@@ -1,7 +1,0 @@
-use Rattle.cics_listing.specs.Serial.{unit_lines}
-use Rattle.cics_listing.specs.UnitLines.{lines_at}
-use Rattle.cics_listing.proofs.UnitLines.{open-step}
-use Rattle.cics_listing.proofs.serial.push_open.Goals as goal
-
-pub loop-number-preserved : goal.loop-number-preserved
-loop-number-preserved c = open-step (unit_lines (lines_at c.args.rows.now)) c.args.outcomes.now c.loop-number.number c.new.result _ c.args.out.now.items _ _ c.loop-number-test.true c.new.ensures c.loop-number.invariant c.in_ok-push_if_open.ensures

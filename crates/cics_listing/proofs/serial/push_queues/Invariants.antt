@@ -1,7 +1,0 @@
-use Rattle.std.proofs.Common.{◌≡◌, ◌++◌, take}
-use Rattle.std.specs.List.{flat_map}
-use Rattle.cics_listing.specs.Serial.{queue_lines}
-use Rattle.cics_listing.proofs.serial.push_queues.Given as goal
-
-abbrev pub invariant-loop-queue : goal.invariant-loop-queue
-invariant-loop-queue l = l.out.items ≡ l.fn.out.items ++ flat_map queue_lines (take l.queue-index l.queues)

@@ -1,7 +1,0 @@
-use Rattle.std.proofs.Common.{subst}
-use Rattle.cics_machine.specs.Waits.{AreApart}
-use Rattle.cics_machine.proofs.Looks.{apart_rows}
-use Rattle.cics_machine.proofs.waits.Waits.iter.Goals as goal
-
-pub returns-clause-once : goal.returns-clause-once
-returns-clause-once c = subst AreApart c.self.view_is (apart_rows c.self.inside.rows.entries c.self.invariant.once)

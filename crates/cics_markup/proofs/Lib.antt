@@ -1,8 +1,0 @@
-pub mod Digits
-pub mod NamesRead
-pub mod TextsRead
-pub mod ReadBack
-pub mod Shown
-mod Rows
-pub mod Numbers
-pub mod Joined

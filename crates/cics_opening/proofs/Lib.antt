@@ -1,5 +1,0 @@
-pub mod Opened
-mod OpeningRows
-pub mod Changing
-pub mod Refilled
-mod Unpadded

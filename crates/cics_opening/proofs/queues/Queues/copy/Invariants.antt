@@ -1,8 +1,0 @@
-use Rattle.std.proofs.Common.{◌≡◌, map}
-use Rattle.std.specs.Map.Iter.{deref_pair}
-use Rattle.cics_opening.specs.RegionFiles.{refilled}
-use Rattle.cics_opening.proofs.queues.Queues.copy.Given as goal
-
--- the queues that were passed are copied
-abbrev pub invariant-loop-name : goal.invariant-loop-name
-invariant-loop-name l = l.queues ≡ refilled (map deref_pair l.yielded)

@@ -1,0 +1,9 @@
+pub mod Advancing
+pub mod Bounds
+pub mod Following
+pub mod Leveling
+pub mod Reporting
+pub mod Rows
+pub mod Sublists
+pub mod Tallying
+pub mod Thinned

@@ -1,0 +1,8 @@
+use Rattle.std.proofs.Common.{◌∙◌, sym}
+use Rattle.cics_orders.specs.Plans.ProperLaws.{planned_proper}
+use Rattle.cics_orders.proofs.survey.surveys.survey_script.Goals as goal
+
+-- a script is taken apart into a proper plan
+pub follow-requires : goal.follow-requires
+follow-requires g c =
+    planned_proper c.args.lines.now c.in-Ok-2.own (sym c.in_ok-own.ensures ∙ c.in-Ok-2.is)

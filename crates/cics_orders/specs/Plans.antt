@@ -1,0 +1,5 @@
+pub mod Firsts
+pub mod Defining
+pub mod Taking
+pub mod Proper
+pub mod ProperLaws

@@ -1,0 +1,5 @@
+pub mod Levels
+pub mod Ahead
+pub mod Reports
+pub mod Regrouping
+pub mod Ways

@@ -1,0 +1,8 @@
+pub mod Orders
+pub mod Endings
+pub mod EndingLaws
+pub mod Groups
+pub mod Tallies
+pub mod States
+pub mod Givers
+pub mod OrdersLaws

@@ -1,0 +1,12 @@
+//! The report on the orders of a script's lines, and each order as a script: their bytes.
+
+mod along;
+mod counts;
+mod laws;
+mod parts;
+mod report;
+mod scripts;
+
+pub use laws::{faults_are_those_of_runs, scripts_lead_there};
+pub use report::{push_fault, push_report};
+pub use scripts::push_script;

@@ -1,0 +1,170 @@
+//! The report on the orders of a script's lines.
+
+ghost use Rattle.std.specs.Prelude.{◌≡◌, ◌++◌, OnOk};
+ghost use Rattle.std.specs.List.{flat_map};
+ghost use Rattle.cics_orders.specs.Report.Reporting.{fault_text, refused_text, word_of, word_text};
+ghost use Rattle.cics_orders.specs.Report.Reporting.{order_text, numbered_text, ending_text, endings_text};
+ghost use Rattle.cics_orders.specs.Report.Reporting.{every_text, report_text};
+
+use crate::plans::{Plan, Planned, RefusedLine, ScriptFault, read};
+use crate::report::along::lines_along;
+use crate::report::counts::{push_heading, push_limit, push_totals};
+use crate::report::parts::{push_own, push_parts, shared, told_in};
+use crate::search::Report;
+use crate::space::Ending;
+use cics_names::{NoMemory, Record};
+use cics_run::stage::journal::{push_define_fault, push_line_fault, push_refused};
+use cics_script::spelling::{push_bare, push_number, push_str};
+use cics_script::{Line, LineFault};
+
+/// Appends the fault of a script, as a plain run prints it: that of the line with this number.
+///
+/// Errors: `NoMemory`.
+pub fn push_fault(out: &mut Vec<u8>, number: u64, fault: ScriptFault) -> Result<(), NoMemory>
+    ensures { OnOk result (out.new.items ≡ out.old.items ++ fault_text number fault) }
+{
+    match fault {
+        ScriptFault::Line(fault) => push_line_fault(out, number, fault),
+        ScriptFault::Definition(fault) => push_define_fault(out, number, fault),
+    }
+}
+
+// Appends a line that is refused in every order.
+fn push_refused_line(out: &mut Vec<u8>, line: &RefusedLine) -> Result<(), NoMemory>
+    ensures { OnOk result (out.new.items ≡ out.old.items ++ refused_text line.now) }
+{
+    push_str(out, "LINE ")?;
+    push_number(out, line.number)?;
+    push_str(out, " ")?;
+    push_refused(out, line.label, line.refusal)
+}
+
+fn push_refused_lines(out: &mut Vec<u8>, lines: &[RefusedLine]) -> Result<(), NoMemory>
+    ensures { OnOk result (out.new.items ≡ out.old.items ++ flat_map refused_text lines.now) }
+{
+    for line in lines {
+        push_refused_line(out, line)?;
+    }
+    Ok(())
+}
+
+// Appends the word of a line that was read.
+fn push_word(out: &mut Vec<u8>, says: &Result<Line, LineFault>) -> Result<(), NoMemory>
+    ensures { OnOk result (out.new.items ≡ out.old.items ++ word_of says.now) }
+{
+    match says {
+        Ok(Line::Issue(label, _)) => push_bare(out, &label.bytes()),
+        Ok(Line::Clock(_)) => push_str(out, "CLOCK"),
+        Ok(Line::Shutdown) => push_str(out, "SHUTDOWN"),
+        _ => Ok(()),
+    }
+}
+
+// Appends the word of a line in an order.
+fn push_next_word(out: &mut Vec<u8>, next: &(u64, Record)) -> Result<(), NoMemory>
+    ensures { OnOk result (out.new.items ≡ out.old.items ++ word_text next.now) }
+{
+    let says = read(*out.allocator(), next.1.bytes())?;
+    push_str(out, " ")?;
+    push_word(out, &says)
+}
+
+fn push_words(out: &mut Vec<u8>, lines: &[(u64, Record)]) -> Result<(), NoMemory>
+    ensures { OnOk result (out.new.items ≡ out.old.items ++ flat_map word_text lines.now) }
+{
+    for next in lines {
+        push_next_word(out, next)?;
+    }
+    Ok(())
+}
+
+// Appends an order.
+fn push_order(out: &mut Vec<u8>, plan: &Plan, order: &[usize]) -> Result<(), NoMemory>
+    ensures { OnOk result (out.new.items ≡ out.old.items ++ order_text plan.now order.now) }
+{
+    let lines = lines_along(*out.allocator(), plan, order)?;
+    push_str(out, "ORDER")?;
+    push_words(out, lines.as_slice())?;
+    push_str(out, "\n")
+}
+
+// Appends the number of an ending, and how many orders lead to it.
+fn push_numbered(
+    out: &mut Vec<u8>,
+    report: &Report,
+    number: u64,
+    ending: &Ending,
+) -> Result<(), NoMemory>
+    ensures { OnOk result (out.new.items
+        ≡ out.old.items ++ numbered_text report.now number ending.now) }
+{
+    push_str(out, "ENDING ")?;
+    push_number(out, number)?;
+    push_heading(out, report, ending)
+}
+
+// Appends the first order of an ending, and the parts that some ending lacks.
+fn push_ending(
+    out: &mut Vec<u8>,
+    plan: &Plan,
+    all: &[Record],
+    ending: &Ending,
+) -> Result<(), NoMemory>
+    ensures { OnOk result (out.new.items
+        ≡ out.old.items ++ ending_text plan.now all.now ending.now) }
+{
+    push_order(out, plan, ending.order())?;
+    push_own(out, all, told_in(ending.parts()))
+}
+
+// Appends each ending.
+#[tactic(auto, unfolding(crate::specs::Report::Reporting::endings_text))]
+fn push_endings(
+    out: &mut Vec<u8>,
+    plan: &Plan,
+    report: &Report,
+    all: &[Record],
+) -> Result<(), NoMemory>
+    ensures { OnOk result (out.new.items ≡ out.old.items
+        ++ endings_text plan.now report.now all.now 1 report.now.endings) }
+{
+    let endings = report.endings.as_slice();
+    for i in 0..endings.len() {
+        push_numbered(out, report, i as u64 + 1, &endings[i])?;
+        push_ending(out, plan, all, &endings[i])?;
+    }
+    Ok(())
+}
+
+// Appends the parts that each ending has.
+#[tactic(auto, unfolding(crate::specs::Report::Reporting::every_text))]
+fn push_every(out: &mut Vec<u8>, all: &[Record]) -> Result<(), NoMemory>
+    ensures { OnOk result (out.new.items ≡ out.old.items ++ every_text all.now) }
+{
+    if all.is_empty() {
+        return Ok(());
+    }
+    push_str(out, "EVERY ENDING\n")?;
+    push_parts(out, all)
+}
+
+/// Appends the report on the orders of a script's lines, which were followed within a limit.
+///
+/// Errors: `NoMemory`. Cost: O(endings * parts * parts of the first ending), O(bytes of the lines)
+/// for each order, and the bytes written.
+pub fn push_report(
+    out: &mut Vec<u8>,
+    planned: &Planned,
+    limit: u64,
+    report: &Report,
+) -> Result<(), NoMemory>
+    ensures { OnOk result (out.new.items
+        ≡ out.old.items ++ report_text planned.now limit report.now) }
+{
+    let all = shared(*out.allocator(), report.endings.as_slice())?;
+    push_refused_lines(out, planned.refused.as_slice())?;
+    push_limit(out, report, limit)?;
+    push_totals(out, report)?;
+    push_every(out, all.as_slice())?;
+    push_endings(out, &planned.plan, report, all.as_slice())
+}

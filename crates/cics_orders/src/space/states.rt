@@ -1,0 +1,208 @@
+//! What is noted of a state, and the orders that lead to states of one stamp.
+//!
+//! No state is kept. It is made again from the initial one, by the first order that leads to it.
+
+ghost use Rattle.std.specs.Prelude.{◌≡◌, [], ◌∷◌, ◌++◌, List, IfOk, OnOk};
+ghost use Rattle.cics_orders.specs.Space.Orders.{after};
+ghost use Rattle.cics_orders.specs.Space.States.{led_joined, lanes_of, reached};
+
+use crate::space::groups::Join;
+use crate::space::walks::Walk;
+use cics_names::{Items, NoMemory};
+use std::alloc::Global;
+use std::hash::{Hash, Hasher};
+use std::marker::Model;
+
+/// The stamp of a state: bytes that tell how it goes on.
+#[derive(Drop)]
+pub struct Stamp {
+    bytes: Vec<u8>,
+}
+
+impl Model for Stamp {
+    ghost use Rattle.std.specs.Prelude.{ℕ, List};
+
+    ghost Value = { List ℕ };
+
+    ghost view = { λ s. s.bytes.items };
+}
+
+impl PartialEq for Stamp {
+    ghost use Rattle.std.specs.Str.{bytes_eq};
+    ghost use Rattle.std.proofs.Common.{rules};
+    ghost use Rattle.std.specs.Cmp.Rules.{comparing};
+
+    ghost eq = { bytes_eq };
+
+    ghost laws = { Prim.search (comparing, rules) };
+
+    fn eq(&self, other: &Stamp) -> bool {
+        self.bytes.as_slice() == other.bytes.as_slice()
+    }
+}
+
+impl Eq for Stamp {
+    ghost use Rattle.std.proofs.Common.{rules};
+    ghost use Rattle.std.specs.Cmp.Rules.{comparing};
+
+    ghost laws = { Prim.search (comparing, rules) };
+}
+
+impl Hash for Stamp {
+    ghost use Rattle.std.specs.Prelude.{[], ◌∷◌};
+    ghost use Rattle.std.proofs.Common.{rules};
+    ghost use Rattle.std.specs.Cmp.Rules.{hashing};
+
+    ghost hash_input = { λ s. s ∷ [] };
+
+    ghost respects_eq = { Prim.search (hashing, rules) };
+
+    // In one call, which a hasher takes faster than byte by byte.
+    fn hash<H: Hasher>(&self, state: &mut H) {
+        state.write(self.bytes.as_slice());
+    }
+}
+
+impl Stamp {
+    // Returns a copy.
+    fn copy(&self, alloc: Global) -> Result<Stamp, NoMemory>
+        ensures { IfOk result (λ s. s ≡ self.now) }
+    {
+        let mut bytes = Vec::new(alloc);
+        bytes.extend_from_slice(self.bytes.as_slice())?;
+        Ok(Stamp { bytes })
+    }
+}
+
+/// What is noted of a state that orders lead to.
+#[derive(Drop)]
+pub struct Reached {
+    pub stamp: Stamp,
+    /// The lanes that are followed from there.
+    pub lanes: Items<usize>,
+    /// Whether no lane may give there.
+    pub has_ended: bool,
+}
+
+impl Reached {
+    /// Returns a copy. Errors: `NoMemory`.
+    pub fn copy(&self, alloc: Global) -> Result<Reached, NoMemory>
+        ensures { IfOk result (λ r. r ≡ self.now) }
+    {
+        Ok(Reached {
+            stamp: self.stamp.copy(alloc)?,
+            lanes: copied(alloc, self.lanes.as_slice())?,
+            has_ended: self.has_ended,
+        })
+    }
+
+    /// Returns its stamp.
+    pub fn into_stamp(self) -> Stamp
+        ensures { result ≡ self.stamp }
+    {
+        self.stamp
+    }
+
+    /// Returns its entry, to which so many orders lead.
+    pub fn into_entry(self, first: Items<usize>, count: u128) -> (Stamp, Led)
+        ensures { result ≡ (
+          self.stamp,
+          record {
+            first = first;
+            lanes = self.lanes;
+            has_ended = self.has_ended;
+            count = count;
+          },
+        ) }
+    {
+        let led = Led {
+            first,
+            lanes: self.lanes,
+            has_ended: self.has_ended,
+            count,
+        };
+        (self.stamp, led)
+    }
+}
+
+// Returns a copy of lanes.
+fn copied(alloc: Global, lanes: &[usize]) -> Result<Items<usize>, NoMemory>
+    ensures { IfOk result (λ copy. copy ≡ lanes.now) }
+{
+    let mut copy = Vec::new(alloc);
+    copy.extend_from_slice(lanes)?;
+    Ok(Items::from_vec(copy))
+}
+
+/// Returns an order with one lane more. Errors: `NoMemory`.
+pub fn with_lane(alloc: Global, order: &[usize], lane: usize) -> Result<Items<usize>, NoMemory>
+    ensures { IfOk result (λ longer. longer ≡ order.now ++ lane ∷ []) }
+{
+    let mut longer = copied(alloc, order)?;
+    longer.push(lane)?;
+    Ok(longer)
+}
+
+/// Orders that lead to states of one stamp.
+#[derive(Drop)]
+pub struct Led {
+    /// The first of these orders.
+    pub first: Items<usize>,
+    /// The lanes that are followed from there.
+    pub lanes: Items<usize>,
+    /// Whether no lane may give there.
+    pub has_ended: bool,
+    /// How many orders there are; `u128::MAX` is that many or more.
+    pub count: u128,
+}
+
+impl Join for Led {
+    ghost joined = { led_joined };
+
+    fn join(&mut self, other: Led) {
+        self.count = self.count.saturating_add(other.count);
+    }
+}
+
+/// Goes to the state after an order from the initial state. Errors: `NoMemory`.
+pub fn go_to<W: Walk>(walk: &mut W, order: &[usize]) -> Result<(), NoMemory>
+    ensures { OnOk result (walk.new ≡ after W.lanes (W.initial walk.old) order.now) }
+{
+    walk.restart()?;
+    for i in 0..order.len() {
+        walk.give(order[i])?;
+    }
+    Ok(())
+}
+
+// Returns the lanes that are followed: those that may give, or if `is_serial` only those that don't
+// break a serial order.
+fn lanes_of<W: Walk>(alloc: Global, walk: &W, is_serial: bool) -> Result<Items<usize>, NoMemory>
+    ensures { IfOk result (λ lanes. lanes ≡ lanes_of W.lanes W.breaks is_serial walk.now) }
+{
+    let mut lanes = Items::new(alloc);
+    let mut giver = walk.first_giver();
+    while let Some(lane) = giver {
+        if !is_serial || !walk.breaks_serial(lane) {
+            lanes.push(lane)?;
+        }
+        giver = walk.giver_after(lane);
+    }
+    Ok(lanes)
+}
+
+/// Returns what is noted of the state of a walk. Errors: `NoMemory`.
+pub fn look<W: Walk>(alloc: Global, walk: &W, is_serial: bool) -> Result<Reached, NoMemory>
+    ensures { IfOk result (λ state.
+        state ≡ reached W.lanes W.breaks W.stamp is_serial walk.now) }
+{
+    let mut bytes = Vec::new(alloc);
+    walk.stamp(is_serial, &mut bytes)?;
+    let lanes = lanes_of(alloc, walk, is_serial)?;
+    let has_ended = walk.first_giver().is_none();
+    Ok(Reached {
+        stamp: Stamp { bytes },
+        lanes,
+        has_ended,
+    })
+}

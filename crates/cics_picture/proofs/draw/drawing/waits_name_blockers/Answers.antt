@@ -1,0 +1,5 @@
+use Rattle.cics_picture.proofs.OfDraw.Blocking.{blocker-shown}
+use Rattle.cics_picture.proofs.draw.drawing.waits_name_blockers.Goals as goal
+
+pub returns : goal.returns
+returns c = blocker-shown

@@ -1,0 +1,15 @@
+//! Runs a script and draws it: the picture of a run, in place of its journal.
+//!
+//! [`run_picture`] reads a script whole, runs it as `cics_run::session` does, and writes one SVG. What
+//! it writes is a stated function of the bytes read, and [`rows_are_the_journal`] says that its
+//! rows show what the run prints, in order.
+
+mod drawing;
+mod picture;
+mod reads;
+mod standings;
+mod titles;
+
+pub use drawing::{bars_tell_outcomes, draw_script, rows_are_the_journal, waits_name_blockers};
+pub use picture::{NoPicture, run_picture};
+pub use standings::deadlocks_are_marked;

@@ -1,0 +1,170 @@
+//! The lines of a script, run and drawn.
+
+ghost use Rattle.std.specs.Prelude.{◌≡◌, ◌↔◌, ◌++◌, ◌<◌, ◌≤◌, ◌+◌, ◌^◌, [], List, ℕ, IfOk};
+ghost use Rattle.std.specs.Prelude.{IfErr, OnOk, length};
+ghost use Rattle.cics_run.specs.Session.Standing.{IsNew, next_step};
+ghost use Rattle.cics_run.specs.Session.Lines.{all_lines};
+ghost use Rattle.cics_run.specs.Session.Running.{is_faulty, play};
+ghost use Rattle.cics_picture.specs.Lanes.{most_lanes, most_rows};
+ghost use Rattle.cics_picture.specs.Drawings.{drawn_of, nothing_drawn, with_line, rows_of};
+ghost use Rattle.cics_picture.specs.Drawings.{Row, all_rows, events_of};
+ghost use Rattle.cics_picture.specs.declared.drawing.Undrawn.TheVariants.{TooManyRows};
+ghost use Rattle.cics_picture.specs.Draw.Pictures.{next_printed, printed_lines, drawing_of, picture_of};
+ghost use Rattle.cics_picture.specs.Draw.Pictures.{standings_behind};
+ghost use Rattle.cics_run.specs.declared.stage.stage.Stage.{Stage};
+ghost use Rattle.cics_picture.specs.Draw.Blocking.{NamesBlocker};
+ghost use Rattle.cics_picture.specs.Draw.Pictures.{RunsLine, KeepsLast, looks_of, outcomes_of};
+ghost use Rattle.cics_history.specs.Headline.{outcome_of};
+ghost use Rattle.cics_history.specs.declared.ops.UnitState.TheVariants.{Committed, BackedOut};
+ghost use Rattle.cics_picture.specs.Bars.{bar_text, filled, hollow};
+ghost use Rattle.cics_picture.specs.declared.bars.Bar.{Bar};
+
+use crate::draw::reads::{shown_at, with_shown};
+use crate::draw::standings::{entries_at, looks_at, standings_at};
+use crate::draw::titles::title_of;
+use crate::{Drawing, Standing, Undrawn, push_sheet};
+use cics_names::{Items, NoMemory};
+use cics_run::session::Session;
+use cics_run::whole::next_line;
+use cics_script::advice::keep_undefined;
+use std::alloc::Global;
+
+/// The rows of a picture show what the run prints, in order: their events, each with its LF, are
+/// the journal.
+pub fn rows_are_the_journal()
+    ensures { (script : List ℕ)
+        → events_of (all_rows (printed_lines script)) ≡ (play (all_lines script)).journal }
+{}
+
+/// In the picture of a script a unit's bar is filled exactly if its outcome is Committed, and
+/// hollow exactly if it is BackedOut.
+pub fn bars_tell_outcomes()
+    ensures filled { (script : List ℕ) (b : Bar) → (bar_text (looks_of script) b ≡ filled b)
+        ↔ (outcome_of (outcomes_of script) b.unit ≡ Committed) }
+    ensures hollow { (script : List ℕ) (b : Bar) → (bar_text (looks_of script) b ≡ hollow b)
+        ↔ (outcome_of (outcomes_of script) b.unit ≡ BackedOut) }
+{}
+
+/// If a command of a line has to wait, the row of the line has exactly one arrow. It leads from the
+/// lane of its task to that of the task that blocks it then (`Region::blocker`). This supposes that
+/// rows before it attach both tasks, and at most sixteen in all.
+pub fn waits_name_blockers()
+    ensures { (before : List Row) (number : ℕ) (stage : Stage) (line : List ℕ)
+        → NamesBlocker before number stage line }
+{}
+
+// Runs a line and returns whether it has a fault. What it printed is then pending. The session
+// keeps a line with a fault, for the message on standard error.
+fn run_line(session: &mut Session, line: &[u8]) -> Result<bool, NoMemory>
+    requires number { session.old.number + 1 < 2 ^ 64 }
+    requires none { session.old.line.items ≡ [] }
+    ensures runs { RunsLine session.old line.now session.new result }
+    ensures text { OnOk result (session.new.pending.items ≡ (next_step session.old line.now).text) }
+{
+    session.number += 1;
+    session.pending.clear();
+    session.fault = session
+        .stage
+        .run_line(session.number, line, &mut session.pending)?;
+    keep_undefined(&mut session.undefined, line, &session.pending, 0);
+    let is_fault = session.fault.is_some();
+    if is_fault {
+        session.line.extend_from_slice(line)?;
+    }
+    Ok(is_fault)
+}
+
+// Returns how the tasks stand after a line that a session has run, and what its read shows.
+fn standings_behind(
+    alloc: Global,
+    before: usize,
+    session: &Session,
+    line: &[u8],
+) -> Result<Items<Standing>, NoMemory>
+    ensures value { IfOk result (λ standings. standings
+        ≡ standings_behind before session.now.stage line.now session.now.pending.items) }
+    ensures few { IfOk result (λ standings. length standings ≤ most_lanes) }
+{
+    let standings = standings_at(alloc, before, &session.stage)?;
+    let shown = shown_at(&session.stage, line, &session.pending)?;
+    Ok(with_shown(standings, shown))
+}
+
+// Runs a line, draws what it prints, and returns whether that is a fault.
+fn draw_line(session: &mut Session, drawing: &mut Drawing, line: &[u8]) -> Result<bool, Undrawn>
+    requires number { session.old.number + 1 < 2 ^ 64 }
+    requires none { session.old.line.items ≡ [] }
+    ensures runs { RunsLine session.old line.now session.new result }
+    ensures drawn { OnOk result (drawn_of drawing.new
+        ≡ with_line (drawn_of drawing.old) (next_printed session.old line.now)) }
+    ensures too_many { IfErr result (λ e. e ≡ TooManyRows
+        → most_rows < drawing.old.rows + length (rows_of (next_printed session.old line.now))) }
+{
+    let before = entries_at(&session.stage).len();
+    let is_fault = match run_line(session, line) {
+        Ok(is_fault) => is_fault,
+        Err(_) => return Err(Undrawn::NoMemory),
+    };
+    let alloc = *session.pending.allocator();
+    let standings = match standings_behind(alloc, before, session, line) {
+        Ok(standings) => standings,
+        Err(_) => return Err(Undrawn::NoMemory),
+    };
+    match drawing.push_line(session.number, line, &session.pending, standings.as_slice()) {
+        Ok(()) => {}
+        Err(undrawn) => return Err(undrawn),
+    }
+    Ok(is_fault)
+}
+
+// Runs the lines of a script up to the first fault, draws what they print, and returns whether
+// there was a fault.
+fn draw_lines(session: &mut Session, drawing: &mut Drawing, script: &[u8]) -> Result<bool, Undrawn>
+    requires new { IsNew session.old }
+    requires nothing { drawn_of drawing.old ≡ nothing_drawn }
+    ensures drawn { OnOk result (drawn_of drawing.new ≡ drawing_of script.now) }
+    ensures fault { IfOk result (λ fault. is_faulty script.now ≡ fault) }
+    ensures kept { IfOk result (KeepsLast script.now session.new) }
+    ensures stage { OnOk result (session.new.stage ≡ (play (all_lines script.now)).stage) }
+    ensures too_many { IfErr result (λ e. e ≡ TooManyRows
+        → most_rows < (drawing_of script.now).rows) }
+{
+    let mut rest = script;
+    'lines: loop {
+        let Some((line, after)) = next_line(rest) else {
+            return Ok(false);
+        };
+        match draw_line(session, drawing, line) {
+            Ok(false) => rest = after,
+            Ok(true) => return Ok(true),
+            Err(undrawn) => return Err(undrawn),
+        }
+    }
+}
+
+/// Runs a script in a new session, and puts its picture at the end of a text. Returns whether a
+/// line has a fault: the picture then ends with this fault, and the session keeps the line.
+///
+/// Errors: `TooManyRows` if the run has more events than a picture may have rows; `NoMemory`.
+pub fn draw_script(session: &mut Session, script: &[u8], out: &mut Vec<u8>) -> Result<bool, Undrawn>
+    requires new { IsNew session.old }
+    ensures picture { OnOk result (out.new.items ≡ out.old.items ++ picture_of script.now) }
+    ensures fault { IfOk result (λ fault. is_faulty script.now ≡ fault) }
+    ensures kept { IfOk result (KeepsLast script.now session.new) }
+    ensures too_many { IfErr result (λ e. e ≡ TooManyRows
+        → most_rows < (drawing_of script.now).rows) }
+{
+    let mut drawing = Drawing::new(*out.allocator());
+    let is_faulty = match draw_lines(session, &mut drawing, script) {
+        Ok(is_faulty) => is_faulty,
+        Err(undrawn) => return Err(undrawn),
+    };
+    let looks = match looks_at(*out.allocator(), &session.stage) {
+        Ok(looks) => looks,
+        Err(_) => return Err(Undrawn::NoMemory),
+    };
+    match push_sheet(out, &mut drawing, looks.as_slice(), title_of(script)) {
+        Ok(()) => Ok(is_faulty),
+        Err(_) => Err(Undrawn::NoMemory),
+    }
+}

@@ -1,0 +1,242 @@
+//! How the tasks of a region stand that have lanes: units, deadlocks, and changes that stay.
+
+ghost use Rattle.std.specs.Prelude.{◌≡◌, ◌↔◌, ◌≤◌, ℕ, true, Some, length, IfOk};
+ghost use Rattle.std.specs.List.{list_any};
+ghost use Rattle.cics_names.specs.Keyed.{Bytes, is_same, is_key_in};
+ghost use Rattle.cics_dispatch.specs.Machine.Machine.{Machine};
+ghost use Rattle.cics_dispatch.specs.Machine.Blockers.{label_at, unit_of};
+ghost use Rattle.cics_picture.specs.Lanes.{most_lanes};
+ghost use Rattle.cics_picture.specs.Draw.Standings.{shown_deadlocks, standing_at, standings_of};
+ghost use Rattle.cics_picture.specs.Draw.Standings.{is_change, stays, any_stays, marked_at, entries_at};
+ghost use Rattle.cics_picture.specs.Draw.Standings.{standings_at, outcomes_at, look_of, looks_at};
+ghost use Rattle.cics_picture.specs.Draw.Standings.{IsInDeadlock};
+
+use crate::{Look, MOST_LANES, NOBODY, Standing};
+use cics_dispatch::Region;
+use cics_dispatch::deadlocks::deadlocks;
+use cics_history::{Entry, Op, UnitState};
+use cics_names::{Condition, Items, Name8, NoMemory};
+use cics_run::stage::Stage;
+use cics_units::Opening;
+use std::alloc::Global;
+
+/// If each task has a lane, `is_deadlocked` of a task is true exactly if it is in a deadlock. The
+/// tasks of a deadlock wait in a circle, each for the task that blocks it.
+pub fn deadlocks_are_marked()
+    ensures { (m : Machine) (number : ℕ) (label : Bytes) → length m.tasks ≤ most_lanes
+        → label_at m.tasks number ≡ Some label
+        → ((standing_at m (shown_deadlocks m) number).is_deadlocked ≡ true)
+        ↔ IsInDeadlock m label }
+{}
+
+/// Returns whether two names are the same.
+pub fn is_same(label: &Name8, other: &Name8) -> bool
+    ensures { result ≡ is_same label.now other.now }
+{
+    *label == *other
+}
+
+fn has_label(labels: &[Name8], label: &Name8) -> bool
+    ensures { result ≡ is_key_in label.now labels.now }
+{
+    for own in labels {
+        if is_same(label, own) {
+            return true;
+        }
+    }
+    false
+}
+
+// Whether one of these deadlocks has the task of a label.
+fn is_in_one(deadlocks: &[Items<Name8>], label: &Name8) -> bool
+    ensures { result ≡ list_any (is_key_in label.now) deadlocks.now }
+{
+    for labels in deadlocks {
+        if has_label(labels.as_slice(), label) {
+            return true;
+        }
+    }
+    false
+}
+
+// The deadlocks of a region, if each of its tasks has a lane. To look for them among many tasks
+// after each line would take long.
+#[tactic(auto, unfolding(crate::specs::Draw::Standings::shown_deadlocks))]
+fn shown_deadlocks(alloc: Global, region: &Region) -> Result<Items<Items<Name8>>, NoMemory>
+    ensures { IfOk result (λ found. found ≡ shown_deadlocks region.now.machine) }
+{
+    if region.task_count() > MOST_LANES {
+        return Ok(Items::new(alloc));
+    }
+    deadlocks(alloc, region)
+}
+
+/// Returns the number of the open unit of a label's task, if it has one.
+pub fn unit_of(region: &Region, label: &Name8) -> Option<u64>
+    ensures { result ≡ unit_of region.now.machine label.now }
+{
+    match region.unit(label) {
+        Some(unit) => Some(unit.number()),
+        None => None,
+    }
+}
+
+// How the task of a number stands.
+fn standing_at(region: &Region, deadlocks: &[Items<Name8>], number: usize) -> Standing
+    ensures { result ≡ standing_at region.now.machine deadlocks.now number }
+{
+    match region.label_at(number) {
+        Some(label) => Standing {
+            unit: unit_of(region, &label),
+            is_deadlocked: is_in_one(deadlocks, &label),
+            stays: false,
+            shows: None,
+        },
+        None => NOBODY,
+    }
+}
+
+/// Returns whether a command is one that changes something: READ UPDATE alone is none.
+pub fn is_change(op: &Op) -> bool
+    ensures { result ≡ is_change op.now }
+{
+    !matches!(op, Op::ReadUpdate { .. })
+}
+
+// Returns whether a unit changed something unrecoverable by an entry: no backout undoes that.
+fn stays(opening: &Opening, unit: u64, entry: &Entry) -> Result<bool, NoMemory>
+    ensures { IfOk result (λ yes. yes ≡ stays opening.now unit entry.now) }
+{
+    if entry.unit().number() != unit || entry.condition() != Condition::Normal {
+        return Ok(false);
+    }
+    let op = entry.op()?;
+    Ok(is_change(&op) && !opening.is_recoverable(&op))
+}
+
+// Returns whether a unit made a change that stays by one of these entries.
+fn is_in_any(opening: &Opening, unit: u64, entries: &[Entry]) -> Result<bool, NoMemory>
+    ensures { IfOk result (λ yes. yes ≡ list_any (stays opening.now unit) entries.now) }
+{
+    for entry in entries {
+        if stays(opening, unit, entry)? {
+            return Ok(true);
+        }
+    }
+    Ok(false)
+}
+
+// Returns whether a unit made a change that stays after the first `before` entries of the history.
+fn any_stays(region: &Region, before: usize, unit: Option<u64>) -> Result<bool, NoMemory>
+    ensures { IfOk result (λ yes. yes ≡ any_stays before region.now.machine unit) }
+{
+    let units = region.units();
+    match unit {
+        Some(unit) => {
+            is_in_any(
+                units.opening(),
+                unit,
+                units.trace().get(before..).unwrap_or(&[]),
+            )
+        }
+        None => Ok(false),
+    }
+}
+
+// Returns how the task of a number stands after a line, before which the history had `before`
+// entries.
+fn marked_at(
+    region: &Region,
+    deadlocks: &[Items<Name8>],
+    before: usize,
+    number: usize,
+) -> Result<Standing, NoMemory>
+    ensures { IfOk result (λ standing. standing
+        ≡ marked_at before region.now.machine deadlocks.now number) }
+{
+    let standing = standing_at(region, deadlocks, number);
+    Ok(Standing {
+        unit: standing.unit,
+        is_deadlocked: standing.is_deadlocked,
+        stays: any_stays(region, before, standing.unit)?,
+        shows: None,
+    })
+}
+
+// Returns how the tasks that have lanes stand.
+#[tactic(auto, unfolding(crate::specs::Draw::Standings::standings_of))]
+fn standings_of(alloc: Global, before: usize, region: &Region) -> Result<Items<Standing>, NoMemory>
+    ensures value { IfOk result (λ standings. standings ≡ standings_of before region.now.machine) }
+    ensures few { IfOk result (λ standings. length standings ≤ most_lanes) }
+{
+    let deadlocks = shown_deadlocks(alloc, region)?;
+    let mut standings = Items::new(alloc);
+    for number in 0..MOST_LANES {
+        standings.push(marked_at(region, deadlocks.as_slice(), before, number)?)?;
+    }
+    Ok(standings)
+}
+
+/// Returns how the tasks that have lanes stand after a line. `before` is the number of entries that
+/// the history had before it. Without a region there are none.
+///
+/// Errors: `NoMemory`. Cost: O(w * w + e), w the number of waiting tasks, which is at most sixteen,
+/// e the number of the line's entries.
+pub fn standings_at(
+    alloc: Global,
+    before: usize,
+    stage: &Stage,
+) -> Result<Items<Standing>, NoMemory>
+    ensures value { IfOk result (λ standings. standings ≡ standings_at before stage.now) }
+    ensures few { IfOk result (λ standings. length standings ≤ most_lanes) }
+{
+    match stage {
+        Stage::Running(region) => standings_of(alloc, before, region),
+        Stage::Opening(_) => Ok(Items::new(alloc)),
+    }
+}
+
+/// Returns the history: the executed commands, in order.
+pub fn entries_at(stage: &Stage) -> &[Entry]
+    ensures { result.now ≡ entries_at stage.now }
+{
+    match stage {
+        Stage::Running(region) => region.units().trace(),
+        Stage::Opening(_) => &[],
+    }
+}
+
+// The outcome of each unit, by its number.
+fn outcomes_at(stage: &Stage) -> &[UnitState]
+    ensures { result.now ≡ outcomes_at stage.now }
+{
+    match stage {
+        Stage::Running(region) => region.units().outcomes(),
+        Stage::Opening(_) => &[],
+    }
+}
+
+// How the bar of a unit looks.
+fn look_of(outcome: UnitState) -> Look
+    ensures { result ≡ look_of outcome }
+{
+    match outcome {
+        UnitState::Open => Look::Open,
+        UnitState::Committed => Look::Filled,
+        UnitState::BackedOut => Look::Hollow,
+    }
+}
+
+/// Returns how the bar of each unit looks, by its number.
+///
+/// Errors: `NoMemory`. Cost: O(units).
+pub fn looks_at(alloc: Global, stage: &Stage) -> Result<Items<Look>, NoMemory>
+    ensures { IfOk result (λ looks. looks ≡ looks_at stage.now) }
+{
+    let outcomes = outcomes_at(stage);
+    let mut looks = Items::new(alloc);
+    for outcome in outcomes {
+        looks.push(look_of(*outcome))?;
+    }
+    Ok(looks)
+}

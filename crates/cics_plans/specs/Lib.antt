@@ -1,4 +1,0 @@
-pub mod Firsts
-pub mod Defining
-pub mod Taking
-pub mod Proper

@@ -1,7 +1,0 @@
-use Rattle.std.proofs.Common.{◌≡◌}
-use Rattle.cics_replay.specs.Listings.{listed_files}
-use Rattle.cics_replay.proofs.replay.store.files_listed.Given as goal
-
--- the files that were passed are listed
-abbrev pub invariant-loop-name : goal.invariant-loop-name
-invariant-loop-name l = l.listed ≡ listed_files l.opening l.yielded

@@ -1,4 +1,0 @@
-use Rattle.cics_report.proofs.counts.+push_wide.Given as goal
-
-abbrev pub decreases-push_wide : goal.decreases-push_wide
-decreases-push_wide l = l.number

@@ -1,5 +1,0 @@
-use Rattle.cics_report.proofs.PlainFaults.{faults_are_those}
-use Rattle.cics_report.proofs.laws.faults_are_those_of_runs.Goals as goal
-
-pub returns : goal.returns
-returns c = faults_are_those

@@ -1,8 +1,0 @@
-use Rattle.std.proofs.Common.{◌≡◌, take}
-use Rattle.std.specs.Prelude.{filter}
-use Rattle.cics_report.specs.Parts.{is_in_each}
-use Rattle.cics_report.proofs.parts.common.Given as goal
-
--- those of the parts so far
-abbrev pub invariant-loop-i : goal.invariant-loop-i
-invariant-loop-i l = l.all ≡ filter (is_in_each l.endings) (take l.i l.parts)

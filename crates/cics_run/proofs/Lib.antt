@@ -1,0 +1,5 @@
+pub mod OfSession
+pub mod OfStage
+mod OfListing
+pub mod OfWhole
+pub mod OfTold

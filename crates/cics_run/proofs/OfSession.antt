@@ -1,0 +1,13 @@
+pub mod EarlyFault
+pub mod QueueScripts
+pub mod ScriptRows
+pub mod SerialScripts
+pub mod Known
+pub mod Counting
+pub mod Scripts
+pub mod Playing
+pub mod Printing
+pub mod Steps
+pub mod Ending
+pub mod Reading
+pub mod RunCounts

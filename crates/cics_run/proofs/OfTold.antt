@@ -1,0 +1,5 @@
+pub mod AmissRows
+pub mod Put
+pub mod InLine
+pub mod Finding
+pub mod Journal

@@ -1,0 +1,5 @@
+pub mod Session
+pub mod Stage
+pub mod Listing
+pub mod Whole
+pub mod Told

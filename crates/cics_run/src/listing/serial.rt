@@ -1,0 +1,291 @@
+//! The serial run, as a script that can be run.
+
+ghost use Rattle.std.specs.Prelude.{◌≡◌, ◌++◌, ◌∷◌, [], OnOk};
+ghost use Rattle.std.specs.List.{flat_map};
+ghost use Rattle.std.specs.Fmt.{decimal};
+ghost use Rattle.cics_units.specs.Opening.Definitions.{defined_files, defined_queues};
+ghost use Rattle.cics_script.specs.Texts.{text_of, name_text};
+ghost use Rattle.cics_run.specs.Listing.Serial.{option_with_value, bare_option, key_and_size_options};
+ghost use Rattle.cics_run.specs.Listing.Serial.{load_line, file_line, file_lines, prefix_line};
+ghost use Rattle.cics_run.specs.Listing.Serial.{queue_line};
+ghost use Rattle.cics_run.specs.Listing.Serial.{queue_lines, opening_lines, unit_lines};
+ghost use Rattle.cics_run.specs.Listing.Serial.{committed_lines, open_from, open_units, serial_text};
+ghost use Rattle.cics_run.specs.Listing.UnitLines.{lines_at};
+
+use crate::listing::listing::{recoverable_title, recovery_title};
+use crate::listing::unit_lines::{gathered, push_command, push_label};
+use cics_history::UnitId;
+use cics_ksds::FileDef;
+use cics_names::{Items, Name4, Name8, NoMemory, Record, Verb};
+use cics_script::spelling::{push_name, push_number, push_str, push_text};
+use cics_transdata::Recovery;
+use cics_units::{Opening, UnitState, Units};
+
+/// Appends the serial run of units of work, behind its heading: a script that defines and loads
+/// what was opened. It has a task for each committed unit, in commit order. The task does what the
+/// unit did to recoverable files and queues, and commits. Behind them come the open units, in the
+/// order of their numbers, which don't commit.
+///
+/// It takes memory for the lines of each unit, for the text and for copies of its records. On
+/// `NoMemory`, the only error, `out` holds the first part of the text behind what it held.
+pub fn push_serial(out: &mut Vec<u8>, units: &Units) -> Result<(), NoMemory>
+    ensures { OnOk result (out.new.items ≡ out.old.items ++ serial_text units.now.state) }
+{
+    push_str(out, "SERIAL\n")?;
+    push_opening(out, units.opening())?;
+    let rows = gathered(*out.allocator(), units.opening(), units.trace())?;
+    push_committed(out, &rows, units.commits())?;
+    push_open(out, &rows, units.outcomes())?;
+    Ok(())
+}
+
+// Appends what was defined and loaded.
+fn push_opening(out: &mut Vec<u8>, opening: &Opening) -> Result<(), NoMemory>
+    ensures { OnOk result (out.new.items ≡ out.old.items ++ opening_lines opening.now) }
+{
+    push_opened_files(out, opening)?;
+    push_prefixes(out, opening.prefixes())?;
+    push_opened_queues(out, opening)
+}
+
+fn push_opened_files(out: &mut Vec<u8>, opening: &Opening) -> Result<(), NoMemory>
+    ensures { OnOk result (out.new.items
+        ≡ out.old.items ++ flat_map file_lines (defined_files opening.now)) }
+{
+    push_files(out, opening.defined_files()?.as_slice())
+}
+
+fn push_opened_queues(out: &mut Vec<u8>, opening: &Opening) -> Result<(), NoMemory>
+    ensures { OnOk result (out.new.items
+        ≡ out.old.items ++ flat_map queue_lines (defined_queues opening.now)) }
+{
+    push_queues(out, opening.defined_queues()?.as_slice())
+}
+
+fn push_files(out: &mut Vec<u8>, files: &[(Name8, FileDef, Items<Record>)]) -> Result<(), NoMemory>
+    ensures { OnOk result (out.new.items ≡ out.old.items ++ flat_map file_lines files.now) }
+{
+    for file in files {
+        push_file(out, file)?;
+    }
+    Ok(())
+}
+
+fn push_prefixes(out: &mut Vec<u8>, prefixes: &[Name8]) -> Result<(), NoMemory>
+    ensures { OnOk result (out.new.items ≡ out.old.items ++ flat_map prefix_line prefixes.now) }
+{
+    for prefix in prefixes {
+        push_prefix(out, prefix)?;
+    }
+    Ok(())
+}
+
+fn push_queues(
+    out: &mut Vec<u8>,
+    queues: &[(Name4, Recovery, Items<Record>)],
+) -> Result<(), NoMemory>
+    ensures { OnOk result (out.new.items ≡ out.old.items ++ flat_map queue_lines queues.now) }
+{
+    for queue in queues {
+        push_queue(out, queue)?;
+    }
+    Ok(())
+}
+
+// Appends a file, and what was loaded into it.
+fn push_file(out: &mut Vec<u8>, file: &(Name8, FileDef, Items<Record>)) -> Result<(), NoMemory>
+    ensures { OnOk result (out.new.items ≡ out.old.items ++ file_lines file.now) }
+{
+    let name = file.0.bytes();
+    push_file_line(out, &name, file.1)?;
+    push_loads(out, "FILE", &name, file.2.as_slice())
+}
+
+fn push_file_line(out: &mut Vec<u8>, name: &[u8], definition: FileDef) -> Result<(), NoMemory>
+    ensures { OnOk result (out.new.items ≡ out.old.items ++ file_line name.now definition) }
+{
+    push_str(out, "DEFINE")?;
+    push_named(out, "FILE", name)?;
+    push_numbers(out, definition)?;
+    push_flag(out, recoverable_title(definition.recoverable))?;
+    push_str(out, "\n")
+}
+
+// Appends where a file's keys lie, and how long its records may be.
+#[tactic(auto, unfolding(crate::specs::Listing::Serial::key_and_size_options))]
+fn push_numbers(out: &mut Vec<u8>, definition: FileDef) -> Result<(), NoMemory>
+    ensures { OnOk result (out.new.items ≡ out.old.items ++ key_and_size_options definition) }
+{
+    push_amount(out, "KEYLENGTH", definition.key_length)?;
+    push_amount(out, "KEYOFFSET", definition.key_offset)?;
+    push_amount(out, "RECORDSIZE", definition.record_size)
+}
+
+fn push_prefix(out: &mut Vec<u8>, prefix: &Name8) -> Result<(), NoMemory>
+    ensures { OnOk result (out.new.items ≡ out.old.items ++ prefix_line prefix.now) }
+{
+    push_str(out, "DEFINE")?;
+    push_named(out, "TSPREFIX", &prefix.bytes())?;
+    push_str(out, "\n")
+}
+
+// Appends a transient data queue, and what was loaded into it.
+fn push_queue(out: &mut Vec<u8>, queue: &(Name4, Recovery, Items<Record>)) -> Result<(), NoMemory>
+    ensures { OnOk result (out.new.items ≡ out.old.items ++ queue_lines queue.now) }
+{
+    let name = queue.0.bytes();
+    push_queue_line(out, &name, queue.1)?;
+    push_loads(out, "TDQUEUE", &name, queue.2.as_slice())
+}
+
+fn push_queue_line(out: &mut Vec<u8>, name: &[u8], recovery: Recovery) -> Result<(), NoMemory>
+    ensures { OnOk result (out.new.items ≡ out.old.items ++ queue_line name.now recovery) }
+{
+    push_str(out, "DEFINE")?;
+    push_named(out, "TDQUEUE", name)?;
+    push_flag(out, recovery_title(recovery))?;
+    push_str(out, "\n")
+}
+
+// Appends the records that were loaded into a file or queue.
+fn push_loads(
+    out: &mut Vec<u8>,
+    kind: &str,
+    name: &[u8],
+    records: &[Record],
+) -> Result<(), NoMemory>
+    ensures { OnOk result (out.new.items
+        ≡ out.old.items ++ flat_map (load_line kind.now name.now) records.now) }
+{
+    for loaded in records {
+        push_load(out, kind, name, loaded.bytes())?;
+    }
+    Ok(())
+}
+
+fn push_load(out: &mut Vec<u8>, kind: &str, name: &[u8], loaded: &[u8]) -> Result<(), NoMemory>
+    ensures { OnOk result (out.new.items
+        ≡ out.old.items ++ load_line kind.now name.now loaded.now) }
+{
+    push_str(out, "LOAD")?;
+    push_named(out, kind, name)?;
+    push_content(out, "FROM", loaded)?;
+    push_str(out, "\n")
+}
+
+// Appends a word that stands alone.
+#[tactic(auto, unfolding(crate::specs::Listing::Serial::bare_option))]
+fn push_flag(out: &mut Vec<u8>, title: &str) -> Result<(), NoMemory>
+    ensures { OnOk result (out.new.items ≡ out.old.items ++ bare_option title.now) }
+{
+    push_str(out, " ")?;
+    push_str(out, title)
+}
+
+// Appends an option that gives a name.
+#[tactic(auto, unfolding(crate::specs::Listing::Serial::option_with_value))]
+fn push_named(out: &mut Vec<u8>, title: &str, name: &[u8]) -> Result<(), NoMemory>
+    ensures { OnOk result (out.new.items
+        ≡ out.old.items ++ option_with_value title.now (name_text name.now)) }
+{
+    push_str(out, " ")?;
+    push_str(out, title)?;
+    push_str(out, "(")?;
+    push_name(out, name)?;
+    push_str(out, ")")
+}
+
+// Appends an option that gives a record.
+#[tactic(auto, unfolding(crate::specs::Listing::Serial::option_with_value))]
+fn push_content(out: &mut Vec<u8>, title: &str, content: &[u8]) -> Result<(), NoMemory>
+    ensures { OnOk result (out.new.items
+        ≡ out.old.items ++ option_with_value title.now (text_of content.now)) }
+{
+    push_str(out, " ")?;
+    push_str(out, title)?;
+    push_str(out, "(")?;
+    push_text(out, content)?;
+    push_str(out, ")")
+}
+
+// Appends an option that gives a number.
+#[tactic(auto, unfolding(crate::specs::Listing::Serial::option_with_value))]
+fn push_amount(out: &mut Vec<u8>, title: &str, number: u64) -> Result<(), NoMemory>
+    ensures { OnOk result (out.new.items
+        ≡ out.old.items ++ option_with_value title.now (decimal number)) }
+{
+    push_str(out, " ")?;
+    push_str(out, title)?;
+    push_str(out, "(")?;
+    push_number(out, number)?;
+    push_str(out, ")")
+}
+
+// Appends the committed units, in this order.
+fn push_committed(out: &mut Vec<u8>, rows: &[Vec<u8>], commits: &[UnitId]) -> Result<(), NoMemory>
+    ensures { OnOk result (out.new.items ≡ out.old.items
+        ++ flat_map (committed_lines (lines_at rows.now)) commits.now) }
+{
+    for unit in commits {
+        push_committed_unit(out, rows, *unit)?;
+    }
+    Ok(())
+}
+
+fn push_committed_unit(out: &mut Vec<u8>, rows: &[Vec<u8>], unit: UnitId) -> Result<(), NoMemory>
+    ensures { OnOk result (out.new.items
+        ≡ out.old.items ++ committed_lines (lines_at rows.now) unit) }
+{
+    push_unit(out, rows, unit)?;
+    push_command(out, unit, Verb::Syncpoint)
+}
+
+// Appends the open units.
+fn push_open(out: &mut Vec<u8>, rows: &[Vec<u8>], outcomes: &[UnitState]) -> Result<(), NoMemory>
+    ensures { OnOk result (out.new.items ≡ out.old.items
+        ++ flat_map (unit_lines (lines_at rows.now)) (open_units outcomes.now)) }
+{
+    for (number, outcome) in outcomes.iter().enumerate() {
+        push_if_open(out, rows, UnitId::new(number as u64), *outcome)?;
+    }
+    Ok(())
+}
+
+// Appends a unit with this outcome, if it is open.
+fn push_if_open(
+    out: &mut Vec<u8>,
+    rows: &[Vec<u8>],
+    unit: UnitId,
+    outcome: UnitState,
+) -> Result<(), NoMemory>
+    ensures { OnOk result (out.new.items ≡ out.old.items
+        ++ flat_map (unit_lines (lines_at rows.now)) (open_from unit (outcome ∷ []))) }
+{
+    match outcome {
+        UnitState::Open => push_unit(out, rows, unit),
+        UnitState::Committed | UnitState::BackedOut => Ok(()),
+    }
+}
+
+// Appends a unit: its task is attached, and does what the unit did.
+fn push_unit(out: &mut Vec<u8>, rows: &[Vec<u8>], unit: UnitId) -> Result<(), NoMemory>
+    ensures { OnOk result (out.new.items
+        ≡ out.old.items ++ unit_lines (lines_at rows.now) unit) }
+{
+    push_str(out, "ATTACH ")?;
+    push_label(out, unit)?;
+    push_str(out, " TRANSID('UNIT')")?;
+    push_str(out, "\n")?;
+    out.extend_from_slice(lines_of(rows, unit))?;
+    Ok(())
+}
+
+// Returns the lines of a unit.
+fn lines_of(rows: &[Vec<u8>], unit: UnitId) -> &[u8]
+    ensures { result.now ≡ lines_at rows.now unit }
+{
+    match rows.get(unit.number() as usize) {
+        Some(row) => row,
+        None => &[],
+    }
+}

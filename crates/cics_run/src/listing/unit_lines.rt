@@ -1,0 +1,174 @@
+//! What units of work did, as command lines of a task for each of them.
+
+ghost use Rattle.std.specs.Prelude.{◌≡◌, ◌++◌, ◌<◌, ◌&&◌, ℕ, OnOk, IfOk, length};
+ghost use Rattle.cics_history.specs.Store.{is_normal, is_recoverable};
+ghost use Rattle.cics_run.specs.Listing.Serial.{unit_label, unit_command_line, verb_for};
+ghost use Rattle.cics_run.specs.Listing.Serial.{done_lines, unlock_line};
+ghost use Rattle.cics_run.specs.Listing.UnitLines.{lines_at, lines_added};
+
+use cics_history::UnitId;
+use cics_names::{Command, Condition, Name8, NoMemory, Record, Verb};
+use cics_script::spelling::{push_number, push_str, write_out};
+use cics_units::{Entry, Op, Opening};
+use std::alloc::Global;
+
+/// Returns the lines of what each unit did to recoverable files and queues, in its order. There is
+/// a row for each unit by its number, up to the last one that did something. It walks the commands
+/// once. `alloc` gives the memory for the rows. The only error is `NoMemory`.
+pub fn gathered(alloc: Global, opening: &Opening, trace: &[Entry]) -> Result<Vec<Vec<u8>>, NoMemory>
+    ensures { IfOk result (λ rows. (unit : ℕ) →
+        lines_at rows.items unit ≡ done_lines opening.now trace.now unit) }
+{
+    let mut rows = Vec::new(alloc);
+    for entry in trace {
+        gather(&mut rows, alloc, opening, entry)?;
+    }
+    Ok(rows)
+}
+
+// Adds the lines of a command to those of its unit, if the command was done.
+fn gather(
+    rows: &mut Vec<Vec<u8>>,
+    alloc: Global,
+    opening: &Opening,
+    entry: &Entry,
+) -> Result<(), NoMemory>
+    ensures { OnOk result ((unit : ℕ) → lines_at rows.new.items unit
+        ≡ lines_at rows.old.items unit ++ lines_added opening.now entry.now unit) }
+{
+    let op = entry.op()?;
+    if !is_done(opening, entry.condition(), &op) {
+        return Ok(());
+    }
+    let unit = entry.unit();
+    let at = unit.number() as usize;
+    grow(rows, alloc, at)?;
+    push_entry(&mut rows[at], unit, &op)?;
+    Ok(())
+}
+
+// Returns whether a command was answered NORMAL, on a recoverable file or queue.
+fn is_done(opening: &Opening, condition: Condition, op: &Op) -> bool
+    ensures { result ≡ (is_normal condition && is_recoverable opening.now op.now) }
+{
+    condition == Condition::Normal && opening.is_recoverable(op)
+}
+
+// Adds an empty row for each unit up to this one that has none.
+fn grow(rows: &mut Vec<Vec<u8>>, alloc: Global, last: usize) -> Result<(), NoMemory>
+    ensures same { OnOk result ((unit : ℕ) →
+        lines_at rows.new.items unit ≡ lines_at rows.old.items unit) }
+    ensures there { OnOk result (last < length rows.new.items) }
+{
+    while rows.len() <= last {
+        rows.push(Vec::new(alloc))?;
+    }
+    Ok(())
+}
+
+// Appends the lines of a command of a unit.
+fn push_entry(out: &mut Vec<u8>, unit: UnitId, op: &Op) -> Result<(), NoMemory>
+    ensures { OnOk result (out.new.items
+        ≡ out.old.items ++ (unlock_line unit op.now ++ unit_command_line unit (verb_for op.now))) }
+{
+    push_unlock(out, unit, op)?;
+    push_command(out, unit, verb_for(op)?)
+}
+
+// Appends an UNLOCK before a READ UPDATE, since an update read of the file may be open.
+fn push_unlock(out: &mut Vec<u8>, unit: UnitId, op: &Op) -> Result<(), NoMemory>
+    ensures { OnOk result (out.new.items ≡ out.old.items ++ unlock_line unit op.now) }
+{
+    match op {
+        Op::ReadUpdate { file, .. } => push_command(out, unit, Verb::Unlock { file: *file }),
+        _ => Ok(()),
+    }
+}
+
+/// Appends a command of the task of a unit.
+pub fn push_command(out: &mut Vec<u8>, unit: UnitId, verb: Verb) -> Result<(), NoMemory>
+    ensures { OnOk result (out.new.items ≡ out.old.items ++ unit_command_line unit verb) }
+{
+    let command = Command { verb, resp: false };
+    let mut label = Vec::new(*out.allocator());
+    push_label(&mut label, unit)?;
+    write_out(out, &label, &command)?;
+    push_str(out, "\n")
+}
+
+/// Appends the label of the task of a unit.
+pub fn push_label(out: &mut Vec<u8>, unit: UnitId) -> Result<(), NoMemory>
+    ensures { OnOk result (out.new.items ≡ out.old.items ++ unit_label unit) }
+{
+    push_str(out, "U")?;
+    push_number(out, unit.number())
+}
+
+// Returns DELETE of a key, or with `generic` of each key that begins with it.
+fn delete_of(file: Name8, key: Record, generic: bool) -> Verb
+    ensures { result ≡ Verb.Delete file (Some key) None generic }
+{
+    Verb::Delete {
+        file,
+        ridfld: Some(key),
+        key_length: None,
+        generic,
+    }
+}
+
+// Returns WRITEQ TS, with REWRITE and ITEM if the number of an item is given.
+fn ts_write_of(queue: Name8, from: Record, item: Option<u64>) -> Verb
+    ensures { result ≡ Verb.WriteqTs queue from None item }
+{
+    Verb::WriteqTs {
+        queue,
+        from,
+        length: None,
+        item,
+    }
+}
+
+// Returns the verb that asks for an updating command. It takes memory for copies of its records.
+fn verb_for(op: &Op) -> Result<Verb, NoMemory>
+    ensures { IfOk result (λ verb. verb ≡ verb_for op.now) }
+{
+    Ok(match op {
+        Op::Write { file, key, from } => Verb::Write {
+            file: *file,
+            ridfld: key.copy()?,
+            key_length: None,
+            from: from.copy()?,
+            length: None,
+        },
+        Op::Rewrite { file, from, .. } => Verb::Rewrite {
+            file: *file,
+            from: from.copy()?,
+            length: None,
+        },
+        Op::Delete { file, key } => delete_of(*file, key.copy()?, false),
+        Op::DeleteGeneric { file, prefix } => delete_of(*file, prefix.copy()?, true),
+        Op::ReadUpdate { file, key } => Verb::Read {
+            file: *file,
+            ridfld: key.copy()?,
+            key_length: None,
+            length: None,
+            generic: false,
+            gteq: false,
+            update: true,
+        },
+        Op::TsWrite { queue, from } => ts_write_of(*queue, from.copy()?, None),
+        Op::TsRewrite { queue, item, from } => ts_write_of(*queue, from.copy()?, Some(*item)),
+        Op::TsDelete { queue } => Verb::DeleteqTs { queue: *queue },
+        Op::TdWrite { queue, from } => Verb::WriteqTd {
+            queue: *queue,
+            from: from.copy()?,
+            length: None,
+        },
+        Op::TdRead { queue } => Verb::ReadqTd {
+            queue: *queue,
+            length: None,
+            nosuspend: false,
+        },
+        Op::TdDelete { queue } => Verb::DeleteqTd { queue: *queue },
+    })
+}

@@ -1,0 +1,166 @@
+//! The run of a script.
+
+ghost use Rattle.std.specs.Prelude.{◌≡◌, None};
+ghost use Rattle.cics_run.specs.Session.Streams.{Rises, RisesAtMost, failures};
+ghost use Rattle.cics_run.specs.Session.Running.{RunsOver, plain, most_reads, read_failures};
+ghost use Rattle.cics_run.specs.Session.Running.{write_failures};
+ghost use Rattle.cics_run.specs.Session.Wanted.{form_of};
+ghost use Rattle.cics_run.specs.Session.Standing.{IsNew, KeepsEnd, ended, fault_of};
+
+use crate::session::session::Session;
+use crate::session::streams::{Sink, Source};
+use crate::session::writing::Stop;
+use std::alloc::Global;
+use std::io::{Read, Write};
+use thiserror::Error;
+
+/// The greatest number of bytes that a script may have.
+pub const LIMIT: usize = 16_777_216;
+
+/// The greatest number of bytes that are asked for at once.
+pub const CHUNK: usize = 65_536;
+
+/// How a run ended that wrote all that it had to.
+#[derive(Clone, Copy, PartialEq, Eq)]
+pub enum Status {
+    /// Every line was run; the journal and what was asked for after it are written.
+    Done,
+    /// A line or a definition has a fault. The journal up to it is written, with the fault as its
+    /// last line, and nothing behind it.
+    LineFault,
+}
+
+/// Why a run stopped. The first part of what the whole run would write is written then.
+#[derive(Debug, Drop, Error)]
+pub enum RunFault {
+    /// A request for memory was refused.
+    #[error("no memory")]
+    NoMemory,
+    /// The reader failed, and wasn't asked again. The journal of the complete lines is written.
+    #[error("read fault")]
+    ReadFault,
+    /// The writer failed, or took nothing, and wasn't asked again: it has the bytes that it took.
+    #[error("write fault")]
+    WriteFault,
+    /// The reader has more than `LIMIT` bytes. The journal of the lines that the first `LIMIT`
+    /// bytes complete is written.
+    #[error("input too long")]
+    InputTooLong,
+}
+
+/// What `run` prints beside the journal.
+#[derive(Clone, Copy, PartialEq, Eq)]
+pub struct Options {
+    /// Print the replay behind the listing.
+    pub replay: bool,
+    /// Leave out the listing.
+    pub no_list: bool,
+}
+
+/// What the program prints: the options of a run, the serial run, and the script.
+#[derive(Clone, Copy)]
+pub struct Wanted {
+    pub options: Options,
+    /// Print the serial run behind the listing and the replay.
+    pub serial: bool,
+    /// Print each line of the script in front of its journal lines.
+    pub with_script: bool,
+}
+
+/// The options of a report on the orders in which a script's tasks may give their lines.
+///
+/// - `told`: whether endings with different answers are different.
+/// - `limit`: about how many states of the region and its lanes are followed.
+/// - `ending`: the number of the ending to print as a script, if one is given.
+#[derive(Clone, Copy)]
+pub struct Orders {
+    pub told: bool,
+    pub limit: u64,
+    pub ending: Option<u64>,
+}
+
+/// Runs the script that a reader gives, and writes its journal and what follows it.
+///
+/// It is [`run_over`] a source and a sink that count nothing, and prints neither the serial run nor
+/// the script. `alloc` gives the memory of the region and of what is printed.
+pub fn run<R: Read, W: Write>(
+    alloc: Global,
+    reader: &mut R,
+    writer: &mut W,
+    options: Options,
+) -> Result<Status, RunFault>
+    ensures whole_run { RunsOver (plain options) (R.remaining reader.old)
+        (R.remaining reader.new) None (W.contents writer.old) (W.contents writer.new) result }
+{
+    let wanted = Wanted {
+        options,
+        serial: false,
+        with_script: false,
+    };
+    let mut session = Session::new(alloc);
+    run_over(&mut session, reader, writer, wanted)
+}
+
+/// Runs the script that a source gives, and writes its journal and what follows it.
+///
+/// It reads at most `LIMIT` bytes, and one more to see whether there are more. Once it has printed
+/// a fault it reads no more. A last line that lacks its LF is run at the input's end.
+///
+/// Returns how the run ended, or why it stopped: `Status` and `RunFault` say what is written then.
+/// It returns a read or a write fault only if that very call failed, and tries none again.
+///
+/// The session is a new one, and is left to its owner, who drops it. At the end it has the region
+/// in which the lines ended, and after a fault the line that has it. A process that ends right
+/// after the run may forget it.
+pub fn run_over<S: Source, K: Sink>(
+    session: &mut Session,
+    source: &mut S,
+    sink: &mut K,
+    wanted: Wanted,
+) -> Result<Status, RunFault>
+    requires new { IsNew session.old }
+    ensures read_faults { Rises (S.failed source.old) (S.failed source.new)
+        (failures read_failures result) }
+    ensures write_faults { Rises (K.failed sink.old) (K.failed sink.new)
+        (failures write_failures result) }
+    ensures asked { RisesAtMost (S.asked source.old) (S.asked source.new) most_reads }
+    ensures kept { KeepsEnd (S.remaining source.old) (S.remaining source.new) session.new result }
+    ensures whole_run { RunsOver (form_of wanted) (S.remaining source.old) (S.remaining source.new)
+        (S.last source.new) (K.contents sink.old) (K.contents sink.new) result }
+{
+    session.with_script = wanted.with_script;
+    let mut buffer = [0u8; CHUNK];
+    let mut room = LIMIT;
+    'reads: loop {
+        let size = room.min(CHUNK).max(1);
+        match source.read(&mut buffer[..size]) {
+            Ok(0) => return ended(session.finish(wanted, sink)),
+            Ok(_) if room == 0 => return Err(RunFault::InputTooLong),
+            Ok(n) => match session.feed(&buffer[..n], sink) {
+                Ok(false) => room -= n,
+                Ok(true) => return Ok(Status::LineFault),
+                Err(stop) => return Err(fault_of(stop)),
+            },
+            Err(_) => return Err(RunFault::ReadFault),
+        }
+    }
+}
+
+fn fault_of(stop: Stop) -> RunFault
+    ensures { result ≡ fault_of stop }
+{
+    match stop {
+        Stop::NoMemory => RunFault::NoMemory,
+        Stop::WriteFault => RunFault::WriteFault,
+    }
+}
+
+// Returns the answer of a run that came to the input's end.
+fn ended(answer: Result<Status, Stop>) -> Result<Status, RunFault>
+    ensures { result ≡ ended answer }
+{
+    match answer {
+        Ok(status) => Ok(status),
+        Err(stop) => Err(fault_of(stop)),
+    }
+}

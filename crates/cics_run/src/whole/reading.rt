@@ -1,0 +1,46 @@
+//! A script that is read whole.
+
+ghost use Rattle.std.specs.Prelude.{◌≡◌, ◌++◌, [], OnOk};
+ghost use Rattle.cics_run.specs.Session.Running.{most_reads, read_failures};
+ghost use Rattle.cics_run.specs.Session.Streams.{Rises, RisesAtMost, failures};
+ghost use Rattle.cics_run.specs.Whole.Reads.{Reads};
+
+use crate::session::{CHUNK, LIMIT, RunFault, Source};
+use cics_names::NoMemory;
+
+// Adds the bytes of a source to the end of a text.
+fn push_chunk(script: &mut Vec<u8>, chunk: &[u8]) -> Result<(), NoMemory>
+    ensures { OnOk result (script.new.items ≡ script.old.items ++ chunk.now) }
+{
+    script.extend_from_slice(chunk)?;
+    Ok(())
+}
+
+/// Reads a script to its end: at most `LIMIT` bytes, and one more to see whether there are more.
+///
+/// `script` must be empty.
+///
+/// Errors: `InputTooLong`; `ReadFault` if a read failed; `NoMemory`. Cost: O(bytes that it reads).
+pub fn read_script<S: Source>(source: &mut S, script: &mut Vec<u8>) -> Result<(), RunFault>
+    requires { script.old.items ≡ [] }
+    ensures reads { Reads (S.remaining source.old) (S.remaining source.new) script.new.items
+        result }
+    ensures failed { Rises (S.failed source.old) (S.failed source.new)
+        (failures read_failures result) }
+    ensures asked { RisesAtMost (S.asked source.old) (S.asked source.new) most_reads }
+{
+    let mut buffer = [0u8; CHUNK];
+    let mut room = LIMIT;
+    'reads: loop {
+        let size = room.min(CHUNK).max(1);
+        match source.read(&mut buffer[..size]) {
+            Ok(0) => return Ok(()),
+            Ok(_) if room == 0 => return Err(RunFault::InputTooLong),
+            Ok(n) => match push_chunk(script, &buffer[..n]) {
+                Ok(()) => room -= n,
+                Err(_) => return Err(RunFault::NoMemory),
+            },
+            Err(_) => return Err(RunFault::ReadFault),
+        }
+    }
+}

@@ -1,0 +1,14 @@
+use Rattle.std.proofs.Common.{arith}
+use Rattle.cics_script.proofs.OfSpelling.Unfilled.{unfilled-take_blank, unfilled-take_other, unfilled-take_none}
+use Rattle.cics_script.proofs.spelling.texts.unfilled.Goals as goal
+use Rattle.cics_script.proofs.spelling.texts.unfilled.Goals.{then-loop-end-test+else-name-end-eq-BLANK, else-loop-end-test}
+
+pub loop-end-preserved : goal.loop-end-preserved
+loop-end-preserved c = (omega (arith, c.loop-end.invariant.0), unfilled-take_blank c.args.name.now c.loop-end.end c.loop-end-test.true c.loop-end.invariant.0 c.loop-end.invariant.1 c.if-name-end-eq-BLANK.true)
+
+pub returns : goal.returns
+returns c =
+    elim c.loop-end-test.branch [
+      | then-loop-end-test+else-name-end-eq-BLANK w ↦ unfilled-take_other c.args.name.now c.loop-end.end w.loop-end-test.true c.loop-end.invariant.0 c.loop-end.invariant.1 w.if-name-end-eq-BLANK.false
+      | else-loop-end-test w ↦ unfilled-take_none c.args.name.now c.loop-end.end (omega (arith, w.loop-end-test.false)) c.loop-end.invariant.1
+    ]

@@ -1,7 +1,0 @@
-use Rattle.std.proofs.Common.{◌≡◌, take}
-use Rattle.cics_search.specs.Levels.{live}
-use Rattle.cics_search.proofs.exploring.live_count.Given as goal
-
--- those so far are counted
-abbrev pub invariant-loop-at : goal.invariant-loop-at
-invariant-loop-at l = l.count ≡ live (take l.at l.level.entries)

@@ -1,5 +1,0 @@
-mod AmissRows
-pub mod Put
-pub mod InLine
-pub mod Finding
-pub mod Journal

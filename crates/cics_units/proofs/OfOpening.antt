@@ -1,0 +1,5 @@
+pub mod Opened
+pub mod OpeningRows
+pub mod Changing
+pub mod Refilled
+pub mod Unpadded

@@ -1,5 +1,0 @@
-use Rattle.std.proofs.Common.{length}
-use Rattle.cics_waits.proofs.firsts.+clear_all.Given as goal
-
-abbrev pub decreases-clear_all : goal.decreases-clear_all
-decreases-clear_all l = length l.levels.now

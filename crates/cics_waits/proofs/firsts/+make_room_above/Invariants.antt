@@ -1,5 +1,0 @@
-use Rattle.std.proofs.Common.{length}
-use Rattle.cics_waits.proofs.firsts.+make_room_above.Given as goal
-
-abbrev pub decreases-make_room_above : goal.decreases-make_room_above
-decreases-make_room_above l = length l.levels.now

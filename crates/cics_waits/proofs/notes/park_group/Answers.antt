@@ -1,5 +1,0 @@
-use Rattle.cics_waits.proofs.FiledNotes.{same_unit}
-use Rattle.cics_waits.proofs.notes.park_group.Goals as goal
-
-pub returns-then-eq-clause-added : goal.returns-then-eq-clause-added
-returns-then-eq-clause-added c = c.requires (same_unit c.args.blocker c.args.unit c.eq.result c.eq.ensures c.if-eq.true)

@@ -1,8 +1,0 @@
-//! A script that is read whole, and its lines.
-#![tactic(auto)]
-
-mod lines;
-mod reading;
-
-pub use lines::{lines_of, next_line};
-pub use reading::read_script;
