@@ -1,6 +1,6 @@
 # Writes the script of one load to standard output.
 #
-#   awk -v load=NAME -v count=N -f loads.awk
+#   awk -v called=NAME -v count=N -f loads.awk
 #
 # NAME is one of the names below, each with what N counts. The same NAME and N give the same script
 # on every machine.
@@ -197,28 +197,28 @@ BEGIN {
     seed = 1
     print "DEFINE FILE('ACCT') KEYLENGTH(7) RECOVERABLE"
     print "DEFINE TSPREFIX('Q')"
-    if (load == "readers") {
+    if (called == "readers") {
         for (number = 1; number <= count; number++)
             print "DEFINE TDQUEUE('" sprintf("%04d", number) "') LOGICAL"
     } else {
         print "DEFINE TDQUEUE('WORK') LOGICAL"
     }
-    if (load == "attach") only_attach()
-    else if (load == "ascending" || load == "descending" || load == "scattered") write_all(load)
-    else if (load == "updates") update_all()
-    else if (load == "rollback") roll_back()
-    else if (load == "browse") browse_all()
-    else if (load == "generic") delete_generic()
-    else if (load == "storage") use_storage()
-    else if (load == "data") use_data()
-    else if (load == "values") use_values()
-    else if (load == "one-record") wait_for_one()
-    else if (load == "own-records") wait_for_own_records()
-    else if (load == "own-values") wait_for_own_values()
-    else if (load == "time-outs") wait_too_long()
-    else if (load == "readers") wait_to_read()
+    if (called == "attach") only_attach()
+    else if (called == "ascending" || called == "descending" || called == "scattered") write_all(called)
+    else if (called == "updates") update_all()
+    else if (called == "rollback") roll_back()
+    else if (called == "browse") browse_all()
+    else if (called == "generic") delete_generic()
+    else if (called == "storage") use_storage()
+    else if (called == "data") use_data()
+    else if (called == "values") use_values()
+    else if (called == "one-record") wait_for_one()
+    else if (called == "own-records") wait_for_own_records()
+    else if (called == "own-values") wait_for_own_values()
+    else if (called == "time-outs") wait_too_long()
+    else if (called == "readers") wait_to_read()
     else {
-        print "no such load: " load > "/dev/stderr"
+        print "no such load: " called > "/dev/stderr"
         exit 1
     }
 }

@@ -1,7 +1,7 @@
 # Writes one of the largest scripts, or one of the largest things that a script may have, and what
 # a run of it writes.
 #
-#   awk -v load=NAME -v script=FILE -v output=FILE [-v count=N] -f largest.awk
+#   awk -v called=NAME -v script=FILE -v output=FILE [-v count=N] -f largest.awk
 #
 # NAME is one of these. Those of 16 MiB are filled up with blank lines to 16,777,216 bytes.
 #
@@ -184,13 +184,13 @@ function say_all(number) {
 }
 
 function line_of(number) {
-    if (load == "files") return "DEFINE FILE('F" digits(number) "') KEYLENGTH(1) UNRECOVERABLE"
-    if (load == "queues") return "DEFINE TDQUEUE('" name_of(number) "') NONE"
-    if (load == "loads") return "LOAD FILE('LOAD') FROM('" digits(shuffled(number)) "')"
-    if (load == "attaches") return "ATTACH T" digits(number) " TRANSID('SIZE')"
-    if (load == "values") return "T1 EXEC CICS ENQ RESOURCE('" digits(number) "') LENGTH(7)"
-    if (load == "short") return "T1 EXEC CICS DEQ RESOURCE('A') LENGTH(1)"
-    if (load == "long") return "LOAD FILE('LONG') FROM('" digits(number) long "')"
+    if (called == "files") return "DEFINE FILE('F" digits(number) "') KEYLENGTH(1) UNRECOVERABLE"
+    if (called == "queues") return "DEFINE TDQUEUE('" name_of(number) "') NONE"
+    if (called == "loads") return "LOAD FILE('LOAD') FROM('" digits(shuffled(number)) "')"
+    if (called == "attaches") return "ATTACH T" digits(number) " TRANSID('SIZE')"
+    if (called == "values") return "T1 EXEC CICS ENQ RESOURCE('" digits(number) "') LENGTH(7)"
+    if (called == "short") return "T1 EXEC CICS DEQ RESOURCE('A') LENGTH(1)"
+    if (called == "long") return "LOAD FILE('LONG') FROM('" digits(number) long "')"
     return "T1 EXEC CICS WRITEQ TS QUEUE('HEX') FROM(" hexadecimal ")"
 }
 
@@ -305,24 +305,24 @@ function prefixes(number) {
 }
 
 BEGIN {
-    if (load == "records") records()
-    else if (load == "keys") keys()
-    else if (load == "enqueues") enqueues()
-    else if (load == "items") items()
-    else if (load == "lines") lines()
-    else if (load == "files") files()
-    else if (load == "queues") queues()
-    else if (load == "loads") loads()
-    else if (load == "attaches") attaches()
-    else if (load == "values") values()
-    else if (load == "short") short_literals()
-    else if (load == "long") long_literals()
-    else if (load == "hexadecimal") hexadecimal_literals()
-    else if (load == "waits") waits(1)
-    else if (load == "own-waits") waits(count)
-    else if (load == "prefixes") prefixes()
+    if (called == "records") records()
+    else if (called == "keys") keys()
+    else if (called == "enqueues") enqueues()
+    else if (called == "items") items()
+    else if (called == "lines") lines()
+    else if (called == "files") files()
+    else if (called == "queues") queues()
+    else if (called == "loads") loads()
+    else if (called == "attaches") attaches()
+    else if (called == "values") values()
+    else if (called == "short") short_literals()
+    else if (called == "long") long_literals()
+    else if (called == "hexadecimal") hexadecimal_literals()
+    else if (called == "waits") waits(1)
+    else if (called == "own-waits") waits(count)
+    else if (called == "prefixes") prefixes()
     else {
-        print "no such load: " load > "/dev/stderr"
+        print "no such load: " called > "/dev/stderr"
         exit 1
     }
 }

@@ -2,7 +2,11 @@
 # chance: run it with -v seed=N. In one script of three keys have quotes, in another one they have
 # bytes without a character.
 
-function pick(n) { return int(rand() * n) }
+# A number from 0 on below n. Each product is below 2^53, so every awk has it exactly.
+function pick(n) {
+    state = state * 16807 % 2147483647
+    return int(state / 2147483647 * n)
+}
 
 # A literal of these characters, of which some are those of a key.
 function literal(text, start, count,   i, c, out) {
@@ -51,7 +55,7 @@ function read_line(   name, key, kind) {
         (pick(2) ? " ITEM(" 1 + pick(3) ")" : " NEXT") (pick(2) ? " LENGTH(2)" : "")
 }
 
-BEGIN { srand(seed) }
+BEGIN { state = (seed * 69621 + 2) % 2147483647 }
 
 /^ATTACH/ { tasks++ }
 

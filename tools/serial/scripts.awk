@@ -1,5 +1,5 @@
 # Makes a script of interleaved tasks, by chance: run it with -v seed=N. The same seed makes the
-# same script.
+# same script, whichever awk runs it.
 #
 # Two recoverable files and one that isn't, temporary storage queues with a recoverable prefix and
 # without, a LOGICAL, a PHYSICAL and an unrecovered transient data queue. From three to eight
@@ -7,7 +7,11 @@
 # queues, so that they wait for each other, are answered each way and time out. Units commit, are
 # backed out, abend, and some stay open.
 
-function pick(n) { return int(rand() * n) }
+# A number from 0 on below n. Each product is below 2^53, so every awk has it exactly.
+function pick(n) {
+    state = state * 16807 % 2147483647
+    return int(state / 2147483647 * n)
+}
 
 function key() { return sprintf("%d%d", pick(3), pick(3)) }
 
@@ -75,7 +79,10 @@ function ends(task,   chance) {
 }
 
 BEGIN {
-    srand(seed)
+    # Seeds that are neighbours give scripts that aren't alike.
+    state = (seed * 69621 + 1) % 2147483647
+    pick(2)
+    pick(2)
     print "DEFINE FILE('A') KEYLENGTH(2) RECOVERABLE"
     print "DEFINE FILE('B') KEYLENGTH(2) KEYOFFSET(2) RECORDSIZE(40) RECOVERABLE"
     print "DEFINE FILE('U') KEYLENGTH(2) UNRECOVERABLE"

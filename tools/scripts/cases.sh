@@ -1,0 +1,138 @@
+# The runs that bin/test makes: a row in $room/list for each, with | between its parts: number,
+# title, status, the file of what it prints, how that is compared, and the file of what it says.
+# Its standard input is $room/cases/NUMBER, its options are in NUMBER.args, one a line.
+
+count=0
+scripts=0
+mkdir -p "$room/cases" "$room/wanted"
+: > "$room/list"
+
+# Adds a run: its script, the row's parts but the number, and the options.
+add_case() {
+    count=$((count + 1))
+    number=$(printf '%04d' "$count")
+    cp -- "$1" "$room/cases/$number" || exit 1
+    echo "$number|$2|$3|$4|$5|$6" >> "$room/list"
+    shift 6
+    [ $# = 0 ] || printf '%s\n' "$@" > "$room/cases/$number.args"
+}
+
+# Whether a run with --strict of a journal finds something amiss: a refusal, an abend by a
+# condition or a time-out, or a task that still waits.
+is_amiss() {
+    grep -Eq -e '^[^ ]+ (WOKEN )?(REFUSED [0-9]|ABEND (AKCS$|[A-Z]{4} [A-Z]+ [0-9]+$))' \
+        -e '^TASK [^ ]+ WAITING$' "$1"
+}
+
+# The runs of one script, by the files beside it.
+add_script() {
+    base=${1%.cics}
+    title=${base#"$root/"}
+    said=/dev/null
+    [ ! -f "$base.said" ] || said=$base.said
+    if [ -f "$base.journal" ]; then
+        add_case "$1" "$title" 0 "$base.journal" same "$said"
+        strict=0
+        ! is_amiss "$base.journal" || strict=5
+        add_case "$1" "$title --strict" "$strict" "$base.journal" same "$said" --strict
+        add_case "$1" "$title --with-script" 0 "$base.journal" unshown "$said" --with-script
+    fi
+    if [ -f "$base.fault" ]; then
+        add_case "$1" "$title" 1 "$base.fault" same advice
+        add_case "$1" "$title --with-script" 1 "$base.fault" unshown advice --with-script
+        add_case "$1" "$title --picture" 1 "$base.fault" last advice --picture
+    fi
+    if [ -f "$base.replay" ]; then
+        add_case "$1" "$title --replay" 0 "$base.replay" same "$said" --replay
+        add_case "$1" "$title --replay --with-script" 0 "$base.replay" unshown "$said" --replay \
+            --with-script
+    fi
+    [ ! -f "$base.shown" ] ||
+        add_case "$1" "$title --with-script" 0 "$base.shown" same "$said" --with-script
+    [ ! -f "$base.serial" ] ||
+        add_case "$1" "$title --serial" 0 "$base.serial" same /dev/null --serial
+    [ ! -f "$base.svg" ] ||
+        add_case "$1" "$title --picture" 0 "$base.svg" same /dev/null --picture
+    [ ! -f "$base.orders" ] ||
+        add_case "$1" "$title --orders --told" 0 "$base.orders" same /dev/null --orders --told
+    [ ! -f "$base.report" ] || add_report "$1"
+    scripts=$((scripts + 1))
+}
+
+# The report on the orders of a script's lines, with the options beside it.
+add_report() {
+    words=
+    [ ! -f "$base.args" ] || words=$(cat -- "$base.args")
+    status=0
+    ! grep -q '^LINE [0-9]* \(FAULT\|DEFINE\) ' "$base.report" || status=1
+    # shellcheck disable=SC2086 # words are options
+    add_case "$1" "$title --orders $words" "$status" "$base.report" same "$said" --orders $words
+}
+
+# A run for each faulty line.
+add_faults() {
+    row=0
+    while IFS='|' read -r fault line; do
+        row=$((row + 1))
+        case $fault in '#'*) continue ;; esac
+        printf '%s' "$line" > "$room/script"
+        echo "LINE 1 FAULT $fault" > "$room/wanted/fault-$row"
+        add_case "$room/script" "scripts/lines/faults, line $row" 1 "$room/wanted/fault-$row" same \
+            advice
+        scripts=$((scripts + 1))
+    done < "$root/scripts/lines/faults"
+}
+
+# What is said of the script's last line: its column, the message, the line as it is shown, and a
+# caret in that column. Of a wider line 100 columns are shown, 70 of them up to the caret, or more
+# near the line's end.
+advice() {
+    bytes=$(tail -n 1 "$room/script" | tr -d '\n' | wc -c)
+    most=$(((bytes > $1 ? bytes : $1) - 100))
+    start=$(($1 - 70 < most ? $1 - 70 : most))
+    [ "$start" -gt 0 ] || start=0
+    printf 'cicsrun: line %s, column %s: %s\n' "$(wc -l < "$room/script")" "$1" "$2"
+    tail -n 1 "$room/script" | tr '\t' ' ' | tr -c ' -~\n' '?' |
+        cut -c"$((start + 1))-$((start + 100))"
+    printf '%*s\n' "$(($1 - start))" '^'
+}
+
+# The runs of a script whose last line is faulty, and of the script as the message mends it.
+add_advice() {
+    row=0
+    while IFS='|' read -r column message text mended; do
+        row=$((row + 1))
+        case $column in '#'*) continue ;; esac
+        title="scripts/told/advice, line $row"
+        printf '%b\n' "$text" > "$room/script"
+        advice "$column" "$message" > "$room/wanted/advice-$row"
+        add_case "$room/script" "$title" 1 "$(wc -l < "$room/script" | tr -d ' ')" fault \
+            "$room/wanted/advice-$row"
+        scripts=$((scripts + 1))
+        [ -n "$mended" ] || continue
+        printf '%b\n' "$mended" > "$room/script"
+        add_case "$room/script" "$title, mended" 0 - none /dev/null
+    done < "$root/scripts/told/advice"
+    printf '%70001s\n' '' > "$room/script"
+    echo 'cicsrun: line 1: a line has at most 70,000 bytes' > "$room/wanted/advice-long"
+    add_case "$room/script" 'a line of 70,001 bytes' 1 1 fault "$room/wanted/advice-long"
+}
+
+# All runs, or those of the scripts of these names.
+make_cases() {
+    if [ $# -gt 0 ]; then
+        for name; do
+            for script in "$root"/scripts/*/*.cics "$root"/examples/*.cics; do
+                case ${script%.cics} in
+                */"$name") add_script "$script" ;;
+                esac
+            done
+        done
+        return
+    fi
+    for script in "$root"/scripts/*/*.cics "$root"/examples/*.cics; do
+        add_script "$script"
+    done
+    add_faults
+    add_advice
+}

@@ -1,0 +1,144 @@
+# How bin/test makes the runs of $room/list, and how it compares what came: $room/came/NUMBER has
+# what a run printed, NUMBER.said what it said, NUMBER.status its status.
+
+accepted=0
+mkdir -p "$room/came"
+
+# Makes each run by the built program.
+run_built() {
+    while IFS='|' read -r number _; do
+        came=$room/came/$number
+        set --
+        [ ! -f "$room/cases/$number.args" ] || while read -r word; do
+            set -- "$@" "$word"
+        done < "$room/cases/$number.args"
+        "$program" "$@" < "$room/cases/$number" > "$came" 2> "$came.said"
+        echo "$?" > "$came.status"
+    done < "$room/list"
+}
+
+# Makes each run again, and reads a byte at a time.
+read_by_bytes() {
+    cc -O2 -Wall -Wextra -Werror -shared -fPIC -o "$room/streams" \
+        "$root/tools/hostile/streams.c" || stop 'streams.c was not built'
+    cat > "$room/by-bytes" << END
+#!/bin/sh
+LD_PRELOAD='$room/streams' STREAMS_READ_MOST=1 exec '$program' "\$@"
+END
+    chmod +x "$room/by-bytes"
+    program=$room/by-bytes run_built
+}
+
+# Makes each run by rt try, which compiles the sources once. It prints what each run prints behind a
+# line == NUMBER, and its status behind what it says.
+run_tried() {
+    command -v rt > /dev/null || stop 'rt, the command of the Rattle toolchain, is not on the PATH'
+    (cd -- "$root/crates/cicsrun" &&
+        rt try --steps 1 --seconds 86400 --cases "$room/cases") \
+        > "$room/printed" 2> "$room/reported"
+    grep -q '^cases=' "$room/reported" || {
+        tail -n 20 "$room/reported" >&2
+        stop 'rt try gave no answer, and says why above'
+    }
+    awk -v "came=$room/came/" '
+        /^== [0-9][0-9][0-9][0-9]$/ { close(to); to = came $2; printf "" > to; next }
+        to { print > to }' "$room/printed"
+    awk -v "came=$room/came/" '
+        /^case=[0-9]/ {
+            split($1, name, "="); split($3, status, "=")
+            print status[2] > (came name[2] ".status"); close(came name[2] ".status")
+            printf "%s", said > (came name[2] ".said"); close(came name[2] ".said")
+            said = ""
+            next
+        }
+        !/^(interpreter|checked): / { said = said $0 "\n" }' "$room/reported"
+}
+
+# Prints a file, with LF at its end.
+ended() {
+    cat -- "$1" && { [ ! -s "$1" ] || [ -z "$(tail -c 1 -- "$1")" ] || echo; }
+}
+
+# Compares what a run printed with the file $wanted, by the row's way: all of it, all but the lines
+# of the script, the end of a picture with the fault, or the fault of the last line.
+is_printed() {
+    case $way in
+    none) return 0 ;;
+    fault)
+        tail -n 1 "$came" | grep -Eq -e "^LINE $wanted (FAULT|DEFINE) [1-9] [A-Za-z]+\$"
+        return
+        ;;
+    last)
+        grep -q -e ">$(tail -n 1 "$wanted")</text></g></svg>\$" "$came"
+        return
+        ;;
+    unshown) sed '/^> /d' "$came" > "$room/unshown" && came=$room/unshown ;;
+    esac
+    ended "$wanted" > "$room/left" && ended "$came" > "$room/right" &&
+        cmp -s "$room/left" "$room/right"
+}
+
+# Compares what a run said on standard error: that of the file, or a message on a faulty line.
+is_said() {
+    if [ "$told" = advice ]; then
+        [ "$(head -c 14 "$came.said")" = 'cicsrun: line ' ] && [ "$(wc -l < "$came.said")" -le 3 ]
+    else
+        cmp -s "$told" "$came.said"
+    fi
+}
+
+# Writes what a run printed and said in place of what stands beside its script.
+accept_run() {
+    case $way:$wanted in
+    same:"$room"/*) ;;
+    same:*)
+        ! [ -s "$wanted" ] || [ -z "$(tail -c 1 -- "$wanted")" ] || chop=1
+        cmp -s "$came" "$wanted" || {
+            if [ -n "${chop-}" ]; then
+                printf '%s' "$(cat -- "$came")" > "$wanted"
+            else
+                cp -- "$came" "$wanted"
+            fi
+            accepted=$((accepted + 1))
+        }
+        chop=
+        ;;
+    esac
+    case $told in
+    advice | /dev/null | "$room"/*) ;;
+    *) cmp -s "$came.said" "$told" || {
+        cp -- "$came.said" "$told"
+        accepted=$((accepted + 1))
+    } ;;
+    esac
+}
+
+# Compares all runs, and shows each that differs.
+compare_all() {
+    while IFS='|' read -r number title status wanted way told; do
+        came=$room/came/$number
+        [ -f "$came" ] || : > "$came"
+        [ -f "$came.said" ] || : > "$came.said"
+        came_status=$(cat -- "$came.status" 2> /dev/null || echo none)
+        whole=$came
+        if [ "$came_status" = "$status" ] && is_printed && came=$whole && is_said; then
+            continue
+        fi
+        came=$whole
+        [ -z "$accept" ] || {
+            accept_run
+            continue
+        }
+        fail "$title"
+        [ "$came_status" = "$status" ] || echo "  ended with status $came_status, wanted $status" >&2
+        is_printed || case $way in
+        same | unshown) diff -u -L wanted -L came "$room/left" "$room/right" >&2 ;;
+        *) tail -n 3 "$came" >&2 ;;
+        esac
+        came=$whole
+        is_said || case $told in
+        advice) cat -- "$came.said" >&2 ;;
+        *) diff -u -L 'wanted on standard error' -L came "$told" "$came.said" >&2 ;;
+        esac
+    done < "$room/list"
+}
