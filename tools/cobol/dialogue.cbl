@@ -1,0 +1,51 @@
+       IDENTIFICATION DIVISION.
+       PROGRAM-ID. DIALOGUE.
+      * A pseudo-conversational program: it ends after each map, and
+      * the next input of the terminal starts it anew.
+       DATA DIVISION.
+       WORKING-STORAGE SECTION.
+           EXEC SQL INCLUDE SQLCA END-EXEC.
+       01  WS-COMMAREA.
+           05  CA-STATE            PIC X.
+           05  CA-KEY              PIC X(4).
+       COPY DIALSET.
+       COPY DFHAID.
+       LINKAGE SECTION.
+       01  DFHCOMMAREA             PIC X(5).
+       PROCEDURE DIVISION.
+       MAIN-LINE.
+           EXEC CICS HANDLE CONDITION
+                NOTFND(NO-ACCOUNT)
+                MAPFAIL(SEND-MENU)
+                ERROR(GENERAL-ERROR)
+           END-EXEC.
+           EXEC CICS HANDLE AID CLEAR(GOOD-BYE) PF3(GOOD-BYE)
+           END-EXEC.
+           EXEC CICS HANDLE ABEND LABEL(GENERAL-ERROR) END-EXEC.
+           IF EIBCALEN = 0 GO TO SEND-MENU.
+           EXEC CICS RECEIVE MAP('DIALM1') MAPSET('DIALSET') END-EXEC.
+           EXEC CICS READ FILE('ACCT') RIDFLD(CA-KEY) UPDATE
+                INTO(ACCT-REC) END-EXEC.
+           EXEC CICS REWRITE FILE('ACCT') FROM(ACCT-REC) END-EXEC.
+           EXEC CICS ASKTIME ABSTIME(WS-TIME) END-EXEC.
+           EXEC SQL
+               INSERT INTO HISTORY (ACCOUNT, CHANGED)
+               VALUES (:CA-KEY, :WS-TIME)
+           END-EXEC.
+           EXEC CICS LINK PROGRAM('PRINTER') COMMAREA(WS-COMMAREA)
+                LENGTH(5) END-EXEC.
+           EXEC CICS START TRANSID('LATE') INTERVAL(500) END-EXEC.
+       SEND-MENU.
+           EXEC CICS SEND MAP('DIALM1') MAPSET('DIALSET') ERASE
+           END-EXEC.
+           EXEC CICS RETURN TRANSID('DIAL')
+                COMMAREA(WS-COMMAREA)
+                LENGTH(LENGTH OF WS-COMMAREA)
+           END-EXEC.
+       NO-ACCOUNT.
+           EXEC CICS SEND TEXT FROM(WS-MESSAGE) LENGTH(40) END-EXEC.
+       GOOD-BYE.
+           EXEC CICS XCTL PROGRAM('MENU') END-EXEC.
+       GENERAL-ERROR.
+           EXEC CICS WRITE FILE('ACCT') SYSID('REM1')
+                RIDFLD(CA-KEY) FROM(ACCT-REC) END-EXEC.
