@@ -1,4 +1,4 @@
-# What bin/cicsrun, bin/build, bin/install and .ci/run share. The caller has set $root, the
+# What bin/cicsrun, bin/build, bin/install-cicsrun and .ci/run share. The caller has set $root, the
 # repository's top.
 
 program=$root/crates/cicsrun/out/cicsrun
