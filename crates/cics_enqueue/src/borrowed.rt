@@ -98,4 +98,19 @@ impl<'a> ResourceRef<'a> {
             kind: Kind::TdWrite(queue),
         }
     }
+
+    /// Returns a resource, its bytes borrowed.
+    pub fn of(resource: &'a Resource) -> ResourceRef<'a>
+        ensures { result ≡ resource.now }
+    {
+        let kind = match resource {
+            Resource::FileKey(file, key) => Kind::FileKey(*file, key.as_slice()),
+            Resource::TsQueue(queue) => Kind::TsQueue(*queue),
+            Resource::TdRead(queue) => Kind::TdRead(*queue),
+            Resource::TdWrite(queue) => Kind::TdWrite(*queue),
+            Resource::User(value) => Kind::User(value.as_slice()),
+            Resource::FilePrefix(file, prefix) => Kind::FilePrefix(*file, prefix.as_slice()),
+        };
+        ResourceRef { kind }
+    }
 }

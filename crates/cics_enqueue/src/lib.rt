@@ -3,16 +3,18 @@
 //! A resource has at most one owner. Conflicting resources, such as a key of a file and a prefix of
 //! it, have the same owner. A unit releases what it owns without a look-up of others' resources.
 //!
-//! - `enqueues`: the table of enqueues, with the public calls. The *asker* (`but_not`) is the unit
+//! - `enqueues`: the table of enqueues and the look-ups in it. The *asker* (`but_not`) is the unit
 //!   that would acquire a resource, `None` if it hasn't begun.
+//! - `acquiring`, `releasing`: the calls that change the table.
 //! - `borrowed`: a resource whose bytes are borrowed.
-//! - `compact`: the *table key* of a resource (`Key` of `cics_enqueue`): its bytes, by which the table
+//! - `compact`: the *table key* of a resource (`keys`): its bytes, by which the table
 //!   is ordered.
 //! - `conflicts`: look-ups of what conflicts with a resource.
 //! - `owned`: the table keys that each unit acquired.
 //! - `laws`: what holds of each table.
 #![tactic(auto)]
 
+mod acquiring;
 mod borrowed;
 mod compact;
 mod conflicts;
@@ -20,6 +22,7 @@ mod enqueues;
 mod keys;
 pub mod laws;
 mod owned;
+mod releasing;
 
 pub use borrowed::ResourceRef;
 pub use cics_history::{Resource, UnitId};

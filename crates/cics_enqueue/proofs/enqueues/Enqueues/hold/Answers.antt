@@ -1,30 +1,25 @@
-use Rattle.std.proofs.Common.{◌≡◌, ◌∙◌, sym, ap, subst}
-use Rattle.std.specs.Prelude.{is_some, not, if◌then◌else◌, IfOk, OnOk}
-use Rattle.cics_history.specs.Resources.{is_user}
-use Rattle.cics_enqueue.specs.Table.{IsFreeFor, holder_of, taken, given_back}
-use Rattle.cics_enqueue.proofs.Tables.{own_key, read_back}
+use Rattle.std.proofs.Common.{◌∙◌, ap}
+use Rattle.std.specs.Prelude.{is_some, if◌then◌else◌}
+use Rattle.cics_enqueue.specs.Table.{held_at, taken}
+use Rattle.cics_enqueue.proofs.Tables.{own_key, read_back, hold_taken, hold_undone}
 use Rattle.cics_enqueue.proofs.enqueues.Enqueues.hold.Goals as goal
 
-pub hold_key-answer-requires : goal.hold_key-answer-requires
-hold_key-answer-requires c =
-    let r = c.args.resource.now in
-    let key = c.set_resource.new.key in
-    let back = read_back r key c.in_ok-set_resource.ensures.set in
-    record {
-      key = own_key r key c.in_ok-set_resource.ensures.set;
-      plain = ap is_user back ∙ c.requires.plain;
-      free = subst (λ q. IsFreeFor c.args.self.now q c.args.unit) (sym back) c.requires.free;
-    }
-
-pub returns-clause-was_free : goal.returns-clause-was_free
-returns-clause-was_free c =
-    subst (λ q. IfOk c.hold_key-answer.result (λ was_free. is_some (holder_of q c.args.self.now) ≡ not was_free)) (read_back c.args.resource.now c.set_resource.new.key c.in_ok-set_resource.ensures.set) c.hold_key-answer.ensures.was_free
+pub take_free-held-requires : goal.take_free-held-requires
+take_free-held-requires c = record { key = own_key c.args.resource.now c.set_resource.new.key c.in_ok-set_resource.ensures.set }
 
 pub returns-clause-taken : goal.returns-clause-taken
 returns-clause-taken c =
-    subst (λ q. OnOk c.hold_key-answer.result (c.hold_key-answer.new.self ≡ taken c.args.self.now q c.args.unit)) (read_back c.args.resource.now c.set_resource.new.key c.in_ok-set_resource.ensures.set) c.hold_key-answer.ensures.taken
+    let t = c.args.self.now in
+    let o = c.in_ok-held.field-0 in
+    let back = read_back c.args.resource.now c.set_resource.new.key c.in_ok-set_resource.ensures.set in
+    hold_taken t c.take_free-held.new.self c.args.resource.now c.args.unit o c.take_free-held.ensures.in_order c.requires.free c.requires.plain
+    (c.in_ok-held.ensures.held ∙ ap (λ q. held_at q t) back) (c.in_ok-held.ensures.table ∙ ap (λ q. if is_some o then t else taken t q c.args.unit) back)
 
+-- what was free is so again
 pub returns-clause-undone : goal.returns-clause-undone
 returns-clause-undone c =
-    subst (λ q. IfOk c.hold_key-answer.result (λ was_free. (if was_free then given_back c.hold_key-answer.new.self q c.args.unit else c.hold_key-answer.new.self) ≡ c.args.self.now))
-    (read_back c.args.resource.now c.set_resource.new.key c.in_ok-set_resource.ensures.set) c.hold_key-answer.ensures.undone
+    let t = c.args.self.now in
+    let o = c.in_ok-held.field-0 in
+    let back = read_back c.args.resource.now c.set_resource.new.key c.in_ok-set_resource.ensures.set in
+    hold_undone t c.take_free-held.new.self c.args.resource.now c.args.unit o c.is_none.result c.take_free-held.ensures.in_order
+    (c.in_ok-held.ensures.held ∙ ap (λ q. held_at q t) back) (c.in_ok-held.ensures.table ∙ ap (λ q. if is_some o then t else taken t q c.args.unit) back) c.is_none.ensures

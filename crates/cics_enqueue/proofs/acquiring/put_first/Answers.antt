@@ -1,6 +1,6 @@
 use Rattle.std.proofs.Common.{◌∙◌, arith}
 use Rattle.cics_enqueue.proofs.Tables.{insert_kept}
-use Rattle.cics_enqueue.proofs.enqueues.put_first.Goals as goal
+use Rattle.cics_enqueue.proofs.acquiring.put_first.Goals as goal
 
 pub returns-else-len-before-clause-kept : goal.returns-else-len-before-clause-kept
 returns-else-len-before-clause-kept c =

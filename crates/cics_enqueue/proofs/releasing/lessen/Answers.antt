@@ -9,7 +9,7 @@ use Rattle.cics_enqueue.specs.Kept.{table_of}
 use Rattle.cics_enqueue.specs.Table.{with_holder}
 use Rattle.cics_enqueue.specs.Order.{resource_of}
 use Rattle.cics_enqueue.proofs.Tables.{table_of-written, table_of-removed, given_back-free, given_back-foreign, given_back-once, given_back-last, IsKept-written, IsKept-removed}
-use Rattle.cics_enqueue.proofs.enqueues.lessen.Goals as goal
+use Rattle.cics_enqueue.proofs.releasing.lessen.Goals as goal
 
 pub returns-in_default-clause-given : goal.returns-in_default-clause-given
 returns-in_default-clause-given c = λ own kept.
