@@ -9,8 +9,10 @@
 //! - `uses`, `store`: the resources that a command uses, and the change that it makes.
 //! - `open_reads`: the open update reads.
 //! - `stamping`: the stamp of what a unit did.
+//! - `laws`: files and queues hold something back for open units alone.
 #![tactic(auto)]
 
+pub mod laws;
 mod open_reads;
 pub mod opening;
 pub mod replay;

@@ -17,7 +17,7 @@ ghost use Rattle.cics_history.specs.Execution.{after_ts_reading};
 ghost use Rattle.cics_history.specs.State.{initial_units};
 ghost use Rattle.cics_history.specs.Stamps.{unit_stamp, shared_stamp};
 ghost use Rattle.cics_history.specs.Isolation.{IsSound};
-ghost use Rattle.cics_history.specs.Serial.{IsSerializable};
+ghost use Rattle.cics_history.specs.Serial.{IsSerializable, NoneIsOpen};
 ghost use Rattle.cics_units.specs.Replay.Listings.{listing_of, replayed_listing};
 ghost use Rattle.cics_units.specs.Submitting.{as_done, IsBackIfItWaits};
 ghost use Rattle.cics_units.specs.StorePlaces.{number_asked};
@@ -505,6 +505,8 @@ impl Units {
 
     /// Returns the file of a name as it stands, the changes of open units included, or None if no
     /// such file is defined.
+    ///
+    /// - `swept`: if no unit is open, the file holds no empty slot for a backout.
     pub fn file(&self, name: &Name8) -> Option<&File>
         ensures records { value_at name.now self.now.store.files
             ≡ option_map (λ f. f.records) (option_copied result) }
@@ -512,6 +514,7 @@ impl Units {
             (value_at name.now self.now.state.opening.files)
             ≡ option_map (λ f. f.definition) (option_copied result) }
         ensures lawful { IfSome result (λ f. is_key f.now.definition ≡ true) }
+        ensures swept { NoneIsOpen self.now.state → IfSome result (λ f. f.now.empties ≡ []) }
     {
         self.core.store.files.get(name)
     }
