@@ -24,7 +24,7 @@ use Rattle.cics_units.proofs.ShownUnits.{acts_of, in_lists, none_open_of, refuse
 use Rattle.cics_units.proofs.Enqueuing.{refused_shown}
 use Rattle.cics_units.proofs.RefusedCommands.{on_err}
 use Rattle.cics_units.proofs.units.Units.submit.Goals as goal
-use Rattle.cics_units.proofs.units.Units.submit.Goals.{After-blocker, After-enter, In_err-answer}
+use Rattle.cics_units.proofs.units.Units.submit.Goals.{After-blocker, After-push_reserved, In_err-answer}
 
 -- ---- the command is bound, and it is known whom it has to wait for
 module _ (c : After-blocker) where
@@ -192,7 +192,7 @@ pack-entry-requires c =
     }
 
 -- ---- it is executed
-module _ (c : After-enter)
+module _ (c : After-push_reserved)
     (asked : IsAsked c.self.inside.opening c.self.inside.trace.items c.self.inside.outcomes.items c.self.inside.commits.items (core_value c.self.inside.core) c.args.unit c.bind-bound.result c.unit_or_next-acting.result c.blocker.result) where
   abbrev old : UnitsState
   old = state_shown c.self.inside.opening c.self.inside.trace.items c.self.inside.outcomes.items c.self.inside.commits.items (core_value c.self.inside.core)
@@ -201,7 +201,7 @@ module _ (c : After-enter)
   new = core_value c.execute.new.self
 
   abbrev now : UnitsState
-  now = state_shown c.self.inside.opening c.enter.new.trace.items c.enter.new.outcomes.items c.reserve_unit.new.commits.items new
+  now = state_shown c.self.inside.opening c.push_reserved.new.self.items c.begin.new.outcomes.items c.reserve_unit.new.commits.items new
 
   abbrev done_op : Op
   done_op = c.bind-bound.result.op.now
@@ -223,15 +223,15 @@ module _ (c : After-enter)
   abbrev entry : Entry
   entry = record { unit = unit_or_next c.args.unit c.self.inside.outcomes.items; op = done_op; answer = c.in_ok-answer.answer }
 
-  trace : c.enter.new.trace.items ≡ c.self.inside.trace.items ++ entry ∷ []
-  trace = c.enter.ensures.trace ∙ (λ i. c.reserve.ensures.items i ++ c.pack-entry.ensures i ∷ []) ∙ (λ i. c.self.inside.trace.items ++ record {
+  trace : c.push_reserved.new.self.items ≡ c.self.inside.trace.items ++ entry ∷ []
+  trace = c.push_reserved.ensures.items ∙ (λ i. c.reserve.ensures.items i ++ c.pack-entry.ensures i ∷ []) ∙ (λ i. c.self.inside.trace.items ++ record {
     unit = asked.acting i;
     op = sym c.bind-bound.ensures.op i;
     answer = record { condition = c.in_ok-answer.answer.condition; content = given i; number = c.in_ok-answer.answer.number };
   } ∷ [])
 
-  outcomes : c.enter.new.outcomes.items ≡ outcomes_with c.args.unit c.self.inside.outcomes.items
-  outcomes = c.enter.ensures.outcomes ∙ ap (outcomes_with c.args.unit) c.reserve_unit.ensures.outcomes
+  outcomes : c.begin.new.outcomes.items ≡ outcomes_with c.args.unit c.self.inside.outcomes.items
+  outcomes = c.begin.ensures ∙ ap (outcomes_with c.args.unit) c.reserve_unit.ensures.outcomes
 
   shown : now ≡ state_shown c.self.inside.opening (c.self.inside.trace.items ++ entry ∷ []) (outcomes_with c.args.unit c.self.inside.outcomes.items) c.self.inside.commits.items new
   shown = λ i. state_shown c.self.inside.opening (trace i) (outcomes i) (c.reserve_unit.ensures.commits i) new
@@ -258,27 +258,27 @@ module _ (c : After-enter)
 pub invariant_of-self-2 : goal.invariant_of-self-2
 invariant_of-self-2 c =
     let at = goal.at.invariant_of-self-2 c in
-    (kept at.After-enter (known at.After-blocker), omega (arith, with_len c.args.unit c.reserve_unit.new.outcomes.items, ap length c.enter.ensures.outcomes, c.in_ok-reserve_unit.ensures.turns))
+    (kept at.After-push_reserved (known at.After-blocker), omega (arith, with_len c.args.unit c.reserve_unit.new.outcomes.items, ap length c.begin.ensures, c.in_ok-reserve_unit.ensures.turns))
 
 pub returns-clause-done : goal.returns-clause-done
 returns-clause-done c =
     let at = goal.at.returns-clause-done c in
-    told at.After-enter (known at.After-blocker) ∙ ap (λ v. execution v.state c.args.unit c.args.op) c.self.view_is
+    told at.After-push_reserved (known at.After-blocker) ∙ ap (λ v. execution v.state c.args.unit c.args.op) c.self.view_is
 
 pub returns-clause-state : goal.returns-clause-state
 returns-clause-state c =
     let at = goal.at.returns-clause-state c in
-    state at.After-enter (known at.After-blocker) ∙ ap (λ v. after_execution v.state c.args.unit c.args.op) c.self.view_is
+    state at.After-push_reserved (known at.After-blocker) ∙ ap (λ v. after_execution v.state c.args.unit c.args.op) c.self.view_is
 
 pub returns-clause-headline : goal.returns-clause-headline
 returns-clause-headline c =
     let at = goal.at.returns-clause-headline c in
-    kept_headline _ (core_value c.execute.new.self).stores c.execute.new.self.locks (kept at.After-enter (known at.After-blocker))
+    kept_headline _ (core_value c.execute.new.self).stores c.execute.new.self.locks (kept at.After-push_reserved (known at.After-blocker))
 
 pub returns-clause-serializable : goal.returns-clause-serializable
 returns-clause-serializable c =
     let at = goal.at.returns-clause-serializable c in
-    kept_serializable _ (core_value c.execute.new.self).stores c.execute.new.self.locks (kept at.After-enter (known at.After-blocker))
+    kept_serializable _ (core_value c.execute.new.self).stores c.execute.new.self.locks (kept at.After-push_reserved (known at.After-blocker))
 
 -- ---- what stays as it was
 pub invariant_of-self : goal.invariant_of-self
@@ -396,8 +396,8 @@ execute-requires-clause-bound c = c.bind-bound.ensures.bound
 pub execute-requires-clause-once : goal.execute-requires-clause-once
 execute-requires-clause-once c = c.self.invariant.0.table.once
 
-pub enter-requires-clause-outcomes_room : goal.enter-requires-clause-outcomes_room
-enter-requires-clause-outcomes_room c = c.in_ok-reserve_unit.ensures.room
+pub begin-requires : goal.begin-requires
+begin-requires c = record { room = c.in_ok-reserve_unit.ensures.room }
 
 pub returns-in-Some-clause-back : goal.returns-in-Some-clause-back
 returns-in-Some-clause-back c = refl
