@@ -257,16 +257,6 @@ read_applied s kept f k keep own given b is =
     (b.recoverable ∙ sym (ap is_recoverable_in b.there)) refl refl
     (ap (λ o. with_content (found_condition o) o) (is ∙ ap (λ a. a.content) (read_answer s f b.file b.there k)) ∙ sym (read_answer s f b.file b.there k))
 
--- a command on a file that is none of the other four is READ UPDATE
-pub read_otherwise : (op : Op) → is_file_op op ≡ true → ((f k r : Bytes) → op ≡ Write f k r → ⊥) → ((f k r : Bytes) → op ≡ Rewrite f k r → ⊥) →
-    ((f k : Bytes) → op ≡ Delete f k → ⊥) → ((f p : Bytes) → op ≡ DeleteGeneric f p → ⊥) → op ≡ ReadUpdate (file_of op) (key_of_op op)
-read_otherwise (Write f k r) on no_write no_rewrite no_delete no_generic = absurd (no_write f k r refl)
-read_otherwise (Rewrite f k r) on no_write no_rewrite no_delete no_generic = absurd (no_rewrite f k r refl)
-read_otherwise (Delete f k) on no_write no_rewrite no_delete no_generic = absurd (no_delete f k refl)
-read_otherwise (DeleteGeneric f p) on no_write no_rewrite no_delete no_generic = absurd (no_generic f p refl)
-read_otherwise (ReadUpdate f k) on no_write no_rewrite no_delete no_generic = refl
-read_otherwise _ on no_write no_rewrite no_delete no_generic = absurd (false≢true on)
-
 -- ---- temporary storage
 -- an image more lies before the others
 with_front : (o : Option AnyImage) (is : List AnyImage) → with_image o is ≡ with_image o [] ++ is

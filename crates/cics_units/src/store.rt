@@ -1,17 +1,14 @@
 //! Applies updating commands to files and queues in place, and adds the images that undo them.
 
 ghost use Rattle.std.specs.Prelude.{◌≡◌, ◌<◌, ◌≤◌, ◌++◌, true, [], length, IfOk, OnErr};
-ghost use Rattle.std.specs.Prelude.{IsSome, option_map};
-ghost use Rattle.cics_units.specs.Opening.RegionFiles.{IsThere};
-ghost use Rattle.cics_names.specs.Keyed.{value_at};
+ghost use Rattle.std.specs.Prelude.{option_map};
 ghost use Rattle.cics_images.specs.declared.stores.StoreImage.TheVariants.{TempStorage};
-ghost use Rattle.cics_history.specs.Records.{is_file_op};
 ghost use Rattle.cics_history.specs.Store.{only as answer_of, numbered as answer_with};
 ghost use Rattle.cics_history.specs.Store.{with_content as answer_of_record, found_condition};
 ghost use Rattle.cics_units.specs.QueueChanges.{with_image, in_queue};
 ghost use Rattle.cics_units.specs.Opening.Prefixed.{is_temp};
 ghost use Rattle.cics_units.specs.Parts.{IsFitOp, image_if, with_stored, of_files};
-ghost use Rattle.cics_units.specs.Applied.{IsApplied, IsFileBound, IsQueueBound, IsBound};
+ghost use Rattle.cics_units.specs.Applied.{IsApplied, IsBound};
 ghost use Rattle.cics_units.specs.Applied.{counted_as};
 ghost use Rattle.cics_units.specs.Cores.{CanApply};
 
@@ -120,22 +117,6 @@ fn add_trans_image(images: &mut Images<Store>, queue: Name4, image: Option<TdIma
     }
 }
 
-// Returns whether a file is recoverable. The file has to be there.
-fn bind_file(store: &Store, file: &Name8) -> bool
-    requires there { IsThere (value_at file.now store.now.files) }
-    ensures { IsFileBound store.now file.now result }
-{
-    store.files.at(file).definition().recoverable
-}
-
-// Returns whether a transient data queue is LOGICAL. The queue has to be there.
-fn bind_queue(store: &Store, queue: &Name4) -> bool
-    requires there { IsSome (value_at queue.now store.now.trans_data) }
-    ensures { IsQueueBound store.now queue.now result }
-{
-    store.trans_data.at(queue).recovery().is_logical()
-}
-
 /// Returns whether a command acts on something recoverable. Its file or transient data queue has to
 /// be there. For a command on temporary storage it returns `recoverable`.
 pub(crate) fn bind(store: &Store, op: &Op, recoverable: bool) -> bool
@@ -144,26 +125,29 @@ pub(crate) fn bind(store: &Store, op: &Op, recoverable: bool) -> bool
     ensures temp { is_temp op.now ≡ true → result ≡ recoverable }
 {
     match op {
-        Op::Write { file, .. } => bind_file(store, file),
-        Op::Rewrite { file, .. } => bind_file(store, file),
-        Op::Delete { file, .. } => bind_file(store, file),
-        Op::DeleteGeneric { file, .. } => bind_file(store, file),
-        Op::ReadUpdate { file, .. } => bind_file(store, file),
-        Op::TdWrite { queue, .. } => bind_queue(store, queue),
-        Op::TdRead { queue } => bind_queue(store, queue),
-        Op::TdDelete { queue } => bind_queue(store, queue),
+        Op::Write { file, .. }
+        | Op::Rewrite { file, .. }
+        | Op::Delete { file, .. }
+        | Op::DeleteGeneric { file, .. }
+        | Op::ReadUpdate { file, .. } => store.files.at(file).definition().recoverable,
+        Op::TdWrite { queue, .. } | Op::TdRead { queue } | Op::TdDelete { queue } => {
+            store.trans_data.at(queue).recovery().is_logical()
+        }
         _ => recoverable,
     }
 }
 
-// Applies a command on a file other than READ UPDATE, as `apply` does.
-fn apply_to_file(
+/// Applies a command other than READ UPDATE in place, and returns its answer, as the definition
+/// `apply` says. Adds to its unit's images what undoes it, if it acts on something recoverable.
+///
+/// Errors: `NoMemory`, which changes nothing. After the change no memory is requested, since images
+/// have their room.
+pub(crate) fn apply(
     store: &mut Store,
     bound: &BoundOp<'_>,
     images: &mut Images<Store>,
 ) -> Result<Answer, NoMemory>
-    requires on_file { is_file_op bound.now.op.now ≡ true }
-    requires ready { CanApply store.old bound.now images.old.room }
+    requires { CanApply store.old bound.now images.old.room }
     ensures applied { IfOk result (λ answer.
         IsApplied store.old store.new images.old.newest_first images.new.newest_first
         bound.now.op.now bound.now.recoverable bound.now.own answer) }
@@ -195,29 +179,7 @@ fn apply_to_file(
             add_file_images(images, *file, removed.images);
             Ok(counted(removed.number))
         }
-        _ => unreachable!(),
-    }
-}
-
-/// Applies a command other than READ UPDATE in place, and returns its answer, as the definition
-/// `apply` says. Adds to its unit's images what undoes it, if it acts on something recoverable.
-///
-/// Errors: `NoMemory`, which changes nothing. After the change no memory is requested, since images
-/// have their room.
-pub(crate) fn apply(
-    store: &mut Store,
-    bound: &BoundOp<'_>,
-    images: &mut Images<Store>,
-) -> Result<Answer, NoMemory>
-    requires { CanApply store.old bound.now images.old.room }
-    ensures applied { IfOk result (λ answer.
-        IsApplied store.old store.new images.old.newest_first images.new.newest_first
-        bound.now.op.now bound.now.recoverable bound.now.own answer) }
-    ensures err_store { OnErr result (store.new ≡ store.old) }
-    ensures err_images { OnErr result (images.new ≡ images.old) }
-{
-    let recoverable = bound.recoverable;
-    match bound.op {
+        Op::ReadUpdate { .. } => unreachable!(),
         Op::TsWrite { queue, from } => {
             let written = store.temp_storage.write(*queue, from.copy()?, recoverable)?;
             add_temp_image(images, written.image);
@@ -250,6 +212,5 @@ pub(crate) fn apply(
             add_trans_image(images, *queue, deleted.image);
             Ok(only(deleted.condition))
         }
-        _ => apply_to_file(store, bound, images),
     }
 }
