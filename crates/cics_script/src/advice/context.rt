@@ -1,9 +1,9 @@
 //! What stands in front of the token at which a line can't be read on.
 
-use crate::{
-    Form, Start, command_named, define_object, load_object, queue_command, skip_blanks, start_of,
-    whole_token,
+use crate::words::{
+    Form, Start, command_named, define_object, load_object, queue_command, start_of,
 };
+use crate::{skip_blanks, whole_token};
 use cics_names::NoMemory;
 use std::alloc::Global;
 
@@ -30,10 +30,7 @@ fn token_of(text: &[u8]) -> &[u8] {
     if here.is_empty() {
         return here;
     }
-    match whole_token(here) {
-        Some((token, _)) => token,
-        None => here,
-    }
+    whole_token(here).map_or(here, |(token, _)| token)
 }
 
 impl<'a> Context<'a> {
@@ -61,18 +58,13 @@ impl<'a> Context<'a> {
 
     /// Returns the `count`-th token before the column.
     pub fn before(&self, count: usize) -> &'a [u8] {
-        match self.front.len().checked_sub(count) {
-            Some(place) => self.at(place),
-            None => &[],
-        }
+        let place = self.front.len().checked_sub(count);
+        place.map_or(&[], |place| self.at(place))
     }
 
     /// Returns the token of this index, from 0.
     pub fn at(&self, place: usize) -> &'a [u8] {
-        match self.front.get(place) {
-            Some((_, token)) => *token,
-            None => &[],
-        }
+        self.front.get(place).map_or(&[], |(_, token)| *token)
     }
 
     /// Returns the token of this index, or nothing for a value in parentheses.
@@ -86,12 +78,7 @@ impl<'a> Context<'a> {
     /// Returns whether one of these words, parted by blanks, stands before the column, and not as a
     /// value.
     pub fn has_one(&self, words: &str) -> bool {
-        for place in 0..self.front.len() {
-            if is_one(self.word_at(place), words) {
-                return true;
-            }
-        }
-        false
+        (0..self.front.len()).any(|place| is_one(self.word_at(place), words))
     }
 
     /// Returns the column of the first of these words that stands before the column, or else 1.

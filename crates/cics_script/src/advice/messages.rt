@@ -10,7 +10,8 @@ use crate::advice::tables::{
     NO_OPTION, NO_PARENTHESES, NO_VERB, NO_VERBS, SECOND, SIGNS,
 };
 use crate::spelling::push_str;
-use crate::{Kind, LineFault, Placed, is_excluded, kind_of, option_named, start_of, whole_token};
+use crate::words::{Kind, is_excluded, kind_of, option_named, start_of};
+use crate::{LineFault, Placed, whole_token};
 use cics_names::NoMemory;
 use std::alloc::Global;
 
@@ -61,12 +62,9 @@ fn message_at(
 
 // Returns the words for the caret of a definition's fault, and the message.
 fn definition_row(context: &Context<'_>, fault: u64) -> (&'static str, &'static str) {
-    for (number, word, carets, text) in &DEFINITIONS {
-        if *number == fault && context.has_one(word) {
-            return (carets, text);
-        }
-    }
-    ("", "it can't be defined so")
+    let mut rows = DEFINITIONS.iter();
+    let found = rows.find(|row| row.0 == fault && context.has_one(row.1));
+    found.map_or(("", "it can't be defined so"), |row| (row.2, row.3))
 }
 
 // Returns the caret's column; of a definition fault that of the first word of its row that the line
@@ -93,7 +91,11 @@ fn push_filled(out: &mut Vec<u8>, context: &Context<'_>, told: Told<'_>) -> Resu
         match *byte {
             b'%' => push_capitals(out, context.token)?,
             b'$' => push_capitals(out, option)?,
-            b'+' => push_as(out, option)?,
+            b'+' => {
+                push_str(out, ", as ")?;
+                push_capitals(out, option)?;
+                push_str(out, text_on(&EXAMPLES, option).unwrap_or("(AREA)"))?
+            }
             b'&' => push_subject(out, context)?,
             b'!' => push_str(out, "isn't modelled (docs/RULES.md, Not modelled)")?,
             other => out.push(other)?,
@@ -107,12 +109,6 @@ fn push_capitals(out: &mut Vec<u8>, token: &[u8]) -> Result<(), NoMemory> {
         out.push(byte.to_ascii_uppercase())?;
     }
     Ok(())
-}
-
-fn push_as(out: &mut Vec<u8>, option: &[u8]) -> Result<(), NoMemory> {
-    push_str(out, ", as ")?;
-    push_capitals(out, option)?;
-    push_str(out, text_on(&EXAMPLES, option).unwrap_or("(AREA)"))
 }
 
 // Puts all words that say what a line is, as DEFINE FILE or WRITEQ TD.
@@ -141,12 +137,8 @@ fn subject_of<'a>(context: &Context<'a>) -> &'a [u8] {
 
 // Returns the text of a table on a word.
 fn text_on(rows: &[(&str, &'static str)], word: &[u8]) -> Option<&'static str> {
-    for (words, text) in rows {
-        if is_one(word, words) {
-            return Some(text);
-        }
-    }
-    None
+    let found = rows.iter().find(|row| is_one(word, row.0));
+    found.map(|row| row.1)
 }
 
 // Returns what is wrong with the token at the column, or what is missing there.
@@ -166,10 +158,9 @@ fn told_of<'a>(context: &Context<'a>, fault: LineFault) -> Told<'a> {
 
 // Returns the text for an option that stands twice. FILE has another word.
 fn of_doubled(context: &Context<'_>) -> &'static str {
-    for place in 0..context.front.len() {
-        if context.word_at(place).eq_ignore_ascii_case(context.token) {
-            return "% stands twice";
-        }
+    let mut places = 0..context.front.len();
+    if places.any(|place| context.word_at(place).eq_ignore_ascii_case(context.token)) {
+        return "% stands twice";
     }
     "FILE stands twice: DATASET is another word for it"
 }
@@ -253,12 +244,10 @@ fn of_sign(context: &Context<'_>) -> &'static str {
     if is_in_label {
         return "a label has letters and digits alone";
     }
-    for (sign, text) in &SIGNS {
-        if context.token.first() == Some(sign) {
-            return text;
-        }
-    }
-    NO_OPTION
+    let found = SIGNS
+        .iter()
+        .find(|row| context.token.first() == Some(&row.0));
+    found.map_or(NO_OPTION, |row| row.1)
 }
 
 // Returns the text for a value that is wrong or missing, or for its parentheses.
@@ -307,10 +296,10 @@ fn of_broken(token: &[u8]) -> &'static str {
 
 // Returns whether a token is a word, and no hexadecimal literal.
 fn is_data_name(token: &[u8]) -> bool {
-    match token.first() {
-        Some(first) => first.is_ascii_alphabetic() && !token.contains(&b'\''),
-        None => false,
-    }
+    token
+        .first()
+        .is_some_and(|first| first.is_ascii_alphabetic())
+        && !token.contains(&b'\'')
 }
 
 // Returns what the option of an opening parenthesis takes.

@@ -1,8 +1,8 @@
 //! What is told of a line, and the line with a caret under it.
 
 ghost use Rattle.std.specs.Prelude.{◌≡◌, ◌++◌, map, replicate, OnOk};
-ghost use Rattle.cics_script.specs.Advice.Advice.{shown, left_out, part_of, caret, message_line};
-ghost use Rattle.cics_script.specs.Advice.Advice.{marked, too_long, ended};
+ghost use Rattle.cics_script.specs.Advice.Advice.{shown, left_out, part_of, message_line};
+ghost use Rattle.cics_script.specs.Advice.Advice.{marked, too_long};
 
 use crate::spelling::{push_number, push_str};
 use cics_names::NoMemory;
@@ -59,28 +59,15 @@ fn part_of(line: &[u8], column: usize) -> &[u8]
     rest.split_at(WIDTH.min(rest.len())).0
 }
 
-fn push_part(out: &mut Vec<u8>, line: &[u8], column: usize) -> Result<(), NoMemory>
-    ensures { OnOk result (out.new.items
-        ≡ out.old.items ++ ended (map shown (part_of line.now column))) }
-{
-    push_shown(out, part_of(line, column))?;
-    push_str(out, "\n")
-}
-
-fn push_caret(out: &mut Vec<u8>, line: &[u8], column: usize) -> Result<(), NoMemory>
-    ensures { OnOk result (out.new.items ≡ out.old.items ++ ended (caret line.now column)) }
-{
-    let blanks = column.saturating_sub(left_out(line, column));
-    push_blanks(out, blanks.saturating_sub(1))?;
-    push_str(out, "^\n")
-}
-
 /// Puts the part of a line round a column, counted from 1, and under it a caret in that column.
 pub fn push_marked(out: &mut Vec<u8>, line: &[u8], column: usize) -> Result<(), NoMemory>
     ensures { OnOk result (out.new.items ≡ out.old.items ++ marked line.now column) }
 {
-    push_part(out, line, column)?;
-    push_caret(out, line, column)
+    push_shown(out, part_of(line, column))?;
+    push_str(out, "\n")?;
+    let blanks = column.saturating_sub(left_out(line, column));
+    push_blanks(out, blanks.saturating_sub(1))?;
+    push_str(out, "^\n")
 }
 
 /// Puts a message on a column of the line with this number.
