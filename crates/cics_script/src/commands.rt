@@ -102,16 +102,21 @@ fn delete_verb(alloc: Global, found: &[Found<'_>]) -> Result<Verb, LineFault>
     ensures { Reads (verb_in CommandWord.Delete (entries found.now)) result }
 {
     let file = file_of(found)?;
-    let ridfld = optional_text_of(alloc, found, OptionWord::Ridfld)?;
-    if ridfld.is_none() && has_key_option(found) {
-        return Err(LineFault::MissingOption);
+    match optional_text_of(alloc, found, OptionWord::Ridfld)? {
+        Some(ridfld) => Ok(Verb::Delete {
+            file,
+            ridfld: Some(ridfld),
+            key_length: number_of(found, OptionWord::KeyLength),
+            generic: has_option(found, OptionWord::Generic),
+        }),
+        None if has_key_option(found) => Err(LineFault::MissingOption),
+        None => Ok(Verb::Delete {
+            file,
+            ridfld: None,
+            key_length: None,
+            generic: false,
+        }),
     }
-    Ok(Verb::Delete {
-        file,
-        ridfld,
-        key_length: number_of(found, OptionWord::KeyLength),
-        generic: has_option(found, OptionWord::Generic),
-    })
 }
 
 fn startbr_verb(alloc: Global, found: &[Found<'_>]) -> Result<Verb, LineFault>

@@ -1,20 +1,20 @@
 //! Reads a line of a script.
 
-ghost use Rattle.std.specs.Prelude.{◌≡◌, ◌≤◌, ◌-◌, ◌||◌, Ok, Some, IfSome, true};
+ghost use Rattle.std.specs.Prelude.{◌≡◌, ◌≤◌, ◌-◌, ◌||◌, Ok, Some, None, IfSome, true};
 ghost use Rattle.std.specs.Prelude.{length, map, take, drop};
 ghost use Rattle.std.specs.List.{list_all};
 ghost use lib.Chars.{codes};
 ghost use Rattle.cics_script.specs.Faults.{◌>>=◌ as ◌and_next◌, Reads};
-ghost use Rattle.cics_script.specs.Tokens.{capital, tokens, after_blanks, is_capital, is_digit};
-ghost use Rattle.cics_script.specs.Words.{commands};
-ghost use Rattle.cics_script.specs.Views.{entries, GivesWord, GivesVerb, GivesNumber, GivesRest};
+ghost use Rattle.cics_script.specs.Tokens.{capital, tokens, is_capital, is_digit};
+ghost use Rattle.cics_script.specs.Words.{commands, lookup, starts};
+ghost use Rattle.cics_script.specs.Views.{entries, GivesWord, GivesVerb, GivesRest};
 ghost use Rattle.cics_script.specs.Views.{IsNamed};
 ghost use Rattle.cics_script.specs.Values.{needed};
 ghost use Rattle.cics_script.specs.Lines.{recovery_in, queue_recovery_in, definition_in, load_in};
 ghost use Rattle.cics_script.specs.Lines.{word_first, behind, label_in, define, load, attach};
-ghost use Rattle.cics_script.specs.Lines.{verb_first, number_first, clock, shutdown, command_at};
+ghost use Rattle.cics_script.specs.Lines.{verb_first, clock, shutdown, command_at};
 ghost use Rattle.cics_script.specs.Lines.{issue, statement};
-ghost use Rattle.cics_script.specs.Lines.{is_script_byte, is_empty_or_comment, line};
+ghost use Rattle.cics_script.specs.Lines.{is_script_byte, line};
 
 use crate::commands::{is_handled, verb_of};
 use crate::faults::LineFault;
@@ -181,11 +181,12 @@ fn put_capitals(text: &mut [u8; LABEL], word: &[u8]) -> bool
     all
 }
 
-// Returns the label that a word is: at most eight letters and digits, and no word of `Start`.
+// Returns the label that a word is, which is none of `Start`: at most eight letters and digits.
 fn label_of(word: &[u8]) -> Result<Name8, LineFault>
+    requires { lookup (map capital word.now) starts ≡ None }
     ensures { result ≡ label_in (map capital word.now) }
 {
-    if word.len() > LABEL || start_of(word).is_some() {
+    if word.len() > LABEL {
         return Err(LineFault::UnknownWord);
     }
     let mut capitals = [0; LABEL];
@@ -224,6 +225,9 @@ fn read_attach(alloc: Global, bytes: &[u8]) -> Result<Line, LineFault>
     ensures { Reads (attach (tokens bytes.now)) result }
 {
     let (word, rest) = first_word(bytes)?;
+    if start_of(word).is_some() {
+        return Err(LineFault::UnknownWord);
+    }
     let label = label_of(word)?;
     let mut found = Options::new();
     read_options(alloc, Form::Attach, rest, &mut found)?;
@@ -234,21 +238,13 @@ fn read_attach(alloc: Global, bytes: &[u8]) -> Result<Line, LineFault>
     })
 }
 
-// Returns the first number, and the line after it.
-fn first_number(bytes: &[u8]) -> Result<(u64, &[u8]), LineFault>
-    ensures { GivesNumber (number_first (tokens bytes.now)) result }
-{
-    match next_token(bytes)? {
-        Some((Token::Number(number), rest)) => Ok((number, rest)),
-        _ => Err(LineFault::BadNumber),
-    }
-}
-
 // Reads a CLOCK line, from after its first word.
 fn read_clock(alloc: Global, bytes: &[u8]) -> Result<Line, LineFault>
     ensures { Reads (clock (tokens bytes.now)) result }
 {
-    let (seconds, rest) = first_number(bytes)?;
+    let Some((Token::Number(seconds), rest)) = next_token(bytes)? else {
+        return Err(LineFault::BadNumber);
+    };
     let mut found = Options::new();
     read_options(alloc, Form::Clock, rest, &mut found)?;
     Ok(Line::Clock(seconds))
@@ -419,13 +415,6 @@ fn are_in_script(bytes: &[u8]) -> bool
     }
 }
 
-// Returns whether a line is blank or a comment.
-fn is_blank_line(bytes: &[u8]) -> bool
-    ensures { result ≡ is_empty_or_comment (after_blanks bytes.now) }
-{
-    matches!(skip_blanks(bytes).first(), None | Some(b'*'))
-}
-
 /// Reads one line, without its LF and the CR before it. `alloc` gives the memory of its records.
 ///
 /// Errors: the first of these that applies, or `NoMemory`.
@@ -445,8 +434,8 @@ pub fn read_line(alloc: Global, bytes: &[u8]) -> Result<Line, LineFault>
     if !are_in_script(bytes) {
         return Err(LineFault::NotAscii);
     }
-    if is_blank_line(bytes) {
-        return Ok(Line::Blank);
+    match skip_blanks(bytes).first() {
+        None | Some(b'*') => Ok(Line::Blank),
+        _ => read_statement(alloc, bytes),
     }
-    read_statement(alloc, bytes)
 }

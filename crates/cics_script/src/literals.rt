@@ -243,17 +243,6 @@ fn put_codes(text: &mut [u8], plain: &[u8])
 // The most characters of a text whose record is made without a `Vec`.
 const SHORT: usize = 30;
 
-// Returns the record of a short text of plain characters, in EBCDIC.
-fn short_record(alloc: Global, plain: &[u8]) -> Result<Record, NoMemory>
-    requires fits { length plain.now ≤ 30 }
-    ensures { IfOk result (λ made. made ≡ encoded_text Encoding.Ebcdic plain.now) }
-{
-    let mut room = [0; SHORT];
-    let codes = &mut room[..plain.len()];
-    put_codes(codes, plain);
-    Record::from_slice(alloc, codes)
-}
-
 // Returns a copy of plain characters.
 fn copy_plain(alloc: Global, encoding: Encoding, plain: &[u8]) -> Result<Vec<u8>, AllocError>
     ensures { IfOk result (λ text. text.items ≡ encoded_text encoding plain.now) }
@@ -431,7 +420,12 @@ impl<'a> Literal<'a> {
     {
         match self.notation {
             Notation::Quoted => match self.plain() {
-                Some(text) if text.len() <= SHORT => short_record(alloc, text),
+                Some(text) if text.len() <= SHORT => {
+                    let mut room = [0; SHORT];
+                    let codes = &mut room[..text.len()];
+                    put_codes(codes, text);
+                    Record::from_slice(alloc, codes)
+                }
                 _ => Ok(Record::new(self.copy(alloc, Encoding::Ebcdic)?)),
             },
             Notation::Hexadecimal => Ok(Record::new(self.copy(alloc, Encoding::AsWritten)?)),

@@ -7,7 +7,7 @@ ghost use Rattle.cics_script.specs.Tokens.{capital};
 ghost use Rattle.cics_script.specs.Words.{lookup, starts, define_objects, load_objects};
 ghost use Rattle.cics_script.specs.Words.{commands, queue_words, option_words, option_word};
 ghost use Rattle.cics_script.specs.Words.{word_among, same, own_options, options_of_command};
-ghost use Rattle.cics_script.specs.Words.{shared_options, usual_kind, kind_at, kind_in};
+ghost use Rattle.cics_script.specs.Words.{usual_kind, kind_at, kind_in};
 ghost use Rattle.cics_script.specs.Words.{excluded_by, excludes};
 ghost use lib.Chars.{codes};
 
@@ -408,16 +408,6 @@ fn options_of_command(command: CommandWord) -> &'static [OptionWord]
     }
 }
 
-// Returns the options of every command, or none for another line.
-fn shared_options(form: Form) -> &'static [OptionWord]
-    ensures { result.now ≡ shared_options form }
-{
-    match form {
-        Form::Command(_) => &[Resp, Resp2, NoHandle, EndExec],
-        _ => &[],
-    }
-}
-
 // Returns whether an option is one of these.
 fn is_among(options: &[OptionWord], option: OptionWord) -> bool
     ensures { result ≡ list_any (same option) options.now }
@@ -455,12 +445,16 @@ fn kind_at(form: Form, option: OptionWord) -> Kind
     }
 }
 
-/// Returns what an option of a line takes, or `None` if the line has no such option. Joins three
-/// tables: `own_options`, `shared_options` and `kind_at`.
+/// Returns what an option of a line takes, or `None` if the line has no such option. Joins the
+/// tables `own_options` and `kind_at`, and the options of every command.
 pub fn kind_of(form: Form, option: OptionWord) -> Option<Kind>
     ensures { result ≡ kind_in form option }
 {
-    if is_among(own_options(form), option) || is_among(shared_options(form), option) {
+    let shared: &[OptionWord] = match form {
+        Form::Command(_) => &[Resp, Resp2, NoHandle, EndExec],
+        _ => &[],
+    };
+    if is_among(own_options(form), option) || is_among(shared, option) {
         Some(kind_at(form, option))
     } else {
         None
