@@ -31,8 +31,3 @@ pub use columns::{Placed, find_fault};
 pub use faults::LineFault;
 pub use lines::{Line, read_line};
 pub use tokens::{skip_blanks, whole_token};
-pub use words::{
-    CommandWord, DefineObject, Form, Kind, LoadObject, OptionWord, Start, command_named,
-    define_object, is_excluded, kind_of, load_object, option_named, option_word, queue_command,
-    start_of,
-};

@@ -9,7 +9,8 @@ ghost use Rattle.cics_script.specs.Spelling.Spelling.{AreWritten, AllCanBeGiven,
 ghost use Rattle.cics_script.specs.Spelling.Spelling.{Spells, Spelling};
 ghost use Rattle.cics_script.specs.Spelling.WrittenOut.{written_out};
 
-use crate::{CommandWord, Line};
+use crate::Line;
+use crate::words::CommandWord;
 use cics_names::Command;
 
 /// States that a command is read from its options in any order. It is a law: the call does nothing.

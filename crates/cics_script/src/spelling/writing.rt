@@ -4,15 +4,15 @@ ghost use Rattle.std.specs.Prelude.{◌≡◌, ◌++◌, OnOk, Some, None, true,
 ghost use Rattle.std.specs.Option.{option_copied};
 ghost use Rattle.std.specs.List.{flat_map};
 ghost use Rattle.cics_names.specs.Commands.{file_named};
-ghost use Rattle.cics_script.specs.Options.{text, name8, name4, amount};
-ghost use Rattle.cics_script.specs.Spelling.Spelling.{flag, options_of, replacing, word_of};
+ghost use Rattle.cics_script.specs.Options.{text, name8, amount};
+ghost use Rattle.cics_script.specs.Spelling.Spelling.{flag, options_of, word_of};
 ghost use Rattle.cics_script.specs.Words.{option_word};
 ghost use Rattle.cics_script.specs.Spelling.WrittenOut.{option_text, command_text, written_out};
 ghost use Rattle.cics_script.specs.Spelling.WrittenOut.{seeks_keys, is_on_ts};
 
 use crate::spelling::texts::{push_number, push_str, push_text, unfilled};
-use crate::{OptionWord, option_word};
-use cics_names::{Command, Name4, Name8, NoMemory, Record, Verb};
+use crate::words::{OptionWord, option_word};
+use cics_names::{Command, Name8, NoMemory, Record, Verb};
 
 /// Appends the line of a command, without LF. `label` is written as it is. `read_line` reads the
 /// line back if the command's options go together (`back` of `commands_in_any_order`).
@@ -106,15 +106,19 @@ fn push_options(out: &mut Vec<u8>, verb: &Verb) -> Result<(), NoMemory>
             push_from(out, from, *length)
         }
         Verb::Rewrite { file, from, length } => {
-            push_name8(out, OptionWord::File, file)?;
+            push_name(out, OptionWord::File, &file.bytes())?;
             push_from(out, from, *length)
         }
         Verb::Delete { .. } | Verb::StartBr { .. } | Verb::ResetBr { .. } => {
             push_seek_options(out, verb)
         }
-        Verb::Unlock { file } | Verb::EndBr { file } => push_name8(out, OptionWord::File, file),
+        Verb::Unlock { file } | Verb::EndBr { file } => push_name(
+            out,
+            OptionWord::File,
+            &file.bytes(),
+        ),
         Verb::ReadNext { file, length } | Verb::ReadPrev { file, length } => {
-            push_name8(out, OptionWord::File, file)?;
+            push_name(out, OptionWord::File, &file.bytes())?;
             push_amount(out, OptionWord::Length, *length)
         }
         _ => push_other_options(out, verb),
@@ -134,7 +138,7 @@ fn push_seek_options(out: &mut Vec<u8>, verb: &Verb) -> Result<(), NoMemory>
             key_length,
             generic,
         } => {
-            push_name8(out, OptionWord::File, file)?;
+            push_name(out, OptionWord::File, &file.bytes())?;
             if let Some(ridfld) = ridfld {
                 push_literal(out, OptionWord::Ridfld, ridfld.bytes())?;
             }
@@ -178,7 +182,7 @@ fn push_other_options(out: &mut Vec<u8>, verb: &Verb) -> Result<(), NoMemory>
             from,
             length,
         } => {
-            push_name4(out, OptionWord::Queue, queue)?;
+            push_name(out, OptionWord::Queue, &queue.bytes())?;
             push_from(out, from, *length)
         }
         Verb::ReadqTd {
@@ -186,11 +190,11 @@ fn push_other_options(out: &mut Vec<u8>, verb: &Verb) -> Result<(), NoMemory>
             length,
             nosuspend,
         } => {
-            push_name4(out, OptionWord::Queue, queue)?;
+            push_name(out, OptionWord::Queue, &queue.bytes())?;
             push_amount(out, OptionWord::Length, *length)?;
             push_flag(out, OptionWord::NoSuspend, *nosuspend)
         }
-        Verb::DeleteqTd { queue } => push_name4(out, OptionWord::Queue, queue),
+        Verb::DeleteqTd { queue } => push_name(out, OptionWord::Queue, &queue.bytes()),
         Verb::Enq {
             resource,
             length,
@@ -205,7 +209,7 @@ fn push_other_options(out: &mut Vec<u8>, verb: &Verb) -> Result<(), NoMemory>
             push_amount(out, OptionWord::Length, Some(*length))
         }
         Verb::Rollback => push_flag(out, OptionWord::Rollback, true),
-        Verb::Abend { code: Some(code) } => push_name4(out, OptionWord::AbCode, code),
+        Verb::Abend { code: Some(code) } => push_name(out, OptionWord::AbCode, &code.bytes()),
         _ => Ok(()),
     }
 }
@@ -223,34 +227,24 @@ fn push_ts_options(out: &mut Vec<u8>, verb: &Verb) -> Result<(), NoMemory>
             length,
             item,
         } => {
-            push_name8(out, OptionWord::Queue, queue)?;
+            push_name(out, OptionWord::Queue, &queue.bytes())?;
             push_from(out, from, *length)?;
-            push_replaced(out, *item)
+            // An item that is replaced.
+            push_flag(out, OptionWord::Rewrite, item.is_some())?;
+            push_amount(out, OptionWord::Item, *item)
         }
         Verb::ReadqTs {
             queue,
             length,
             item,
         } => {
-            push_name8(out, OptionWord::Queue, queue)?;
+            push_name(out, OptionWord::Queue, &queue.bytes())?;
             push_amount(out, OptionWord::Length, *length)?;
             push_amount(out, OptionWord::Item, *item)
         }
-        Verb::DeleteqTs { queue } => push_name8(out, OptionWord::Queue, queue),
+        Verb::DeleteqTs { queue } => push_name(out, OptionWord::Queue, &queue.bytes()),
         _ => Ok(()),
     }
-}
-
-// Appends REWRITE, and ITEM with the number of the item that is replaced, if there is one.
-fn push_replaced(out: &mut Vec<u8>, item: Option<u64>) -> Result<(), NoMemory>
-    ensures { OnOk result (out.new.items
-        ≡ out.old.items ++ flat_map option_text (replacing item)) }
-{
-    let Some(item) = item else {
-        return Ok(());
-    };
-    push_flag(out, OptionWord::Rewrite, true)?;
-    push_amount(out, OptionWord::Item, Some(item))
 }
 
 // Appends FILE, RIDFLD, and KEYLENGTH if it is there.
@@ -265,7 +259,7 @@ fn push_key(
         ++ (option_text (OptionWord.Ridfld, Some (text ridfld.now))
         ++ option_text (OptionWord.KeyLength, option_map amount key_length)))) }
 {
-    push_name8(out, OptionWord::File, file)?;
+    push_name(out, OptionWord::File, &file.bytes())?;
     push_literal(out, OptionWord::Ridfld, ridfld.bytes())?;
     push_amount(out, OptionWord::KeyLength, key_length)
 }
@@ -291,20 +285,12 @@ fn push_literal(out: &mut Vec<u8>, option: OptionWord, bytes: &[u8]) -> Result<(
     push_str(out, ")")
 }
 
-// Appends an option that gives a name of eight bytes.
-fn push_name8(out: &mut Vec<u8>, option: OptionWord, name: &Name8) -> Result<(), NoMemory>
+// Appends an option that gives a name.
+fn push_name(out: &mut Vec<u8>, option: OptionWord, name: &[u8]) -> Result<(), NoMemory>
     ensures { OnOk result (out.new.items
         ≡ out.old.items ++ option_text (option, Some (name8 name.now))) }
 {
-    push_literal(out, option, unfilled(&name.bytes()))
-}
-
-// Appends an option that gives a name of four bytes.
-fn push_name4(out: &mut Vec<u8>, option: OptionWord, name: &Name4) -> Result<(), NoMemory>
-    ensures { OnOk result (out.new.items
-        ≡ out.old.items ++ option_text (option, Some (name4 name.now))) }
-{
-    push_literal(out, option, unfilled(&name.bytes()))
+    push_literal(out, option, unfilled(name))
 }
 
 // Appends an option that gives a number, if there is one.
