@@ -10,8 +10,9 @@ use std::cmp::Ordering;
 /// How many bytes are compared as one number.
 pub(crate) const WORD: usize = 8;
 
-/// Returns the first eight bytes of a key as a number, whose highest digit is the first of them.
-fn word_of(key: &[u8]) -> u64
+/// Returns the first eight bytes of a key as a number, whose highest digit is the first of them. Two
+/// numbers have the order of the bytes.
+pub fn word_of(key: &[u8]) -> u64
     requires { 8 ≤ length key.now }
     ensures value { result ≡ number 0 (take 8 key.now) }
     ensures bytes { AreBytes 8 key.now }
@@ -67,7 +68,7 @@ impl Numbers {
 /// lengths.
 ///
 /// If both have eight bytes, the first eight are compared as one number, which has the order of the
-/// bytes.
+/// bytes. If they have the same length, their order is most often that of their numbers.
 pub(crate) fn order_of(left: &[u8], right: &[u8]) -> Ordering
     ensures { result ≡ bytes_cmp left.now right.now }
 {
@@ -75,20 +76,9 @@ pub(crate) fn order_of(left: &[u8], right: &[u8]) -> Ordering
         return left.cmp(right);
     }
     let (x, y) = (word_of(left), word_of(right));
-    if x == y {
-        order_of_long(left, right)
-    } else {
-        x.cmp(&y)
+    if x != y {
+        return x.cmp(&y);
     }
-}
-
-/// Returns the order of two keys that have eight bytes. If they have the same length, that is most
-/// often the order of their numbers.
-fn order_of_long(left: &[u8], right: &[u8]) -> Ordering
-    requires left { 8 ≤ length left.now }
-    requires right { 8 ≤ length right.now }
-    ensures { result ≡ bytes_cmp left.now right.now }
-{
     if left.len() != right.len() {
         return left.cmp(right);
     }

@@ -17,6 +17,7 @@ mod ranges;
 mod rooms;
 mod undoing;
 
+pub use comparing::word_of;
 pub use definition::FileDef;
 pub use files::File;
 pub use images::FileImage;

@@ -9,7 +9,7 @@ ghost use Rattle.std.specs.Option.{option_copied};
 ghost use Rattle.cics_names.specs.Keyed.{value_at, bytes_cmp};
 ghost use Rattle.cics_ksds.specs.Files.{dropped};
 ghost use Rattle.cics_ksds.specs.Heads.{IsPlaceMark};
-ghost use Rattle.cics_ksds.specs.Places.{IsPlace, ArePlaces, IsAt, IsGapFor, Shows, HasPlace};
+ghost use Rattle.cics_ksds.specs.Places.{IsPlace, ArePlaces, IsAt, IsGapFor, Shows};
 ghost use Rattle.cics_ksds.specs.Places.{place_key, key_at, file_of, placed, places_in};
 ghost use Rattle.cics_ksds.specs.Places.{empty_in, listed, interval_in, interval_at, index_of};
 ghost use Rattle.cics_ksds.specs.Places.{IsSpot, IsThere, IsPlaceOf, IsGapAt, HasFirst};
@@ -395,22 +395,4 @@ pub(crate) fn take_at(definition: FileDef, places: &mut Dataset, at: Position) -
     ensures old { result ≡ slice_index_or (places_in places.old) (index_of places.old at) result }
 {
     places.remove(at)
-}
-
-/// Replaces the slot of the same key, which is there, and returns the old one. It takes no memory.
-pub(crate) fn exchanged(definition: FileDef, places: &mut Dataset, place: Place) -> Place
-    requires places { ArePlaces definition (places_in places.old) }
-    requires place { IsPlace definition place }
-    requires there { HasPlace (file_of definition places.old) (place_key definition place) }
-    ensures places { ArePlaces definition (places_in places.new) }
-    ensures value { file_of definition places.new
-        ≡ placed (file_of definition places.old) (place_key definition place) place }
-    ensures old { Shows (file_of definition places.old) (place_key definition place) result }
-    ensures old_place { IsPlace definition result }
-    ensures old_key { place_key definition result ≡ place_key definition place }
-{
-    match spot_of(definition, places, place.key(definition)) {
-        Spot::At(at) | Spot::AtEmpty(at) => put_at(definition, places, at, place),
-        Spot::Gap(_) => unreachable!(),
-    }
 }

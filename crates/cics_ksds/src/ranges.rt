@@ -1,17 +1,16 @@
 //! Records by the order of their keys: the first from a bound on, the last up to one, and all.
 
-ghost use Rattle.std.specs.Prelude.{◌≡◌, ◌++◌, ◌<◌, ◌≤◌, ℕ, true, false, length};
-ghost use Rattle.std.specs.Prelude.{[], slice_index_or, IfOk, OnOk, IfSome, IsTrue};
+ghost use Rattle.std.specs.Prelude.{◌≡◌, ◌<◌, ◌≤◌, ℕ, true, false, length};
+ghost use Rattle.std.specs.Prelude.{[], slice_index_or, IfOk, IfSome, IsTrue};
 ghost use Rattle.std.specs.Option.{option_copied, option_map};
 ghost use Rattle.cics_ksds.specs.Files.{entry_of, fits_file, is_from, first_from, last_to};
 ghost use Rattle.cics_ksds.specs.Places.{ArePlaces, key_at, file_of, record_in, last_record};
 ghost use Rattle.cics_ksds.specs.Places.{places_from, places_before, listed};
 ghost use Rattle.cics_ksds.specs.declared.places.Place.TheVariants.{Empty};
-ghost use Rattle.cics_ksds.specs.Places.{joined, places_in, interval_at, index_of, IsThere};
+ghost use Rattle.cics_ksds.specs.Places.{places_in, interval_at, index_of, IsThere};
 
 use crate::FileDef;
 use crate::dataset::Dataset;
-use crate::intervals::Interval;
 use crate::places::{Place, Position, find, place_at};
 use cics_names::{Items, NoMemory, Record};
 use std::alloc::Global;
@@ -127,32 +126,6 @@ pub(crate) fn last_record_to<'a>(
     None
 }
 
-/// Adds copies of the records in slots to others, in the same order.
-fn copy_places(alloc: Global, places: &[Place], records: &mut Items<Record>) -> Result<(), NoMemory>
-    ensures { OnOk result (records.new ≡ records.old ++ listed places.now) }
-{
-    for place in places {
-        if let Place::Filled(record) = place {
-            records.push(Record::from_slice(alloc, record.bytes())?)?;
-        }
-    }
-    Ok(())
-}
-
-/// Adds copies of the records in intervals to others, in the same order.
-fn copy_intervals(
-    alloc: Global,
-    intervals: &[Interval],
-    records: &mut Items<Record>,
-) -> Result<(), NoMemory>
-    ensures { OnOk result (records.new ≡ records.old ++ listed (joined intervals.now)) }
-{
-    for interval in intervals {
-        copy_places(alloc, interval.places(), records)?;
-    }
-    Ok(())
-}
-
 /// Returns copies of all records, in the order of their keys.
 pub(crate) fn copies(alloc: Global, places: &Dataset) -> Result<Items<Record>, NoMemory>
     ensures { IfOk result (λ records. records ≡ listed (places_in places.now)) }
@@ -160,7 +133,15 @@ pub(crate) fn copies(alloc: Global, places: &Dataset) -> Result<Items<Record>, N
     let mut records = Items::new(alloc);
     let areas = places.areas();
     for area in areas {
-        copy_intervals(alloc, area.intervals(), &mut records)?;
+        let intervals = area.intervals();
+        for interval in intervals {
+            let slots = interval.places();
+            for place in slots {
+                if let Place::Filled(record) = place {
+                    records.push(Record::from_slice(alloc, record.bytes())?)?;
+                }
+            }
+        }
     }
     Ok(records)
 }
