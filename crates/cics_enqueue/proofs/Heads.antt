@@ -3,7 +3,7 @@ use Rattle.std.proofs.Common.{◌≡◌, ℕ, zero, suc, ◌+◌, ◌-◌, ◌<�
 use Rattle.std.specs.declared.cmp.Ordering.{Ordering}
 use Rattle.std.specs.declared.cmp.Ordering.TheVariants.{Less, Equal, Greater}
 use Rattle.std.specs.Ordering.{nat_cmp, ordering_then, ordering_reverse, MatchOrdering}
-use Rattle.std.specs.Cmp.{ranks, tied_itself}
+use Rattle.std.specs.Cmp.{ranks, nat_cmp_is, tied_itself}
 use Rattle.std.specs.Cmp.Lexicographic.{nat_list_cmp_total}
 use Rattle.std.proofs.lemmas.Bool.{leb-true, leb-false}
 use borrow.Rule.Slice.PartMut.{put_mid}
@@ -11,7 +11,6 @@ use Rattle.std.proofs.lemmas.List.{length-take-le, take_at, drop_at, drop-drop}
 use Rattle.cics_names.specs.Keyed.{Bytes, bytes_cmp}
 use Rattle.cics_names.specs.KeyedLaws.{same_bytes}
 use Rattle.cics_enqueue.specs.Keys.{first_or_zero, behind, padded, head_of, long_of, bytes_of, AreParts}
-use Rattle.cics_enqueue.proofs.Numbers.{by_first, by_rest, turned}
 
 -- ---- A key and its parts
 -- bytes that fit are read back from the padded ones
@@ -43,6 +42,24 @@ AreParts-made h l k head long =
     record { head_is = head ∙ ap head_of (sym key); long_is = long ∙ ap long_of (sym key) }
 
 -- ---- The order of heads
+-- the lesser first byte decides
+by_first : (k l : Bytes) → first_or_zero k < first_or_zero l → bytes_cmp k l ≡ Less
+by_first [] [] less = absurd (omega (arith, less))
+by_first [] (y ∷ l) less = refl
+by_first (x ∷ k) [] less = absurd (omega (arith, less))
+by_first (x ∷ k) (y ∷ l) less = ap (λ o. ordering_then o (bytes_cmp k l)) (sym (nat_cmp_is x y Less less))
+
+-- behind first bytes that are one the rest decides
+by_rest : (k l : Bytes) → first_or_zero k ≡ first_or_zero l → bytes_cmp (behind k) (behind l) ≡ Less → bytes_cmp k l ≡ Less
+by_rest [] [] same less = less
+by_rest [] (y ∷ l) same less = refl
+by_rest (x ∷ []) [] same less = cc
+by_rest (x ∷ z ∷ k) [] same less = cc
+by_rest (x ∷ k) (y ∷ l) same less = ap (λ o. ordering_then o (bytes_cmp k l)) (sym (nat_cmp_is x y Equal same)) ∙ less
+
+turned : (k l : Bytes) → bytes_cmp l k ≡ Less → bytes_cmp k l ≡ Greater
+turned k l less = nat_list_cmp_total.antisymm k l ∙ ap ordering_reverse less
+
 next : (k l a b : Bytes) → (bytes_cmp a b ≡ Less → bytes_cmp (behind k) (behind l) ≡ Less) → ordering_then (nat_cmp (first_or_zero k) (first_or_zero l)) (bytes_cmp a b) ≡ Less → bytes_cmp k l ≡ Less
 next k l a b rest is = by (nat_cmp (first_or_zero k) (first_or_zero l)) (ranks (first_or_zero k) (first_or_zero l)) is
   where

@@ -7,4 +7,3 @@ pub mod Seeking
 pub mod TableLaws
 pub mod Tables
 pub mod Heads
-pub mod Numbers

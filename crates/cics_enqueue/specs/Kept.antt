@@ -1,13 +1,12 @@
 -- The table as the code stores it. Each unit has a list of its keys, so that what it owns is found
 -- without a look at what others own.
-use Rattle.std.specs.Prelude.{◌≡◌, ℕ, ◌==◌, ◌+◌, nat_le, Bool, true, false, ◌&&◌, ◌++◌, if◌then◌else◌, T, Option, Some, None, option_map, nat_eq, length, drop, List, [], ◌∷◌}
+use Rattle.std.specs.Prelude.{◌≡◌, ℕ, ◌==◌, Bool, true, false, ◌&&◌, ◌++◌, if◌then◌else◌, T, Option, Some, None, option_map, nat_eq, length, drop, List, [], ◌∷◌}
 use Rattle.std.specs.List.{list_any}
 use Rattle.std.specs.Global.{Vec}
 use Rattle.std.specs.Map.{lookup, remove_entry}
 use Rattle.std.specs.BTreeMap.{insert_entry}
 use Rattle.cics_names.specs.Keyed.{Bytes, bytes_cmp, is_same, is_below}
 use Rattle.cics_enqueue.specs.declared.enqueues.Holding.{Holding}
-use Rattle.cics_history.specs.Resources.{most_count}
 use Rattle.cics_ksds.specs.Prefixes.{has_prefix}
 use Rattle.cics_history.specs.Holding.{is_other}
 use Rattle.cics_enqueue.specs.Table.{Table, Held, resource_key, is_in_order, first_of}
@@ -68,14 +67,6 @@ Adds unit key old new = (u : ℕ) (k : Bytes) → (if is_place unit key u k then
 -- each unit has all that it had, but this unit may have lost this key
 abbrev pub Drops : ℕ → Bytes → Owned → Owned → Type 0
 Drops unit key old new = (u : ℕ) (k : Bytes) → is_place unit key u k ≡ false → owns old u k ≡ true → owns new u k ≡ true
-
--- the count of a holding after it is acquired once more
-abbrev pub count_after : Bool → Holding → ℕ
-count_after user h = if user then h.count + 1 else h.count
-
--- whether a user's value is owned as often as it can be
-abbrev pub is_held_full : Bool → Holding → Bool
-is_held_full user h = user && nat_le most_count h.count
 
 -- whether it is this unit's holding
 abbrev pub is_units : ℕ → Option Holding → Bool

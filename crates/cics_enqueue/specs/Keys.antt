@@ -1,5 +1,5 @@
--- The head of a table key, and its bytes as numbers.
-use Rattle.std.specs.Prelude.{◌≡◌, ℕ, suc, zero, ◌*◌, ◌+◌, ◌<◌, nat_le, min, if◌then◌else◌, length, take, get_or, [], ◌∷◌, ◌++◌}
+-- The head of a table key.
+use Rattle.std.specs.Prelude.{◌≡◌, ℕ, suc, zero, nat_le, min, if◌then◌else◌, length, take, get_or, [], ◌∷◌, ◌++◌}
 use Rattle.cics_names.specs.Keyed.{Bytes}
 
 -- the first byte, or 0 if there is none
@@ -11,17 +11,6 @@ first_or_zero (byte ∷ bytes) = byte
 abbrev pub behind : Bytes → Bytes
 behind [] = []
 behind (byte ∷ bytes) = bytes
-
--- a number with the first bytes behind it as digits of base 256, the highest first; zeros stand for
--- bytes that aren't there
-abbrev pub filled : ℕ → ℕ → Bytes → ℕ
-filled zero high bytes = high
-filled (suc n) high bytes = filled n (high * 256 + first_or_zero bytes) (behind bytes)
-
--- the first numbers of a list, this many, are bytes
-abbrev pub AreBytes : ℕ → Bytes → Type 0
-AreBytes zero bytes = Unit {0}
-AreBytes (suc n) bytes = (first_or_zero bytes < 256) × AreBytes n (behind bytes)
 
 -- so many of the first bytes; zeros stand for bytes that aren't there
 abbrev pub padded : ℕ → Bytes → Bytes

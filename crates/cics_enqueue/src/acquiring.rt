@@ -9,7 +9,7 @@ ghost use Rattle.std.specs.BTreeMap.{btree_map_len, insert_entry};
 ghost use Rattle.cics_names.specs.Keyed.{Bytes, bytes_cmp, is_same};
 ghost use Rattle.cics_history.specs.declared.resources.Resource.TheVariants.{User};
 ghost use Rattle.cics_history.specs.Resources.{bytes_of, is_user};
-ghost use Rattle.cics_enqueue.specs.Kept.{count_after, is_held_full, seen, PutsNew};
+ghost use Rattle.cics_enqueue.specs.Kept.{seen, PutsNew};
 ghost use Rattle.cics_enqueue.specs.Order.{resource_of};
 ghost use Rattle.cics_enqueue.specs.Table.{resource_key, held_at, holder_of, holder_over, other_than};
 ghost use Rattle.cics_enqueue.specs.Table.{is_in_order, is_full, IsFreeFor, taken, given_back};
@@ -22,24 +22,6 @@ use crate::owned;
 use cics_history::{Resource, UnitId};
 use cics_names::NoMemory;
 use std::collections::BTreeMap;
-
-// Raises the count of a holding, if it is of a user's value.
-fn raise(holding: &mut Holding, user: bool) -> Result<(), TakeFault>
-    ensures unit { holding.new.unit ≡ holding.old.unit }
-    ensures count { OnOk result (holding.new.count ≡ count_after user holding.old) }
-    ensures room { OnOk result (is_held_full user holding.old ≡ false) }
-    ensures full { IfErr result (λ fault. (fault ≡ TakeFault.Full)
-        × (is_held_full user holding.old ≡ true)) }
-    ensures err { OnErr result (holding.new ≡ holding.old) }
-{
-    if user {
-        if holding.count == u16::MAX {
-            return Err(TakeFault::Full);
-        }
-        holding.count += 1;
-    }
-    Ok(())
-}
 
 // Puts a holding under a key that has none. Returns the holding that the key has then.
 fn or_put(
@@ -154,7 +136,13 @@ impl Enqueues {
         if held.unit != unit {
             return Ok(Some(held.unit));
         }
-        self.take_again(key, true)?;
+        if held.count == u16::MAX {
+            return Err(TakeFault::Full);
+        }
+        let Some(holding) = self.table.get_mut(key) else {
+            unreachable!()
+        };
+        holding.count += 1;
         Ok(None)
     }
 
@@ -205,23 +193,5 @@ impl Enqueues {
             return Err(NoMemory);
         }
         Ok(None)
-    }
-
-    // Acquires the resource of a key once more for its owner. `NoMemory` if nobody owns it.
-    fn take_again(&mut self, key: &Key, user: bool) -> Result<(), TakeFault>
-        requires key { resource_key (resource_of key.now) ≡ key.now }
-        requires user { user ≡ is_user (resource_of key.now) }
-        ensures taken { (u : ℕ) →
-            IfSome (holder_of (resource_of key.now) self.old) (λ v. v ≡ u) →
-            OnOk result (self.new ≡ taken self.old (resource_of key.now) u) }
-        ensures room { OnOk result (is_full (resource_of key.now) self.old ≡ false) }
-        ensures full { IfErr result (λ fault. fault ≡ TakeFault.Full
-            ↔ IsTrue (is_full (resource_of key.now) self.old)) }
-        ensures err { OnErr result (self.new ≡ self.old) }
-    {
-        let Some(holding) = self.table.get_mut(key) else {
-            return Err(TakeFault::NoMemory);
-        };
-        raise(holding, user)
     }
 }

@@ -3,14 +3,13 @@
 //! `bound` is a key that a look-up fills with the bytes that it looks for.
 
 ghost use Rattle.std.specs.Prelude.{◌≡◌, ◌≤◌, ◌∷◌, ◌++◌, [], length, drop, None, true};
-ghost use Rattle.std.specs.Prelude.{if◌then◌else◌, option_map};
+ghost use Rattle.std.specs.Prelude.{option_map};
 ghost use Rattle.std.specs.Bool.{OnFalse};
-ghost use Rattle.cics_names.specs.Keyed.{Bytes, is_below, is_same};
+ghost use Rattle.cics_names.specs.Keyed.{Bytes, is_same};
 ghost use Rattle.cics_enqueue.specs.Kept.{first_shorter, first_shown, least_shown};
 ghost use Rattle.cics_enqueue.specs.Kept.{others_unit};
 ghost use Rattle.std.specs.Map.{lookup};
 ghost use Rattle.std.specs.Option.{option_copied};
-ghost use Rattle.cics_ksds.specs.Prefixes.{has_prefix};
 ghost use Rattle.cics_history.specs.Holding.{is_other};
 ghost use Rattle.cics_enqueue.specs.Table.{first_of};
 
@@ -48,15 +47,6 @@ pub(crate) fn other_unit(held: Option<&Holding>, asker: &Option<UnitId>) -> Opti
     }
 }
 
-// Sets where a look-up of the table keys under `start` begins: at `start`, or at no bytes if memory
-// is refused. Then the look-up goes through the whole table.
-fn set_bound(bound: &mut Key, start: &[u8])
-    requires most { length start.now ≤ 265 }
-    ensures { has_prefix bound.new start.now ≡ true }
-{
-    let _ = bound.set(&[], start);
-}
-
 // Returns false only if no prefix of keys is owned. Its table key would come before all others.
 pub(crate) fn has_prefixes(table: &BTreeMap<Key, Holding>) -> bool
     ensures { OnFalse result ((b : Bytes) → lookup (is_same (0 ∷ b)) table.now.entries ≡ None) }
@@ -80,18 +70,6 @@ fn after_kind(bytes: &[u8]) -> &[u8]
     }
 }
 
-// Returns `other`, the owner of a prefix of keys, if the prefix comes before a key, both without
-// their kinds. Else returns `holder`, the owner of the key.
-fn lesser_holder(key: &[u8], holder: UnitId, prefix: &[u8], other: UnitId) -> UnitId
-    ensures { result ≡ (if is_below (drop 1 prefix.now) (drop 1 key.now) then other else holder) }
-{
-    if after_kind(prefix) < after_kind(key) {
-        other
-    } else {
-        holder
-    }
-}
-
 // A search of a table for what units other than the asker own.
 #[derive(Clone, Copy)]
 pub(crate) struct Search<'t> {
@@ -100,15 +78,6 @@ pub(crate) struct Search<'t> {
 }
 
 impl<'t> Search<'t> {
-    // Returns the other owner of the table key with these bytes.
-    fn other_holder(&self, bound: &mut Key, bytes: &[u8]) -> Option<UnitId>
-        requires most { length bytes.now ≤ 265 }
-        ensures { result ≡ others_unit self.now.asker
-            (lookup (is_same bytes.now) self.now.table.now.entries) }
-    {
-        other_unit(held_under(self.table, bound, bytes), &self.asker)
-    }
-
     // Returns the bytes and the unit of the first entry that begins with `start` and isn't the
     // asker's.
     fn first_under(&self, bound: &mut Key, start: &[u8]) -> Option<(&'t [u8], UnitId)>
@@ -119,7 +88,8 @@ impl<'t> Search<'t> {
         if self.table.is_empty() {
             return None;
         }
-        set_bound(bound, start);
+        // If memory is refused, `bound` has no bytes, and the look-up goes through the whole table.
+        let _ = bound.set(&[], start);
         for (key, holding) in self.table.range(&*bound..) {
             let key = key.as_slice();
             let is_another = is_another(&self.asker, holding.unit);
@@ -146,7 +116,7 @@ impl<'t> Search<'t> {
     {
         let mut key = file_bytes(PREFIX, file, &[]);
         for byte in bytes {
-            let holder = self.other_holder(bound, key.as_slice());
+            let holder = other_unit(held_under(self.table, bound, key.as_slice()), &self.asker);
             if holder.is_some() {
                 return holder;
             }
@@ -171,7 +141,11 @@ impl<'t> Search<'t> {
         let Some(prefix) = self.first_under(bound, prefixes.as_slice()) else {
             return Some(key.1);
         };
-        Some(lesser_holder(key.0, key.1, prefix.0, prefix.1))
+        if after_kind(prefix.0) < after_kind(key.0) {
+            Some(prefix.1)
+        } else {
+            Some(key.1)
+        }
     }
 
     // Returns the other owner of the first resource that conflicts with a key. The order: a shorter

@@ -2,8 +2,9 @@
 
 ghost use Rattle.std.specs.Prelude.{◌≡◌, ◌≤◌, ◌+◌, ◌++◌, OnOk, OnErr, IfOk, [], length};
 ghost use Rattle.cics_names.specs.Keyed.{bytes_cmp};
-ghost use Rattle.cics_enqueue.specs.Keys.{filled, AreBytes, head_of, long_of};
+ghost use Rattle.cics_enqueue.specs.Keys.{head_of, long_of};
 
+use cics_ksds::word_of;
 use cics_names::NoMemory;
 use std::alloc::Global;
 use std::cmp::Ordering;
@@ -20,17 +21,6 @@ const HEAD: usize = 24;
 
 // How many bytes are compared at a time.
 const WORD: usize = 8;
-
-// Returns the first eight bytes as a number.
-fn word_of(bytes: &[u8]) -> u64
-    requires { 8 ≤ length bytes.now }
-    ensures value { result ≡ filled 8 0 bytes.now }
-    ensures bytes { AreBytes 8 bytes.now }
-{
-    u64::from_be_bytes([
-        bytes[0], bytes[1], bytes[2], bytes[3], bytes[4], bytes[5], bytes[6], bytes[7],
-    ])
-}
 
 // Returns the order of two key heads.
 fn head_order(left: &[u8; HEAD], right: &[u8; HEAD]) -> Ordering

@@ -5,11 +5,17 @@ use Rattle.std.specs.Cmp.Lexicographic.{lists_agrees}
 use Rattle.cics_names.specs.Keyed.{Bytes, bytes_cmp}
 use Rattle.cics_enqueue.specs.declared.enqueues.Holding.{Holding}
 use Rattle.cics_enqueue.specs.Kept.{Entries, first_entry, first_shown, is_others_under, bytes_and_unit}
-use Rattle.std.specs.Prelude.{length}
+use Rattle.std.specs.Prelude.{length, Result, Ok, Err, OnOk, OnErr}
 use Rattle.cics_ksds.specs.Prefixes.{has_prefix}
 use Rattle.cics_history.specs.Holding.{is_other}
+use Rattle.cics_history.specs.ResourceLaws.{has_prefix-self}
 use Rattle.cics_enqueue.proofs.Seeking.{Rises, rises_sorted, Rises-filter, first_entry-filter, first_entry-here, first_entry-past, first_entry-passed, before_bound, never}
 use Rattle.cics_enqueue.proofs.conflicts.Search.first_under.Goals as goal
+
+-- the look-up begins at the bytes, or where there are none
+bound_at : {X E : Type 0} (r : Result X E) (b start : Bytes) → OnOk r (b ≡ start) → OnErr r (b ≡ []) → has_prefix b start ≡ true
+bound_at (Ok x) b start is err = ap (λ k. has_prefix k start) is ∙ has_prefix-self start
+bound_at (Err e) b start ok none = ap (λ k. has_prefix k start) none
 
 pub loop-key-init : goal.loop-key-init
 loop-key-init c =
@@ -20,7 +26,7 @@ loop-key-init c =
       finite = tt;
       rises = subst Rises (sym it) (Rises-filter _ es (rises_sorted es c.range-key-items.ensures.ordered));
       rest = ap (first_entry (is_others_under c.args.start.now c.args.self.now.asker)) it
-          ∙ first_entry-filter _ (is_others_under c.args.start.now c.args.self.now.asker) (before_bound c.set_bound.new.bound c.args.start.now c.args.self.now.asker c.set_bound.ensures) es;
+          ∙ first_entry-filter _ (is_others_under c.args.start.now c.args.self.now.asker) (before_bound c.set.new.self c.args.start.now c.args.self.now.asker (bound_at c.set.result c.set.new.self c.args.start.now c.set.ensures.set c.set.ensures.err)) es;
     }
 
 pub returns-then-is_another : goal.returns-then-is_another
