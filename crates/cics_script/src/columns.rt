@@ -28,14 +28,23 @@ pub struct Placed {
     pub column: Option<usize>,
 }
 
-// Returns a broken token, and its fault, which is another than this.
-fn broken_token(fault: LineFault) -> (&'static [u8], LineFault)
-    ensures bytes { result.0.now ≡ broken_bytes fault }
-    ensures other { result.1 ≡ other_fault fault }
+// Returns the fault of some broken token, other than this fault.
+fn other_fault(fault: LineFault) -> LineFault
+    ensures { result ≡ other_fault fault }
 {
     match fault {
-        LineFault::BadLiteral => (b"18446744073709551616", LineFault::BadNumber),
-        _ => (b"'", LineFault::BadLiteral),
+        LineFault::BadLiteral => LineFault::BadNumber,
+        _ => LineFault::BadLiteral,
+    }
+}
+
+// Returns a broken token that has that other fault.
+fn broken_token(fault: LineFault) -> &'static [u8]
+    ensures { result.now ≡ broken_bytes fault }
+{
+    match fault {
+        LineFault::BadLiteral => b"18446744073709551616",
+        _ => b"'",
     }
 }
 
@@ -45,14 +54,13 @@ fn is_read_on(alloc: Global, front: &[u8], fault: LineFault) -> Result<bool, NoM
     ensures { IfOk result (λ on. (on ≡ true)
         ↔ (statement (tokens (front.now ++ broken_bytes fault)) ≡ Err (other_fault fault))) }
 {
-    let (broken, other) = broken_token(fault);
     let mut line = Vec::new(alloc);
     line.extend_from_slice(front)?;
-    line.extend_from_slice(broken)?;
+    line.extend_from_slice(broken_token(fault))?;
     match read_statement(alloc, &line) {
         Ok(_) => Ok(false),
         Err(LineFault::NoMemory) => Err(NoMemory),
-        Err(found) => Ok(found == other),
+        Err(found) => Ok(found == other_fault(fault)),
     }
 }
 

@@ -5,7 +5,7 @@ ghost use Rattle.std.specs.Option.{option_copied};
 ghost use Rattle.std.specs.List.{flat_map};
 ghost use Rattle.cics_names.specs.Commands.{file_named};
 ghost use Rattle.cics_script.specs.Options.{text, name8, amount};
-ghost use Rattle.cics_script.specs.Spelling.Spelling.{flag, options_of, word_of};
+ghost use Rattle.cics_script.specs.Spelling.Spelling.{flag, options_of, replacing, word_of};
 ghost use Rattle.cics_script.specs.Words.{option_word};
 ghost use Rattle.cics_script.specs.Spelling.WrittenOut.{option_text, command_text, written_out};
 ghost use Rattle.cics_script.specs.Spelling.WrittenOut.{seeks_keys, is_on_ts};
@@ -229,9 +229,7 @@ fn push_ts_options(out: &mut Vec<u8>, verb: &Verb) -> Result<(), NoMemory>
         } => {
             push_name(out, OptionWord::Queue, &queue.bytes())?;
             push_from(out, from, *length)?;
-            // An item that is replaced.
-            push_flag(out, OptionWord::Rewrite, item.is_some())?;
-            push_amount(out, OptionWord::Item, *item)
+            push_replaced(out, *item)
         }
         Verb::ReadqTs {
             queue,
@@ -245,6 +243,18 @@ fn push_ts_options(out: &mut Vec<u8>, verb: &Verb) -> Result<(), NoMemory>
         Verb::DeleteqTs { queue } => push_name(out, OptionWord::Queue, &queue.bytes()),
         _ => Ok(()),
     }
+}
+
+// Appends REWRITE, and ITEM with the number of the item that is replaced, if there is one.
+fn push_replaced(out: &mut Vec<u8>, item: Option<u64>) -> Result<(), NoMemory>
+    ensures { OnOk result (out.new.items
+        ≡ out.old.items ++ flat_map option_text (replacing item)) }
+{
+    let Some(item) = item else {
+        return Ok(());
+    };
+    push_flag(out, OptionWord::Rewrite, true)?;
+    push_amount(out, OptionWord::Item, Some(item))
 }
 
 // Appends FILE, RIDFLD, and KEYLENGTH if it is there.

@@ -8,8 +8,8 @@ pub returns : goal.returns
 returns c =
     let line : c.deref.result.now ≡ c.args.front.now ++ broken_bytes c.args.fault =
     c.deref.ensures.value ∙ c.in_ok-extend_from_slice-2.ensures.items
-    ∙ ap (λ l. l ++ c.broken_token-broken.result.0.now) (c.in_ok-extend_from_slice.ensures.items ∙ ap (λ l. l ++ c.args.front.now) c.new-line.ensures.items)
-    ∙ ap (λ b. c.args.front.now ++ b) c.broken_token-broken.ensures.bytes in
-    let own : (c.eq.result ≡ true) ↔ (statement (tokens c.deref.result.now) ≡ Err c.broken_token-broken.result.1) = search rules in
+    ∙ ap (λ l. l ++ c.broken_token.result.now) (c.in_ok-extend_from_slice.ensures.items ∙ ap (λ l. l ++ c.args.front.now) c.new-line.ensures.items)
+    ∙ ap (λ b. c.args.front.now ++ b) c.broken_token.ensures in
+    let own : (c.eq.result ≡ true) ↔ (statement (tokens c.deref.result.now) ≡ Err c.other_fault.result) = search rules in
     subst (λ l. (c.eq.result ≡ true) ↔ (statement (tokens l) ≡ Err (other_fault c.args.fault))) line
-    (subst (λ f. (c.eq.result ≡ true) ↔ (statement (tokens c.deref.result.now) ≡ Err f)) c.broken_token-broken.ensures.other own)
+    (subst (λ f. (c.eq.result ≡ true) ↔ (statement (tokens c.deref.result.now) ≡ Err f)) c.other_fault.ensures own)
