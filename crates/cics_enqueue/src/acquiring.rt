@@ -14,11 +14,10 @@ ghost use Rattle.cics_enqueue.specs.Order.{resource_of};
 ghost use Rattle.cics_enqueue.specs.Table.{resource_key, held_at, holder_of, holder_over, other_than};
 ghost use Rattle.cics_enqueue.specs.Table.{is_in_order, is_full, IsFreeFor, taken, given_back};
 
-use crate::Key;
 use crate::borrowed::ResourceRef;
 use crate::compact::{set_resource, set_value};
 use crate::enqueues::{Enqueues, Holding, TakeFault};
-use crate::owned;
+use crate::{Key, owned};
 use cics_history::{Resource, UnitId};
 use cics_names::NoMemory;
 use std::collections::BTreeMap;

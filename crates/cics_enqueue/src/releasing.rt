@@ -8,11 +8,10 @@ ghost use Rattle.cics_enqueue.specs.Kept.{Frees, IsKept, table_of, without_own};
 ghost use Rattle.cics_enqueue.specs.Order.{resource_of};
 ghost use Rattle.cics_enqueue.specs.Table.{given_back, released, resource_key};
 
-use crate::Key;
 use crate::borrowed::ResourceRef;
 use crate::compact::{compact, set_resource};
 use crate::enqueues::{Enqueues, Holding};
-use crate::owned;
+use crate::{Key, owned};
 use cics_history::{Resource, UnitId};
 use std::collections::BTreeMap;
 
