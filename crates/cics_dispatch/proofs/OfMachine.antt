@@ -38,3 +38,4 @@ pub mod FirstWaits
 pub mod Deadlines
 pub mod Blockers
 pub mod Stamps
+pub mod Draining

@@ -24,3 +24,4 @@ pub mod First
 pub mod Deadlines
 pub mod Blockers
 pub mod Stamps
+pub mod Events

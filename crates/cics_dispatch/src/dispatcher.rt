@@ -20,6 +20,7 @@ ghost use Rattle.std.specs.Prelude.{◌≡◌, ◌<◌, ◌≤◌, true, false, 
 ghost use Rattle.std.specs.Prelude.{slice_get};
 ghost use Rattle.std.specs.Prelude.{IfErr, IfSome, IfNone, Result, Ok, Err};
 ghost use Rattle.std.specs.Option.{option_copied};
+ghost use Rattle.cics_dispatch.specs.Machine.Events.{task_ended};
 ghost use Rattle.cics_dispatch.specs.Machine.Machine.{units_after, definition_of};
 ghost use Rattle.cics_dispatch.specs.Machine.Machine.{RegionValue, initial_region, task_at, abended};
 ghost use Rattle.cics_dispatch.specs.Machine.Machine.{is_waiting};
@@ -169,6 +170,16 @@ impl Dispatcher {
         ensures unit { OfTask self.now.machine.tasks at (λ t. result ≡ t.unit) }
     {
         self.tasks.get(at).unit()
+    }
+
+    /// Returns whether the task of a label has ended. `false` if no task has the label.
+    pub(crate) fn has_ended(&self, label: &Name8) -> bool
+        ensures { result ≡ task_ended self.now.machine label.now }
+    {
+        match self.find(label) {
+            Some(at) => self.tasks.get(at).has_ended(),
+            None => false,
+        }
     }
 
     /// Returns true only if a command releases nothing of its task's unit, unless the task is

@@ -3,7 +3,7 @@
 //! `cics_dispatch::machine` defines a region as a machine, and has the parts that it is made of. Each call of
 //! `Region` that changes it is one step. Read the modules in this order:
 //!
-//! - `regions`: the public calls.
+//! - `regions`, `playing`: the public calls.
 //! - `dispatcher`: the state of a region, and the step of each command.
 #![tactic(auto)]
 
@@ -12,8 +12,11 @@ mod dispatcher;
 pub mod future;
 pub mod machine;
 pub mod notes;
+mod playing;
 mod regions;
 
-pub use crate::machine::{Expired, Number, Outcome, Refused, Reply, Woken};
+pub use crate::machine::{
+    Event, Expired, Number, Outcome, Refused, Reply, Request, Subject, Woken,
+};
 pub use cics_names::{Command, Verb};
 pub use regions::Region;

@@ -5,6 +5,7 @@
 //! order:
 //!
 //! - `outcomes`: what the calls of a region return.
+//! - `events`: what a region is asked, and what it tells.
 //! - `checks`: the checks before a command looks at what other units own.
 //! - `updates`: the updating command (`Op`) that a task's command asks for, if it asks for one.
 //! - `reads`, `replies`: what a command is answered.
@@ -13,6 +14,7 @@
 
 mod browses;
 mod checks;
+mod events;
 mod findings;
 mod outcomes;
 mod reads;
@@ -24,6 +26,7 @@ mod waits;
 
 pub use browses::{Browses, Direction, Start, read_on};
 pub use checks::{file_fault, item_fault, value_fault};
+pub use events::{Event, Request, Subject};
 pub use findings::{Free, Late, Look};
 pub use outcomes::{Attempt, Ending, Expired, Number, Outcome, Refused, Reply, Woken};
 pub use reads::{plain_reply, read_plain};

@@ -17,6 +17,7 @@ ghost use Rattle.cics_dispatch.specs.Machine.Answers.{IsHeadlineRegion, IsSerial
 ghost use Rattle.cics_dispatch.specs.Machine.Answers.{region_listing, replayed_listing};
 ghost use Rattle.cics_dispatch.specs.Machine.Settled.{goes_on};
 ghost use Rattle.std.specs.Option.{option_copied};
+ghost use Rattle.cics_dispatch.specs.Machine.Events.{task_ended};
 ghost use Rattle.cics_dispatch.specs.Machine.Blockers.{unit_of, blocker_of, label_at, number_of};
 ghost use Rattle.cics_dispatch.specs.Machine.Blockers.{waiting_command};
 ghost use Rattle.cics_dispatch.specs.declared.machine.outcomes.Refused.TheVariants.{RegionDown};
@@ -327,6 +328,13 @@ impl Region {
         ensures serializable { IsSerializableRegion self.now }
     {
         self.dispatcher.waiting_command(label)
+    }
+
+    /// Returns whether the task of a label has ended. `false` if no task has the label.
+    pub fn has_ended(&self, label: &Name8) -> bool
+        ensures ended { result ≡ task_ended self.now.machine label.now }
+    {
+        self.dispatcher.has_ended(label)
     }
 
     /// Returns how many tasks were attached, those that have ended included.
