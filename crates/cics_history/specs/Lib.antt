@@ -18,5 +18,6 @@ pub mod Carried
 pub mod Ends
 pub mod InPlace
 pub mod Records
+pub mod Borrowed
 pub mod Packed
 pub mod Stamps

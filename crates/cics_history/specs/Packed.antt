@@ -1,8 +1,13 @@
--- How an entry of the history is packed: its kind with the name, one text, and one number.
-use Rattle.std.specs.Prelude.{◌≡◌, ℕ, ◌+◌, ◌≤◌, Option, None, IfSome, length, take, drop}
+-- How an entry of the history lies in memory: packed, or apart as it was given. A packed one has its
+-- kind with the name, one text, and one number.
+use Rattle.std.specs.Prelude.{◌≡◌, ℕ, ◌+◌, ◌≤◌, Option, None, Some, IfSome, length, take, drop}
+use Rattle.std.specs.Bool.{then_some}
 use Rattle.cics_names.specs.Keyed.{Bytes}
-use Rattle.cics_history.specs.declared.ops.Kind.{Kind}
-use Rattle.cics_history.specs.declared.ops.Kind.TheVariants as kind
+use Rattle.cics_history.specs.declared.packing.Form.{Form}
+use Rattle.cics_history.specs.declared.packing.Form.TheVariants.{Packed, Apart}
+use Rattle.cics_history.specs.declared.packing.Kind.{Kind}
+use Rattle.cics_history.specs.declared.packing.Kind.TheVariants as kind
+use Rattle.cics_history.specs.declared.ops.Answer.{Answer}
 use Rattle.cics_history.specs.declared.ops.Op.{Op}
 use Rattle.cics_history.specs.declared.ops.Op.TheVariants.{Write, Rewrite, Delete, DeleteGeneric, ReadUpdate, TsWrite, TsRewrite, TsDelete, TdWrite, TdRead, TdDelete}
 
@@ -20,6 +25,21 @@ op_of (kind.TdWrite q) key text n = TdWrite q text
 op_of (kind.TdRead q) key text n = TdRead q
 op_of (kind.TdDelete q) key text n = TdDelete q
 
+-- the command of an entry
+abbrev pub op_in : Form → Op
+op_in (Packed kind condition is_given is_numbered key_length number text) =
+    op_of kind (take key_length (drop number text)) text number
+op_in (Apart apart) = apart.value.op
+
+-- the answer of an entry
+abbrev pub answer_in : Form → Answer
+answer_in (Packed kind condition is_given is_numbered key_length number text) = record {
+  condition = condition;
+  content = then_some is_given text;
+  number = then_some is_numbered number;
+}
+answer_in (Apart apart) = apart.value.answer
+
 -- a key lies in a record: it is as many bytes of it, from some place on
 pub record LiesIn (key record_bytes : Bytes) : Type 0 where
   pub at : ℕ
@@ -35,3 +55,20 @@ IsPackable (ReadUpdate f k) content n = IfSome content (LiesIn k) × (n ≡ None
 IsPackable (TsRewrite q m d) content n = (content ≡ None) × IfSome n (λ x. m ≡ x)
 IsPackable (TdRead q) content n = Unit {0}
 IsPackable op content n = content ≡ None
+
+-- behind so many bytes of a record its key begins, which has at most 255
+abbrev pub IsAt : ℕ → (key record_bytes : Bytes) → Type 0
+IsAt n key record_bytes = (take (length key) (drop n record_bytes) ≡ key) × (length key ≤ 255)
+
+-- this number tells the place of the key or the item of a command, and no record of an answer stands
+-- beside the command's own text
+abbrev pub IsTold : Op → Option Bytes → ℕ → Type 0
+IsTold (Write f k r) content n = IsAt n k r × (content ≡ None)
+IsTold (Rewrite f k r) content n = IsAt n k r × (content ≡ None)
+IsTold (ReadUpdate f k) None n = IsAt n k k
+IsTold (ReadUpdate f k) (Some r) n = IsAt n k r
+IsTold (TsRewrite q m d) content n = (n ≡ m) × (content ≡ None)
+IsTold (TsDelete q) content n = Unit {0}
+IsTold (TdRead q) content n = Unit {0}
+IsTold (TdDelete q) content n = Unit {0}
+IsTold op content n = content ≡ None

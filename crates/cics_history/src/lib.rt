@@ -5,11 +5,14 @@
 //! the crate above has the units of work that execute commands.
 #![tactic(auto)]
 
+mod borrowed;
 pub mod laws;
 mod ops;
+mod packing;
 mod resources;
 mod stamping;
 
+pub use borrowed::OpRef;
 pub use ops::{Answer, Done, Enqueued, Entry, Op, UnitState};
 pub use resources::{Resource, UnitId};
 pub use stamping::stamp_op;

@@ -2,15 +2,19 @@
 //!
 //! Definitions see a name, a key and a record as their bytes, and a unit as its number.
 
-ghost use Rattle.std.specs.Prelude.{◌≡◌, ◌≤◌, IfOk, IfSome, is_some, length, take, drop};
+ghost use Rattle.std.specs.Prelude.{◌≡◌, ◌≤◌, IfOk, IsOk, IfSome, is_some, length, take, drop};
 ghost use Rattle.std.specs.Option.{option_copied};
+ghost use Rattle.cics_history.specs.Borrowed.{as_op};
 ghost use Rattle.cics_history.specs.Records.{is_file_op, file_of, key_of};
-ghost use Rattle.cics_history.specs.Packed.{IsPackable, LiesIn, op_of};
+ghost use Rattle.cics_history.specs.Packed.{IsPackable, IsTold, op_of};
 
+use crate::borrowed::OpRef;
+use crate::packing::{Form, Kind, or_empty};
 use crate::resources::UnitId;
 use cics_names::{Condition, Name4, Name8, NoMemory, Record};
 use std::alloc::Global;
 use std::marker::Model;
+use std::mem::size_of;
 
 /// An updating command. `from` has the bytes of a record or an item. `key` is the record's key.
 pub enum Op {
@@ -175,6 +179,39 @@ impl Op {
             Op::TdDelete { queue } => Op::TdDelete { queue: *queue },
         })
     }
+
+    // Packs a command with the record of its answer: returns `kind`, `key_length` and `text`.
+    pub(crate) fn packed(
+        self,
+        alloc: Global,
+        content: Option<Record>,
+        number: u64,
+    ) -> (Kind, u8, Record)
+        requires { IsTold self content number }
+        ensures op { op_of result.0 (take result.1 (drop number result.2)) result.2 number ≡ self }
+        ensures content { IfSome content (λ given. result.2 ≡ given) }
+    {
+        match self {
+            Op::Write { file, key, from } => (Kind::Write(file), key.len() as u8, from),
+            Op::Rewrite { file, key, from } => (Kind::Rewrite(file), key.len() as u8, from),
+            Op::Delete { file, key } => (Kind::Delete(file), 0, key),
+            Op::DeleteGeneric { file, prefix } => (Kind::DeleteGeneric(file), 0, prefix),
+            Op::ReadUpdate { file, key } => {
+                let count = key.len() as u8;
+                (Kind::ReadUpdate(file), count, content.unwrap_or(key))
+            }
+            Op::TsWrite { queue, from } => (Kind::TsWrite(queue), 0, from),
+            Op::TsRewrite {
+                queue,
+                item: _item,
+                from,
+            } => (Kind::TsRewrite(queue), 0, from),
+            Op::TsDelete { queue } => (Kind::TsDelete(queue), 0, or_empty(alloc, content)),
+            Op::TdWrite { queue, from } => (Kind::TdWrite(queue), 0, from),
+            Op::TdRead { queue } => (Kind::TdRead(queue), 0, or_empty(alloc, content)),
+            Op::TdDelete { queue } => (Kind::TdDelete(queue), 0, or_empty(alloc, content)),
+        }
+    }
 }
 
 /// What an executed command is answered.
@@ -206,162 +243,48 @@ impl Answer {
     }
 }
 
-// What kind of command an entry has, with the file or queue that it names.
-#[derive(Clone, Copy)]
-enum Kind {
-    Write(Name8),
-    Rewrite(Name8),
-    Delete(Name8),
-    DeleteGeneric(Name8),
-    ReadUpdate(Name8),
-    TsWrite(Name8),
-    TsRewrite(Name8),
-    TsDelete(Name8),
-    TdWrite(Name4),
-    TdRead(Name4),
-    TdDelete(Name4),
-}
-
 /// A command that was executed: its unit, what it asked for, and what it was answered.
 ///
-/// Contracts see these three. A history is long, so an entry is packed. It has one text: a key that
-/// lies in a record isn't kept beside it.
+/// Contracts see these three. A history is long, so an entry is packed if its command and its answer
+/// fit: it has one text, and a key that lies in a record isn't kept beside it.
 #[derive(Drop)]
 pub struct Entry {
     unit: UnitId,
-    kind: Kind,
-    condition: Condition,
-    // Whether the text is the record of the answer.
-    is_given: bool,
-    // Whether the number is the answer's.
-    is_numbered: bool,
-    // How many bytes of the text are the key, if they are in a record.
-    key_length: u8,
-    // How many bytes of a record stand before its key, or else the number of an item or an answer.
-    number: u64,
-    // The record of the command or of its answer. Without one, the key if there is one.
-    text: Record,
+    form: Form,
 }
 
 impl Model for Entry {
-    ghost use Rattle.std.specs.Prelude.{take, drop};
-    ghost use Rattle.std.specs.Bool.{then_some};
     ghost use Rattle.cics_history.specs.State.{EntryValue};
 
     ghost Value = { EntryValue };
 
-    ghost use Rattle.cics_history.specs.Packed.{op_of};
+    ghost use Rattle.cics_history.specs.Packed.{op_in, answer_in};
 
-    ghost view = { λ e. record {
-      unit = e.unit;
-      op = op_of e.kind (take e.key_length (drop e.number e.text)) e.text e.number;
-      answer = record {
-        condition = e.condition;
-        content = then_some e.is_given e.text;
-        number = then_some e.is_numbered e.number;
-      };
-    } };
+    ghost view = { λ e. record { unit = e.unit; op = op_in e.form; answer = answer_in e.form } };
 }
 
-// Returns how many bytes stand before a key in a record in which it lies.
-fn place_in(key: &[u8], text: &[u8]) -> usize
-    requires { LiesIn key.now text.now }
-    ensures { take (length key.now) (drop result text.now) ≡ key.now }
-{
-    let last = text.len() - key.len();
-    for at in 0..last {
-        if &text[at..at + key.len()] == key {
-            return at;
-        }
-    }
-    last
-}
-
-// Returns a record, or one of no bytes if there is none.
-fn or_empty(alloc: Global, content: Option<Record>) -> Record
-    ensures { IfSome content (λ given. result ≡ given) }
-{
-    match content {
-        Some(given) => given,
-        None => Record::new(Vec::new(alloc)),
-    }
-}
-
-// Copies `count` bytes behind the first `at`, or as many as there are.
-fn part_of(text: &Record, at: u64, count: u8) -> Result<Record, NoMemory>
-    ensures { IfOk result (λ part. part ≡ take count (drop at text.now)) }
-{
-    let start = (at as usize).min(text.len());
-    text.part(start, usize::from(count).min(text.len() - start))
-}
-
-// What an entry keeps of a command: `kind`, `key_length`, `number` and `text`.
-type Packed = (Kind, u8, u64, Record);
-
-impl Op {
-    // Packs a command with the record and the number of its answer.
-    fn packed(self, alloc: Global, content: Option<Record>, number: Option<u64>) -> Packed
-        requires packable { IsPackable self content number }
-        requires short { length (key_of self) ≤ 255 }
-        ensures op { op_of result.0 (take result.1 (drop result.2 result.3)) result.3 result.2
-            ≡ self }
-        ensures content { IfSome content (λ given. result.3 ≡ given) }
-        ensures number { IfSome number (λ n. result.2 ≡ n) }
-    {
-        let count = number.unwrap_or(0);
-        match self {
-            Op::Write { file, key, from } => {
-                let at = place_in(key.bytes(), from.bytes());
-                (Kind::Write(file), key.len() as u8, at as u64, from)
-            }
-            Op::Rewrite { file, key, from } => {
-                let at = place_in(key.bytes(), from.bytes());
-                (Kind::Rewrite(file), key.len() as u8, at as u64, from)
-            }
-            Op::Delete { file, key } => (Kind::Delete(file), 0, count, key),
-            Op::DeleteGeneric { file, prefix } => (Kind::DeleteGeneric(file), 0, count, prefix),
-            Op::ReadUpdate { file, key } => match content {
-                Some(given) => {
-                    let at = place_in(key.bytes(), given.bytes());
-                    (Kind::ReadUpdate(file), key.len() as u8, at as u64, given)
-                }
-                None => (Kind::ReadUpdate(file), key.len() as u8, 0, key),
-            },
-            Op::TsWrite { queue, from } => (Kind::TsWrite(queue), 0, count, from),
-            Op::TsRewrite { queue, item, from } => (Kind::TsRewrite(queue), 0, item, from),
-            Op::TsDelete { queue } => (Kind::TsDelete(queue), 0, count, or_empty(alloc, content)),
-            Op::TdWrite { queue, from } => (Kind::TdWrite(queue), 0, count, from),
-            Op::TdRead { queue } => (Kind::TdRead(queue), 0, count, or_empty(alloc, content)),
-            Op::TdDelete { queue } => (Kind::TdDelete(queue), 0, count, or_empty(alloc, content)),
-        }
-    }
-}
+// A history is long.
+const _: () = prove!(size_of::<Entry>() == 64);
 
 impl Entry {
-    /// Returns the entry of a command and its answer. It takes no memory: a record moves in.
+    /// Returns the entry of any command and any answer.
     ///
-    /// A key or a prefix has at most 255 bytes. A key beside a record must lie in it. Only READ
-    /// UPDATE and READQ TD may be answered with a record. WRITE, REWRITE and READ UPDATE may be
-    /// answered with no number, and a rewrite of an item with none but the item's.
+    /// Those of a region take no memory: a record moves in (`packed`). A key beside a record lies in
+    /// it, and a key or a prefix has at most 255 bytes. Only READ UPDATE and READQ TD are answered
+    /// with a record. WRITE, REWRITE and READ UPDATE are answered with no number, and a rewrite of
+    /// an item with none but the item's. Any others are boxed.
+    ///
+    /// Errors: `NoMemory` if the memory for the box is refused.
     ///
     /// Cost: O(k * p), for a key of k bytes behind p bytes of its record.
-    pub fn pack(alloc: Global, unit: UnitId, op: Op, answer: Answer) -> Entry
-        requires packable { IsPackable op answer.content answer.number }
-        requires short { length (key_of op) ≤ 255 }
-        ensures { result ≡ record { unit = unit; op = op; answer = answer } }
+    pub fn new(alloc: Global, unit: UnitId, op: Op, answer: Answer) -> Result<Entry, NoMemory>
+        ensures entry { IfOk result (λ entry. entry
+            ≡ record { unit = unit; op = op; answer = answer }) }
+        ensures packed { IsPackable op answer.content answer.number → length (key_of op) ≤ 255 →
+            IsOk result }
     {
-        let (is_given, is_numbered) = (answer.content.is_some(), answer.number.is_some());
-        let (kind, key_length, number, text) = op.packed(alloc, answer.content, answer.number);
-        Entry {
-            unit,
-            kind,
-            condition: answer.condition,
-            is_given,
-            is_numbered,
-            key_length,
-            number,
-            text,
-        }
+        let form = Form::new(alloc, op, answer)?;
+        Ok(Entry { unit, form })
     }
 
     /// Returns the unit that executed the command.
@@ -371,47 +294,30 @@ impl Entry {
         self.unit
     }
 
-    /// Returns what the command asked for.
-    ///
-    /// Errors: `NoMemory` if the memory for copies of its key and record is refused.
-    ///
-    /// Cost: O(bytes of its key and record).
-    pub fn op(&self) -> Result<Op, NoMemory>
-        ensures { IfOk result (λ op. op ≡ self.now.op) }
+    /// Returns what the command asked for, its bytes borrowed. It takes no memory.
+    pub fn op(&self) -> OpRef<'_>
+        ensures { as_op result ≡ self.now.op }
     {
-        let item = self.number;
-        let key = part_of(&self.text, self.number, self.key_length)?;
-        let from = self.text.copy()?;
-        Ok(match self.kind {
-            Kind::Write(file) => Op::Write { file, key, from },
-            Kind::Rewrite(file) => Op::Rewrite { file, key, from },
-            Kind::Delete(file) => Op::Delete { file, key: from },
-            Kind::DeleteGeneric(file) => Op::DeleteGeneric { file, prefix: from },
-            Kind::ReadUpdate(file) => Op::ReadUpdate { file, key },
-            Kind::TsWrite(queue) => Op::TsWrite { queue, from },
-            Kind::TsRewrite(queue) => Op::TsRewrite { queue, item, from },
-            Kind::TsDelete(queue) => Op::TsDelete { queue },
-            Kind::TdWrite(queue) => Op::TdWrite { queue, from },
-            Kind::TdRead(queue) => Op::TdRead { queue },
-            Kind::TdDelete(queue) => Op::TdDelete { queue },
-        })
+        self.form.op()
     }
 
     /// Returns the condition that the command was answered with.
     pub fn condition(&self) -> Condition
         ensures { result ≡ self.now.answer.condition }
     {
-        self.condition
+        match &self.form {
+            Form::Packed { condition, .. } => *condition,
+            Form::Apart(apart) => apart.answer.condition,
+        }
     }
 
     /// Returns the record of the answer, if it has one.
     pub fn content(&self) -> Option<&Record>
         ensures { option_copied result ≡ self.now.answer.content }
     {
-        if self.is_given {
-            Some(&self.text)
-        } else {
-            None
+        match &self.form {
+            Form::Packed { is_given, text, .. } => is_given.then_some(text),
+            Form::Apart(apart) => apart.answer.content.as_ref(),
         }
     }
 
@@ -419,7 +325,14 @@ impl Entry {
     pub fn number(&self) -> Option<u64>
         ensures { result ≡ self.now.answer.number }
     {
-        self.is_numbered.then_some(self.number)
+        match &self.form {
+            Form::Packed {
+                is_numbered,
+                number,
+                ..
+            } => is_numbered.then_some(*number),
+            Form::Apart(apart) => apart.answer.number,
+        }
     }
 }
 

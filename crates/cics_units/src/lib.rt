@@ -24,5 +24,5 @@ mod uses;
 
 pub use crate::opening::{DefineFault, Opening};
 pub use crate::replay::{Listing, TaskState, plain_replay};
-pub use cics_history::{Answer, Done, Enqueued, Entry, Op, UnitState};
+pub use cics_history::{Answer, Done, Enqueued, Entry, Op, OpRef, UnitState};
 pub use units::{Submitted, Units};

@@ -31,7 +31,7 @@ fn stamp_entry(
     if !is_normal_of(entry, unit) {
         return Ok(());
     }
-    let op = entry.op()?;
+    let op = entry.op();
     if !opening.is_recoverable(&op) {
         return Ok(());
     }

@@ -282,7 +282,9 @@ impl Units {
             content,
             number: answer.number,
         };
-        let entry = Entry::pack(self.alloc, acting, op, noted);
+        let Ok(entry) = Entry::new(self.alloc, acting, op, noted) else {
+            unreachable!()
+        };
         begin(&mut self.outcomes, begins);
         self.trace.push_reserved(entry);
         Ok(Submitted::Answered(acting, answer))

@@ -4,7 +4,7 @@ use cics_history::UnitId;
 use cics_names::NoMemory;
 use cics_run::listing::push_listing;
 use cics_script::spelling::{push_number, push_str, push_text};
-use cics_units::{Entry, Listing, Op, UnitState, Units};
+use cics_units::{Entry, Listing, OpRef, UnitState, Units};
 
 /// Appends a listing. It takes the result of the call: so the caller drops no listing.
 pub(crate) fn push_listed(
@@ -15,23 +15,25 @@ pub(crate) fn push_listed(
 }
 
 // Puts at the end what a command names.
-fn push_op(out: &mut Vec<u8>, op: &Op) -> Result<(), NoMemory> {
-    if let Some((_, key)) = op.record() {
-        push_text(out, key.bytes())?;
-    }
+fn push_op(out: &mut Vec<u8>, op: &OpRef<'_>) -> Result<(), NoMemory> {
     match op {
-        Op::Write { from, .. }
-        | Op::Rewrite { from, .. }
-        | Op::TsWrite { from, .. }
-        | Op::TsRewrite { from, .. }
-        | Op::TdWrite { from, .. } => push_text(out, from.bytes()),
+        OpRef::Write(_, key, from) | OpRef::Rewrite(_, key, from) => {
+            push_text(out, key)?;
+            push_text(out, from)
+        }
+        OpRef::Delete(_, text)
+        | OpRef::DeleteGeneric(_, text)
+        | OpRef::ReadUpdate(_, text)
+        | OpRef::TsWrite(_, text)
+        | OpRef::TsRewrite(_, _, text)
+        | OpRef::TdWrite(_, text) => push_text(out, text),
         _ => Ok(()),
     }
 }
 
 // Puts an executed command at the end: what it names, its unit, and its answer.
 fn push_entry(out: &mut Vec<u8>, entry: &Entry) -> Result<(), NoMemory> {
-    push_op(out, &entry.op()?)?;
+    push_op(out, &entry.op())?;
     push_number(out, entry.unit().number())?;
     push_str(out, entry.condition().name())?;
     push_number(out, entry.number().unwrap_or(0))?;

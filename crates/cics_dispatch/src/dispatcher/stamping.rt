@@ -10,7 +10,7 @@ use crate::dispatcher::Dispatcher;
 use crate::machine::{Suspended, Task, Tasks, Waits};
 use cics_history::{UnitId, stamp_op};
 use cics_names::{NoMemory, stamp_flag, stamp_number, stamp_text};
-use cics_units::{Op, Units};
+use cics_units::{Op, OpRef, Units};
 
 // Appends the stamp of a task's unit, if it has one.
 fn stamp_unit(units: &Units, unit: Option<UnitId>, out: &mut Vec<u8>) -> Result<(), NoMemory>
@@ -58,7 +58,7 @@ fn stamp_asked(op: Option<&Op>, out: &mut Vec<u8>) -> Result<(), NoMemory>
         return stamp_number(out, 0);
     };
     stamp_number(out, 1)?;
-    stamp_op(op, out)
+    stamp_op(&OpRef::of(op), out)
 }
 
 // Appends the stamp of a waiting command.

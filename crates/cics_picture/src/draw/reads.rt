@@ -3,6 +3,7 @@
 ghost use Rattle.std.specs.Prelude.{◌≡◌, ◌≤◌, IsTrue, IfOk, IfSome, Ok, None, Some, length};
 ghost use Rattle.std.specs.List.{list_any};
 ghost use Rattle.cics_dispatch.specs.Notes.Notes.{is_unit};
+ghost use Rattle.cics_history.specs.Borrowed.{as_op};
 ghost use Rattle.cics_history.specs.Execution.{is_ready_op};
 ghost use Rattle.cics_picture.specs.Lanes.{most_lanes};
 ghost use Rattle.cics_picture.specs.Draw.Reads.{has_data, ridfld_of, ridfld_in, key_literal};
@@ -11,10 +12,10 @@ ghost use Rattle.cics_picture.specs.Draw.Reads.{record_of, shown_by, changes_rec
 ghost use Rattle.cics_picture.specs.Draw.Reads.{changed, changer, shown_of, shown_at};
 ghost use Rattle.cics_picture.specs.Draw.Reads.{lane_with, with_shown};
 
-use crate::draw::standings::{is_change, is_same, unit_of};
+use crate::draw::standings::{is_same, unit_of};
 use crate::{Standing, behind_word, first_word};
 use cics_dispatch::Region;
-use cics_history::{Entry, Op};
+use cics_history::{Entry, Op, OpRef};
 use cics_names::{Condition, Items, Name8, NoMemory, Record, Verb};
 use cics_run::stage::Stage;
 use cics_script::spelling::push_str;
@@ -130,12 +131,15 @@ fn shown_by(units: &Units, verb: &Verb, told: &[u8]) -> Result<Option<Op>, NoMem
 }
 
 // Returns whether a command changed the record of a key.
-fn changes_record(file: &Name8, key: &Record, op: &Op) -> bool
-    ensures { result ≡ changes_record file.now key.now op.now }
+fn changes_record(file: &Name8, key: &Record, op: &OpRef<'_>) -> bool
+    ensures { result ≡ changes_record file.now key.now (as_op op.now) }
 {
-    match op.record() {
-        Some((other, own)) => is_change(op) && is_same(other, file) && own.bytes() == key.bytes(),
-        None => false,
+    match op {
+        OpRef::Write(other, own, _)
+        | OpRef::Rewrite(other, own, _)
+        | OpRef::Delete(other, own)
+        | OpRef::DeleteGeneric(other, own) => is_same(other, file) && *own == key.bytes(),
+        _ => false,
     }
 }
 
@@ -150,69 +154,60 @@ fn is_number(number: Option<u64>, wanted: u64) -> bool
 }
 
 // Returns whether a command wrote the item of a number. `answered` is the number of its answer.
-fn writes_item(queue: &Name8, number: u64, op: &Op, answered: Option<u64>) -> bool
-    ensures { result ≡ writes_item queue.now number op.now answered }
+fn writes_item(queue: &Name8, number: u64, op: &OpRef<'_>, answered: Option<u64>) -> bool
+    ensures { result ≡ writes_item queue.now number (as_op op.now) answered }
 {
     match op {
-        Op::TsWrite { queue: other, .. } => is_same(other, queue) && is_number(answered, number),
-        Op::TsRewrite {
-            queue: other,
-            item,
-            ..
-        } => is_same(other, queue) && *item == number,
+        OpRef::TsWrite(other, _) => is_same(other, queue) && is_number(answered, number),
+        OpRef::TsRewrite(other, item, _) => is_same(other, queue) && *item == number,
         _ => false,
     }
 }
 
 // Returns whether an entry changed what is shown: the record, or the item of the queue that was
 // read last.
-fn changes(units: &Units, shown: &Op, entry: &Entry) -> Result<bool, NoMemory>
-    ensures { IfOk result (λ yes. yes ≡ changes units.now.state shown.now entry.now) }
+fn changes(units: &Units, shown: &Op, entry: &Entry) -> bool
+    ensures { result ≡ changes units.now.state shown.now entry.now }
 {
-    let op = entry.op()?;
-    Ok(match shown {
-        Op::Delete { file, key } => changes_record(file, key, &op),
+    match shown {
+        Op::Delete { file, key } => changes_record(file, key, &entry.op()),
         Op::TsDelete { queue } => {
             let number = u64::from(units.next_place(queue));
-            writes_item(queue, number, &op, entry.number())
+            writes_item(queue, number, &entry.op(), entry.number())
         }
         _ => false,
-    })
+    }
 }
 
 // Returns whether a unit changed what is shown.
-fn is_changed(units: &Units, unit: u64, shown: &Op) -> Result<bool, NoMemory>
-    ensures { IfOk result (λ yes. yes
-        ≡ list_any (changed units.now.state unit shown.now) units.now.state.trace) }
+fn is_changed(units: &Units, unit: u64, shown: &Op) -> bool
+    ensures { result ≡ list_any (changed units.now.state unit shown.now) units.now.state.trace }
 {
     for entry in units.trace() {
         if entry.unit().number() == unit
             && entry.condition() == Condition::Normal
-            && changes(units, shown, entry)?
+            && changes(units, shown, entry)
         {
-            return Ok(true);
+            return true;
         }
     }
-    Ok(false)
+    false
 }
 
 // Returns the open unit, other than the reader's own, that last changed what is shown, if that is
 // recoverable. This unit holds what is shown, so no other one has changed it since.
-fn changer(units: &Units, own: Option<u64>, shown: &Op) -> Result<Option<u64>, NoMemory>
+fn changer(units: &Units, own: Option<u64>, shown: &Op) -> Option<u64>
     requires { IsTrue (is_ready_op units.now.state None shown.now) }
-    ensures { IfOk result (λ unit. unit ≡ changer units.now.state own (Some shown.now)) }
+    ensures { result ≡ changer units.now.state own (Some shown.now) }
 {
-    if !units.opening().is_recoverable(shown) {
-        return Ok(None);
+    if !units.opening().is_recoverable(&OpRef::of(shown)) {
+        return None;
     }
-    let Some(unit) = units.awaited(None, shown) else {
-        return Ok(None);
-    };
-    let unit = unit.number();
-    if is_number(own, unit) || !is_changed(units, unit, shown)? {
-        Ok(None)
+    let unit = units.awaited(None, shown)?.number();
+    if is_number(own, unit) || !is_changed(units, unit, shown) {
+        None
     } else {
-        Ok(Some(unit))
+        Some(unit)
     }
 }
 
@@ -232,7 +227,7 @@ fn shown_of(
     let Some(shown) = shown_by(region.units(), verb, told)? else {
         return Ok(None);
     };
-    match changer(region.units(), unit_of(region, label), &shown)? {
+    match changer(region.units(), unit_of(region, label), &shown) {
         Some(unit) => Ok(Some((number, unit))),
         None => Ok(None),
     }

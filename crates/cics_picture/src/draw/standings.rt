@@ -5,6 +5,7 @@ ghost use Rattle.std.specs.List.{list_any};
 ghost use Rattle.cics_names.specs.Keyed.{Bytes, is_same, is_key_in};
 ghost use Rattle.cics_dispatch.specs.Machine.Machine.{Machine};
 ghost use Rattle.cics_dispatch.specs.Machine.Blockers.{label_at, unit_of};
+ghost use Rattle.cics_history.specs.Borrowed.{as_op};
 ghost use Rattle.cics_picture.specs.Lanes.{most_lanes};
 ghost use Rattle.cics_picture.specs.Draw.Standings.{shown_deadlocks, standing_at, standings_of};
 ghost use Rattle.cics_picture.specs.Draw.Standings.{is_change, stays, any_stays, marked_at, entries_at};
@@ -14,7 +15,7 @@ ghost use Rattle.cics_picture.specs.Draw.Standings.{IsInDeadlock};
 use crate::{Look, MOST_LANES, NOBODY, Standing};
 use cics_dispatch::Region;
 use cics_dispatch::deadlocks::deadlocks;
-use cics_history::{Entry, Op, UnitState};
+use cics_history::{Entry, OpRef, UnitState};
 use cics_names::{Condition, Items, Name8, NoMemory};
 use cics_run::stage::Stage;
 use cics_units::Opening;
@@ -96,39 +97,39 @@ fn standing_at(region: &Region, deadlocks: &[Items<Name8>], number: usize) -> St
     }
 }
 
-/// Returns whether a command is one that changes something: READ UPDATE alone is none.
-pub fn is_change(op: &Op) -> bool
-    ensures { result ≡ is_change op.now }
+// Returns whether a command is one that changes something: READ UPDATE alone is none.
+fn is_change(op: &OpRef<'_>) -> bool
+    ensures { result ≡ is_change (as_op op.now) }
 {
-    !matches!(op, Op::ReadUpdate { .. })
+    !matches!(op, OpRef::ReadUpdate(_, _))
 }
 
 // Returns whether a unit changed something unrecoverable by an entry: no backout undoes that.
-fn stays(opening: &Opening, unit: u64, entry: &Entry) -> Result<bool, NoMemory>
-    ensures { IfOk result (λ yes. yes ≡ stays opening.now unit entry.now) }
+fn stays(opening: &Opening, unit: u64, entry: &Entry) -> bool
+    ensures { result ≡ stays opening.now unit entry.now }
 {
     if entry.unit().number() != unit || entry.condition() != Condition::Normal {
-        return Ok(false);
+        return false;
     }
-    let op = entry.op()?;
-    Ok(is_change(&op) && !opening.is_recoverable(&op))
+    let op = entry.op();
+    is_change(&op) && !opening.is_recoverable(&op)
 }
 
 // Returns whether a unit made a change that stays by one of these entries.
-fn is_in_any(opening: &Opening, unit: u64, entries: &[Entry]) -> Result<bool, NoMemory>
-    ensures { IfOk result (λ yes. yes ≡ list_any (stays opening.now unit) entries.now) }
+fn is_in_any(opening: &Opening, unit: u64, entries: &[Entry]) -> bool
+    ensures { result ≡ list_any (stays opening.now unit) entries.now }
 {
     for entry in entries {
-        if stays(opening, unit, entry)? {
-            return Ok(true);
+        if stays(opening, unit, entry) {
+            return true;
         }
     }
-    Ok(false)
+    false
 }
 
 // Returns whether a unit made a change that stays after the first `before` entries of the history.
-fn any_stays(region: &Region, before: usize, unit: Option<u64>) -> Result<bool, NoMemory>
-    ensures { IfOk result (λ yes. yes ≡ any_stays before region.now.machine unit) }
+fn any_stays(region: &Region, before: usize, unit: Option<u64>) -> bool
+    ensures { result ≡ any_stays before region.now.machine unit }
 {
     let units = region.units();
     match unit {
@@ -139,28 +140,22 @@ fn any_stays(region: &Region, before: usize, unit: Option<u64>) -> Result<bool, 
                 units.trace().get(before..).unwrap_or(&[]),
             )
         }
-        None => Ok(false),
+        None => false,
     }
 }
 
 // Returns how the task of a number stands after a line, before which the history had `before`
 // entries.
-fn marked_at(
-    region: &Region,
-    deadlocks: &[Items<Name8>],
-    before: usize,
-    number: usize,
-) -> Result<Standing, NoMemory>
-    ensures { IfOk result (λ standing. standing
-        ≡ marked_at before region.now.machine deadlocks.now number) }
+fn marked_at(region: &Region, deadlocks: &[Items<Name8>], before: usize, number: usize) -> Standing
+    ensures { result ≡ marked_at before region.now.machine deadlocks.now number }
 {
     let standing = standing_at(region, deadlocks, number);
-    Ok(Standing {
+    Standing {
         unit: standing.unit,
         is_deadlocked: standing.is_deadlocked,
-        stays: any_stays(region, before, standing.unit)?,
+        stays: any_stays(region, before, standing.unit),
         shows: None,
-    })
+    }
 }
 
 // Returns how the tasks that have lanes stand.
@@ -172,7 +167,7 @@ fn standings_of(alloc: Global, before: usize, region: &Region) -> Result<Items<S
     let deadlocks = shown_deadlocks(alloc, region)?;
     let mut standings = Items::new(alloc);
     for number in 0..MOST_LANES {
-        standings.push(marked_at(region, deadlocks.as_slice(), before, number)?)?;
+        standings.push(marked_at(region, deadlocks.as_slice(), before, number))?;
     }
     Ok(standings)
 }

@@ -1,6 +1,7 @@
 //! What units of work did, as command lines of a task for each of them.
 
 ghost use Rattle.std.specs.Prelude.{◌≡◌, ◌++◌, ◌<◌, ◌&&◌, ℕ, OnOk, IfOk, length};
+ghost use Rattle.cics_history.specs.Borrowed.{as_op};
 ghost use Rattle.cics_history.specs.Store.{is_normal, is_recoverable};
 ghost use Rattle.cics_run.specs.Listing.Serial.{unit_label, unit_command_line, verb_for};
 ghost use Rattle.cics_run.specs.Listing.Serial.{done_lines, unlock_line};
@@ -9,7 +10,7 @@ ghost use Rattle.cics_run.specs.Listing.UnitLines.{lines_at, lines_added};
 use cics_history::UnitId;
 use cics_names::{Command, Condition, Name8, NoMemory, Record, Verb};
 use cics_script::spelling::{push_number, push_str, write_out};
-use cics_units::{Entry, Op, Opening};
+use cics_units::{Entry, OpRef, Opening};
 use std::alloc::Global;
 
 /// Returns the lines of what each unit did to recoverable files and queues, in its order. There is
@@ -36,7 +37,7 @@ fn gather(
     ensures { OnOk result ((unit : ℕ) → lines_at rows.new.items unit
         ≡ lines_at rows.old.items unit ++ lines_added opening.now entry.now unit) }
 {
-    let op = entry.op()?;
+    let op = entry.op();
     if !is_done(opening, entry.condition(), &op) {
         return Ok(());
     }
@@ -48,8 +49,8 @@ fn gather(
 }
 
 // Returns whether a command was answered NORMAL, on a recoverable file or queue.
-fn is_done(opening: &Opening, condition: Condition, op: &Op) -> bool
-    ensures { result ≡ (is_normal condition && is_recoverable opening.now op.now) }
+fn is_done(opening: &Opening, condition: Condition, op: &OpRef<'_>) -> bool
+    ensures { result ≡ (is_normal condition && is_recoverable opening.now (as_op op.now)) }
 {
     condition == Condition::Normal && opening.is_recoverable(op)
 }
@@ -67,20 +68,21 @@ fn grow(rows: &mut Vec<Vec<u8>>, alloc: Global, last: usize) -> Result<(), NoMem
 }
 
 // Appends the lines of a command of a unit.
-fn push_entry(out: &mut Vec<u8>, unit: UnitId, op: &Op) -> Result<(), NoMemory>
-    ensures { OnOk result (out.new.items
-        ≡ out.old.items ++ (unlock_line unit op.now ++ unit_command_line unit (verb_for op.now))) }
+fn push_entry(out: &mut Vec<u8>, unit: UnitId, op: &OpRef<'_>) -> Result<(), NoMemory>
+    ensures { OnOk result (out.new.items ≡ out.old.items ++ (unlock_line unit (as_op op.now)
+        ++ unit_command_line unit (verb_for (as_op op.now)))) }
 {
     push_unlock(out, unit, op)?;
-    push_command(out, unit, verb_for(op)?)
+    let verb = verb_for(*out.allocator(), op)?;
+    push_command(out, unit, verb)
 }
 
 // Appends an UNLOCK before a READ UPDATE, since an update read of the file may be open.
-fn push_unlock(out: &mut Vec<u8>, unit: UnitId, op: &Op) -> Result<(), NoMemory>
-    ensures { OnOk result (out.new.items ≡ out.old.items ++ unlock_line unit op.now) }
+fn push_unlock(out: &mut Vec<u8>, unit: UnitId, op: &OpRef<'_>) -> Result<(), NoMemory>
+    ensures { OnOk result (out.new.items ≡ out.old.items ++ unlock_line unit (as_op op.now)) }
 {
     match op {
-        Op::ReadUpdate { file, .. } => push_command(out, unit, Verb::Unlock { file: *file }),
+        OpRef::ReadUpdate(file, _) => push_command(out, unit, Verb::Unlock { file: *file }),
         _ => Ok(()),
     }
 }
@@ -129,46 +131,50 @@ fn ts_write_of(queue: Name8, from: Record, item: Option<u64>) -> Verb
 }
 
 // Returns the verb that asks for an updating command. It takes memory for copies of its records.
-fn verb_for(op: &Op) -> Result<Verb, NoMemory>
-    ensures { IfOk result (λ verb. verb ≡ verb_for op.now) }
+fn verb_for(alloc: Global, op: &OpRef<'_>) -> Result<Verb, NoMemory>
+    ensures { IfOk result (λ verb. verb ≡ verb_for (as_op op.now)) }
 {
     Ok(match op {
-        Op::Write { file, key, from } => Verb::Write {
+        OpRef::Write(file, key, from) => Verb::Write {
             file: *file,
-            ridfld: key.copy()?,
+            ridfld: Record::from_slice(alloc, key)?,
             key_length: None,
-            from: from.copy()?,
+            from: Record::from_slice(alloc, from)?,
             length: None,
         },
-        Op::Rewrite { file, from, .. } => Verb::Rewrite {
+        OpRef::Rewrite(file, _, from) => Verb::Rewrite {
             file: *file,
-            from: from.copy()?,
+            from: Record::from_slice(alloc, from)?,
             length: None,
         },
-        Op::Delete { file, key } => delete_of(*file, key.copy()?, false),
-        Op::DeleteGeneric { file, prefix } => delete_of(*file, prefix.copy()?, true),
-        Op::ReadUpdate { file, key } => Verb::Read {
+        OpRef::Delete(file, key) => delete_of(*file, Record::from_slice(alloc, key)?, false),
+        OpRef::DeleteGeneric(file, prefix) => {
+            delete_of(*file, Record::from_slice(alloc, prefix)?, true)
+        }
+        OpRef::ReadUpdate(file, key) => Verb::Read {
             file: *file,
-            ridfld: key.copy()?,
+            ridfld: Record::from_slice(alloc, key)?,
             key_length: None,
             length: None,
             generic: false,
             gteq: false,
             update: true,
         },
-        Op::TsWrite { queue, from } => ts_write_of(*queue, from.copy()?, None),
-        Op::TsRewrite { queue, item, from } => ts_write_of(*queue, from.copy()?, Some(*item)),
-        Op::TsDelete { queue } => Verb::DeleteqTs { queue: *queue },
-        Op::TdWrite { queue, from } => Verb::WriteqTd {
+        OpRef::TsWrite(queue, from) => ts_write_of(*queue, Record::from_slice(alloc, from)?, None),
+        OpRef::TsRewrite(queue, item, from) => {
+            ts_write_of(*queue, Record::from_slice(alloc, from)?, Some(*item))
+        }
+        OpRef::TsDelete(queue) => Verb::DeleteqTs { queue: *queue },
+        OpRef::TdWrite(queue, from) => Verb::WriteqTd {
             queue: *queue,
-            from: from.copy()?,
+            from: Record::from_slice(alloc, from)?,
             length: None,
         },
-        Op::TdRead { queue } => Verb::ReadqTd {
+        OpRef::TdRead(queue) => Verb::ReadqTd {
             queue: *queue,
             length: None,
             nosuspend: false,
         },
-        Op::TdDelete { queue } => Verb::DeleteqTd { queue: *queue },
+        OpRef::TdDelete(queue) => Verb::DeleteqTd { queue: *queue },
     })
 }

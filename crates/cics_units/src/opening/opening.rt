@@ -12,7 +12,7 @@ ghost use Rattle.cics_units.specs.Opening.RegionQueues.{loaded_with};
 use crate::opening::files::Files;
 use crate::opening::prefixes::{has_prefix_in, is_defined};
 use crate::opening::queues::Queues;
-use cics_history::Op;
+use cics_history::{Op, OpRef};
 use cics_ksds::{File, FileDef};
 use cics_names::{Items, Name4, Name8, NoMemory, Record};
 use cics_transdata::{Recovery, TransQueue};
@@ -148,6 +148,7 @@ impl Opening {
     ghost use Rattle.cics_history.specs.Openings.{initial_opening, with_file, with_record};
     ghost use Rattle.cics_history.specs.Openings.{with_prefix, with_queue, with_td_record};
     ghost use Rattle.cics_history.specs.Openings.{HasLawfulKeys, IsOpeningInOrder};
+    ghost use Rattle.cics_history.specs.Borrowed.{as_op};
     ghost use Rattle.cics_history.specs.Store.{is_recoverable};
     ghost use Rattle.cics_history.specs.State.{file_recoverable, has_prefix_in, queue_logical};
     ghost use Rattle.cics_units.specs.Opening.Faults.{AnswersFault, file_fault, load_fault};
@@ -379,21 +380,21 @@ impl Opening {
     }
 
     /// Returns whether a command acts on a recoverable file or queue.
-    pub fn is_recoverable(&self, op: &Op) -> bool
-        ensures { result ≡ is_recoverable self.now op.now }
+    pub fn is_recoverable(&self, op: &OpRef<'_>) -> bool
+        ensures { result ≡ is_recoverable self.now (as_op op.now) }
     {
         match op {
-            Op::Write { file, .. } => self.is_recoverable_file(file),
-            Op::Rewrite { file, .. } => self.is_recoverable_file(file),
-            Op::Delete { file, .. } => self.is_recoverable_file(file),
-            Op::DeleteGeneric { file, .. } => self.is_recoverable_file(file),
-            Op::ReadUpdate { file, .. } => self.is_recoverable_file(file),
-            Op::TsWrite { queue, .. } => self.is_recoverable_ts(queue),
-            Op::TsRewrite { queue, .. } => self.is_recoverable_ts(queue),
-            Op::TsDelete { queue } => self.is_recoverable_ts(queue),
-            Op::TdWrite { queue, .. } => self.is_logical_td(queue),
-            Op::TdRead { queue } => self.is_logical_td(queue),
-            Op::TdDelete { queue } => self.is_logical_td(queue),
+            OpRef::Write(file, _, _) => self.is_recoverable_file(file),
+            OpRef::Rewrite(file, _, _) => self.is_recoverable_file(file),
+            OpRef::Delete(file, _) => self.is_recoverable_file(file),
+            OpRef::DeleteGeneric(file, _) => self.is_recoverable_file(file),
+            OpRef::ReadUpdate(file, _) => self.is_recoverable_file(file),
+            OpRef::TsWrite(queue, _) => self.is_recoverable_ts(queue),
+            OpRef::TsRewrite(queue, _, _) => self.is_recoverable_ts(queue),
+            OpRef::TsDelete(queue) => self.is_recoverable_ts(queue),
+            OpRef::TdWrite(queue, _) => self.is_logical_td(queue),
+            OpRef::TdRead(queue) => self.is_logical_td(queue),
+            OpRef::TdDelete(queue) => self.is_logical_td(queue),
         }
     }
 

@@ -46,7 +46,7 @@ fn replay_entry(
         then (apply store.old entry.now.op).store
         else store.old)) }
 {
-    let op = entry.op()?;
+    let op = entry.op();
     if opening.is_recoverable(&op) && was_backed_out(outcomes, entry.unit()) {
         return Ok(());
     }
@@ -121,7 +121,7 @@ fn replay_committed_entry(
         then (apply store.old entry.now.op).store
         else store.old)) }
 {
-    let op = entry.op()?;
+    let op = entry.op();
     if opening.is_recoverable(&op) && !has_committed(outcomes, entry.unit()) {
         return Ok(());
     }

@@ -5,6 +5,7 @@ ghost use Rattle.cics_names.specs.Keyed.{value_at, with_value};
 ghost use Rattle.cics_names.specs.Stamps.{text_stamp, list_stamp};
 ghost use Rattle.cics_tempstor.specs.Queues.{has_item};
 ghost use Rattle.cics_units.specs.Replay.Listings.{listed_files, listed_ts, listed_td, listing_of};
+ghost use Rattle.cics_history.specs.Borrowed.{as_op};
 ghost use Rattle.cics_history.specs.State.{initial_store};
 ghost use Rattle.cics_history.specs.Stamps.{file_stamp, queue_stamp, store_stamp};
 ghost use Rattle.cics_history.specs.Store.{apply, apply_write, apply_rewrite, apply_delete};
@@ -16,7 +17,7 @@ use super::queues::PlainQueue;
 use super::records::PlainRecords;
 use crate::opening::Opening;
 use crate::replay::listings::Listing;
-use cics_history::Op;
+use cics_history::OpRef;
 use cics_names::{Items, Name4, Name8, NoMemory, Record, stamp_number, stamp_text};
 use cics_transdata::Recovery;
 use std::alloc::Global;
@@ -214,9 +215,9 @@ impl PlainStore {
     }
 
     /// Adds a record to a file, if the file is defined and the key has none: WRITE.
-    fn write(&mut self, file: &Name8, key: &Record, from: &Record) -> Result<(), NoMemory>
+    fn write(&mut self, file: &Name8, key: Record, from: Record) -> Result<(), NoMemory>
         ensures { OnOk result (self.new
-            ≡ (apply_write self.old file.now key.now from.now
+            ≡ (apply_write self.old file.now key from
             (value_at file.now self.old.files)).store) }
     {
         let Some(records) = self.files.get_mut(file) else {
@@ -226,15 +227,14 @@ impl PlainStore {
     }
 
     /// Replaces a record of a file, if it is there: REWRITE.
-    fn rewrite(&mut self, file: &Name8, key: &Record, from: &Record) -> Result<(), NoMemory>
-        ensures { OnOk result (self.new
-            ≡ (apply_rewrite self.old file.now key.now from.now
-            (value_at file.now self.old.files)).store) }
+    fn rewrite(&mut self, file: &Name8, key: &Record, from: Record)
+        ensures { self.new ≡ (apply_rewrite self.old file.now key.now from
+            (value_at file.now self.old.files)).store }
     {
         let Some(records) = self.files.get_mut(file) else {
-            return Ok(());
+            return;
         };
-        records.rewrite(key, from)
+        records.rewrite(key, from);
     }
 
     /// Removes a record from a file, if it is there: DELETE.
@@ -249,7 +249,7 @@ impl PlainStore {
     }
 
     /// Removes from a file each record whose key begins with a prefix: DELETE GENERIC.
-    fn delete_generic(&mut self, file: &Name8, prefix: &Record)
+    fn delete_generic(&mut self, file: &Name8, prefix: &[u8])
         ensures { self.new ≡ (apply_delete_generic self.old file.now prefix.now
             (value_at file.now self.old.files)).store }
     {
@@ -271,36 +271,32 @@ impl PlainStore {
 
     /// Adds an item as the last one, and makes the queue if it is absent: WRITEQ TS. A full queue
     /// stays as it is.
-    fn ts_write(&mut self, queue: &Name8, from: &Record) -> Result<(), NoMemory>
+    fn ts_write(&mut self, queue: &Name8, from: Record) -> Result<(), NoMemory>
         ensures { OnOk result (self.new
-            ≡ (apply_ts_write self.old queue.now from.now
+            ≡ (apply_ts_write self.old queue.now from
             (ts_queue self.old queue.now)).store) }
     {
-        let item = from.copy()?;
         let Some(items) = self.temp_storage.get_mut(queue) else {
-            return self.ts_make(queue, item);
+            return self.ts_make(queue, from);
         };
         if items.len() >= MOST_ITEMS {
             return Ok(());
         }
-        items.push(item)
+        items.push(from)
     }
 
     /// Replaces an item, if it is there: WRITEQ TS REWRITE.
-    fn ts_rewrite(&mut self, queue: &Name8, item: u64, from: &Record) -> Result<(), NoMemory>
-        ensures { OnOk result (self.new
-            ≡ (apply_ts_rewrite self.old queue.now item from.now
-            (ts_queue self.old queue.now)).store) }
+    fn ts_rewrite(&mut self, queue: &Name8, item: u64, from: Record)
+        ensures { self.new ≡ (apply_ts_rewrite self.old queue.now item from
+            (ts_queue self.old queue.now)).store }
     {
-        let content = from.copy()?;
         let Some(items) = self.temp_storage.get_mut(queue) else {
-            return Ok(());
+            return;
         };
         if !has_item(items, item) {
-            return Ok(());
+            return;
         }
-        items.set(item as usize - 1, content);
-        Ok(())
+        items.set(item as usize - 1, from);
     }
 
     /// Removes the queue, if it is there: DELETEQ TS.
@@ -318,9 +314,9 @@ impl PlainStore {
     }
 
     /// Adds a record as the last one, if the queue is defined: WRITEQ TD.
-    fn td_write(&mut self, queue: &Name4, from: &Record) -> Result<(), NoMemory>
+    fn td_write(&mut self, queue: &Name4, from: Record) -> Result<(), NoMemory>
         ensures { OnOk result (self.new
-            ≡ (apply_td_write self.old queue.now from.now (value_at queue.now self.old.td)).store) }
+            ≡ (apply_td_write self.old queue.now from (value_at queue.now self.old.td)).store) }
     {
         let Some(records) = self.trans_data.get_mut(queue) else {
             return Ok(());
@@ -351,37 +347,32 @@ impl PlainStore {
     }
 
     /// Applies a command. Nothing changes if it wouldn't be answered NORMAL.
-    pub(crate) fn apply(&mut self, op: &Op) -> Result<(), NoMemory>
-        ensures { OnOk result (self.new ≡ (apply self.old op.now).store) }
+    pub(crate) fn apply(&mut self, op: &OpRef<'_>) -> Result<(), NoMemory>
+        ensures { OnOk result (self.new ≡ (apply self.old (as_op op.now)).store) }
     {
+        let alloc = self.alloc;
         match op {
-            Op::Write { file, key, from } => self.write(file, key, from),
-            Op::Rewrite { file, key, from } => self.rewrite(file, key, from),
-            Op::Delete { file, key } => {
-                self.delete(file, key);
-                Ok(())
+            OpRef::Write(file, key, from) => {
+                let key = Record::from_slice(alloc, key)?;
+                self.write(file, key, Record::from_slice(alloc, from)?)?;
             }
-            Op::DeleteGeneric { file, prefix } => {
-                self.delete_generic(file, prefix);
-                Ok(())
+            OpRef::Rewrite(file, key, from) => {
+                let key = Record::from_slice(alloc, key)?;
+                self.rewrite(file, &key, Record::from_slice(alloc, from)?);
             }
-            Op::ReadUpdate { .. } => Ok(()),
-            Op::TsWrite { queue, from } => self.ts_write(queue, from),
-            Op::TsRewrite { queue, item, from } => self.ts_rewrite(queue, *item, from),
-            Op::TsDelete { queue } => {
-                self.ts_delete(queue);
-                Ok(())
+            OpRef::Delete(file, key) => self.delete(file, &Record::from_slice(alloc, key)?),
+            OpRef::DeleteGeneric(file, prefix) => self.delete_generic(file, prefix),
+            OpRef::ReadUpdate(_, _) => {}
+            OpRef::TsWrite(queue, from) => self.ts_write(queue, Record::from_slice(alloc, from)?)?,
+            OpRef::TsRewrite(queue, item, from) => {
+                self.ts_rewrite(queue, *item, Record::from_slice(alloc, from)?);
             }
-            Op::TdWrite { queue, from } => self.td_write(queue, from),
-            Op::TdRead { queue } => {
-                self.td_read(queue);
-                Ok(())
-            }
-            Op::TdDelete { queue } => {
-                self.td_delete(queue);
-                Ok(())
-            }
+            OpRef::TsDelete(queue) => self.ts_delete(queue),
+            OpRef::TdWrite(queue, from) => self.td_write(queue, Record::from_slice(alloc, from)?)?,
+            OpRef::TdRead(queue) => self.td_read(queue),
+            OpRef::TdDelete(queue) => self.td_delete(queue),
         }
+        Ok(())
     }
 
     /// Appends the stamp of the files and queues.

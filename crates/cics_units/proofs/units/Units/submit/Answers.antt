@@ -1,4 +1,4 @@
-use Rattle.std.proofs.Common.{arith, ◌≡◌, ◌∙◌, refl, sym, ap, subst, true, None, [], ◌∷◌, ◌++◌, length}
+use Rattle.std.proofs.Common.{arith, is_ok, ◌≡◌, ◌∙◌, refl, sym, ap, subst, true, false, None, [], ◌∷◌, ◌++◌, length}
 use Rattle.std.proofs.lemmas.Result.{IfOk-from_err}
 use Rattle.cics_history.specs.Execution.{execution, after_execution, unit_or_next, read_at, outcomes_with, IsOpenUnit, IsOpenOrNone, is_ready_op}
 use Rattle.cics_history.specs.Headline.{IsHeadline}
@@ -173,23 +173,24 @@ execute-requires-clause-none_open c = λ read.
 pub execute-requires-clause-short : goal.execute-requires-clause-short
 execute-requires-clause-short c = c.self.invariant.0.table.keys
 
--- the command can be packed with its answer
-pub pack-entry-requires : goal.pack-entry-requires
-pack-entry-requires c =
+-- the command can be packed with its answer, so its entry isn't refused memory
+pub unreachable-requires : goal.unreachable-requires
+unreachable-requires c =
     let u = c.self.inside in
-    let at = (goal.at.pack-entry-requires c).After-blocker in
+    let at = (goal.at.unreachable-requires c).After-blocker in
     let ready : is_ready_op (before at) c.args.unit c.args.op ≡ true = subst (λ v. is_ready_op v.state c.args.unit c.args.op ≡ true) (sym c.self.view_is) c.requires.ready in
     let fit = ready_fits (before at) (core at).stores (core at).table c.self.invariant.0 c.args.unit (op at) (known at).ready in
     let done = c.in_ok-answer.ensures.executed in
     let told : c.in_ok-answer.answer ≡ (apply (shown_store u.core.store) (op at)).answer =
     done.done.applied.answered ∙ ap (λ m. (apply (shown_store m) (op at)).answer) done.room.store in
-    record {
-      packable = subst (λ o. IsPackable o c.in_ok-content.content c.in_ok-answer.answer.number) c.bind-bound.ensures.op
-          (subst (λ n. IsPackable (op at) c.in_ok-content.content n) (sym (ap (λ a. a.number) told))
-          (subst (λ x. IsPackable (op at) x (apply (shown_store u.core.store) (op at)).answer.number) (sym c.in_ok-content.ensures)
-          (packable u.core.store c.bind-bound.result.own (op at) c.bind-bound.result.recoverable fit c.bind-bound.ensures.bound.bound)));
-      short = ready_short (before at) c.args.unit c.args.op c.self.invariant.0.lawful_keys ready;
-    }
+    let fits : IsPackable c.args.op c.in_ok-content.content c.in_ok-answer.answer.number =
+    subst (λ o. IsPackable o c.in_ok-content.content c.in_ok-answer.answer.number) c.bind-bound.ensures.op
+    (subst (λ n. IsPackable (op at) c.in_ok-content.content n) (sym (ap (λ a. a.number) told))
+    (subst (λ x. IsPackable (op at) x (apply (shown_store u.core.store) (op at)).answer.number) (sym c.in_ok-content.ensures)
+    (packable u.core.store c.bind-bound.result.own (op at) c.bind-bound.result.recoverable fit c.bind-bound.ensures.bound.bound))) in
+    let short = ready_short (before at) c.args.unit c.args.op c.self.invariant.0.lawful_keys ready in
+    let made : is_ok c.new.result ≡ true = c.new.ensures.packed fits short in
+    let wrong : true ≡ false = sym made ∙ ap is_ok c.in_default-new.is in cc
 
 -- ---- it is executed
 module _ (c : After-push_reserved)
@@ -224,7 +225,7 @@ module _ (c : After-push_reserved)
   entry = record { unit = unit_or_next c.args.unit c.self.inside.outcomes.items; op = done_op; answer = c.in_ok-answer.answer }
 
   trace : c.push_reserved.new.self.items ≡ c.self.inside.trace.items ++ entry ∷ []
-  trace = c.push_reserved.ensures.items ∙ (λ i. c.reserve.ensures.items i ++ c.pack-entry.ensures i ∷ []) ∙ (λ i. c.self.inside.trace.items ++ record {
+  trace = c.push_reserved.ensures.items ∙ (λ i. c.reserve.ensures.items i ++ c.in-Ok.ensures.entry i ∷ []) ∙ (λ i. c.self.inside.trace.items ++ record {
     unit = asked.acting i;
     op = sym c.bind-bound.ensures.op i;
     answer = record { condition = c.in_ok-answer.answer.condition; content = given i; number = c.in_ok-answer.answer.number };

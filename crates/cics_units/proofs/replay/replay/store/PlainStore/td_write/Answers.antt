@@ -5,7 +5,7 @@ use Rattle.cics_units.proofs.OfReplay.Plain.{td_write_nowhere, td_write_there}
 use Rattle.cics_units.proofs.replay.replay.store.PlainStore.td_write.Goals as goal
 
 pub returns-in_default : goal.returns-in_default
-returns-in_default c = td_write_nowhere c.self.inside.files.entries c.self.inside.temp_storage.entries c.self.inside.trans_data.entries _ c.args.self.now c.self.view_is c.args.queue.now c.args.from.now
+returns-in_default c = td_write_nowhere c.self.inside.files.entries c.self.inside.temp_storage.entries c.self.inside.trans_data.entries _ c.args.self.now c.self.view_is c.args.queue.now c.args.from
     c.in_default.ensures.value (ap (λ rows. rows.entries) c.get_mut.follows.holds-at-none)
 
 pub invariant_of-self-2 : goal.invariant_of-self-2
@@ -15,5 +15,5 @@ invariant_of-self-2 c =
     (c.self.invariant.0, c.self.invariant.1, rising)
 
 pub returns : goal.returns
-returns c = OnOk-more c.write.result (td_write_there c.self.inside.files.entries c.self.inside.temp_storage.entries c.self.inside.trans_data.entries _ c.args.self.now c.self.view_is c.args.queue.now c.args.from.now
+returns c = OnOk-more c.write.result (td_write_there c.self.inside.files.entries c.self.inside.temp_storage.entries c.self.inside.trans_data.entries _ c.args.self.now c.self.view_is c.args.queue.now c.args.from
     c.in-Some.records.now c.write.new.self c.self.invariant.2 c.in-Some.ensures.value (c.get_mut.follows.holds c.write.new.self).0) c.write.ensures

@@ -1,14 +1,12 @@
-use Rattle.std.proofs.Common.{◌∷◌, [], ◌++◌, ◌∙◌, ap, refl, arith}
-use Rattle.cics_history.specs.Store.{with_ts}
+use Rattle.std.proofs.Common.{ap, refl, arith}
 use Rattle.cics_history.proofs.Entries.{OnOk-more}
 use Rattle.cics_units.proofs.OfOpening.Changing.{still_rising}
-use Rattle.cics_units.proofs.OfReplay.Plain.{store_of, ts_made, ts_write_full, ts_write_there}
+use Rattle.cics_units.proofs.OfReplay.Plain.{ts_made, ts_write_full, ts_write_there}
 use Rattle.cics_units.proofs.replay.replay.store.PlainStore.ts_write.Goals as goal
 
 pub returns-in_default : goal.returns-in_default
-returns-in_default c = OnOk-more c.ts_make.result (λ made. ts_made c.self.inside.files.entries c.self.inside.temp_storage.entries c.self.inside.trans_data.entries c.args.self.now c.self.view_is c.args.queue.now c.args.from.now
-    c.in_default.ensures.value _ (ap (λ rows. rows.entries) c.get_mut.follows.holds-at-none) c.ts_make.new.self
-    (made ∙ ap (λ i. with_ts (store_of c.self.inside.files.entries c.get_mut.follows.lender-at-none.entries c.self.inside.trans_data.entries) c.args.queue.now (i ∷ [])) c.in_ok-item.ensures)) c.ts_make.ensures
+returns-in_default c = OnOk-more c.ts_make.result (λ made. ts_made c.self.inside.files.entries c.self.inside.temp_storage.entries c.self.inside.trans_data.entries c.args.self.now c.self.view_is c.args.queue.now c.args.from
+    c.in_default.ensures.value _ (ap (λ rows. rows.entries) c.get_mut.follows.holds-at-none) c.ts_make.new.self made) c.ts_make.ensures
 
 pub invariant_of-self-then-len-ge-MOST_ITEMS : goal.invariant_of-self-then-len-ge-MOST_ITEMS
 invariant_of-self-then-len-ge-MOST_ITEMS c =
@@ -17,7 +15,7 @@ invariant_of-self-then-len-ge-MOST_ITEMS c =
     (c.self.invariant.0, rising, c.self.invariant.2)
 
 pub returns-then-len-ge-MOST_ITEMS : goal.returns-then-len-ge-MOST_ITEMS
-returns-then-len-ge-MOST_ITEMS c = ts_write_full c.self.inside.files.entries c.self.inside.temp_storage.entries c.self.inside.trans_data.entries c.args.self.now c.self.view_is c.args.queue.now c.args.from.now
+returns-then-len-ge-MOST_ITEMS c = ts_write_full c.self.inside.files.entries c.self.inside.temp_storage.entries c.self.inside.trans_data.entries c.args.self.now c.self.view_is c.args.queue.now c.args.from
     c.in-Some.items.now c.self.invariant.1 c.in-Some.ensures.value c.in-Some.items.now _ (c.get_mut.follows.holds c.in-Some.items.now).0 refl (omega (arith, c.if-len-ge-MOST_ITEMS.true, c.len.ensures))
 
 pub invariant_of-self-2 : goal.invariant_of-self-2
@@ -27,6 +25,6 @@ invariant_of-self-2 c =
     (c.self.invariant.0, rising, c.self.invariant.2)
 
 pub returns : goal.returns
-returns c = OnOk-more c.push.result (λ new. ts_write_there c.self.inside.files.entries c.self.inside.temp_storage.entries c.self.inside.trans_data.entries c.args.self.now c.self.view_is c.args.queue.now c.args.from.now
+returns c = OnOk-more c.push.result (λ new. ts_write_there c.self.inside.files.entries c.self.inside.temp_storage.entries c.self.inside.trans_data.entries c.args.self.now c.self.view_is c.args.queue.now c.args.from
     c.in-Some.items.now c.self.invariant.1 c.in-Some.ensures.value c.push.new.self _ (c.get_mut.follows.holds c.push.new.self).0
-    (new ∙ ap (λ i. c.in-Some.items.now ++ i ∷ []) c.in_ok-item.ensures) (omega (arith, c.if-len-ge-MOST_ITEMS.false, c.len.ensures))) c.push.ensures.ok
+    new (omega (arith, c.if-len-ge-MOST_ITEMS.false, c.len.ensures))) c.push.ensures.ok

@@ -1,5 +1,5 @@
 use Rattle.std.proofs.Common.{◌≡◌, ℕ, ◌<◌, length, take, drop}
-use Rattle.cics_history.proofs.ops.place_in.Given as goal
+use Rattle.cics_history.proofs.packing.place_in.Given as goal
 
 -- the key begins at none of the places so far
 abbrev pub invariant-loop-at : goal.invariant-loop-at
