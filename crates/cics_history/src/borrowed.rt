@@ -6,31 +6,20 @@ ghost use Rattle.cics_history.specs.Borrowed.{as_op};
 use crate::ops::Op;
 use cics_names::{Name4, Name8};
 
-/// An updating command whose bytes are borrowed: to read one takes no memory. Each variant has what
-/// the variant of `Op` of its name has, in the same order. Contracts see the command (`as_op`).
+/// An updating command whose bytes are borrowed: to read one takes no memory. A variant has what the
+/// variant of `Op` of its name has, in the same order. Contracts see the command (`as_op`).
 #[derive(Drop)]
 pub enum OpRef<'a> {
-    /// The file, the key and the record.
     Write(Name8, &'a [u8], &'a [u8]),
-    /// The file, the key and the record.
     Rewrite(Name8, &'a [u8], &'a [u8]),
-    /// The file and the key.
     Delete(Name8, &'a [u8]),
-    /// The file and the prefix.
     DeleteGeneric(Name8, &'a [u8]),
-    /// The file and the key.
     ReadUpdate(Name8, &'a [u8]),
-    /// The queue and the item.
     TsWrite(Name8, &'a [u8]),
-    /// The queue, the number of the item, from 1 on, and the item.
     TsRewrite(Name8, u64, &'a [u8]),
-    /// The queue.
     TsDelete(Name8),
-    /// The queue and the record.
     TdWrite(Name4, &'a [u8]),
-    /// The queue.
     TdRead(Name4),
-    /// The queue.
     TdDelete(Name4),
 }
 

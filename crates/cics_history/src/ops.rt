@@ -9,7 +9,7 @@ ghost use Rattle.cics_history.specs.Records.{is_file_op, file_of, key_of};
 ghost use Rattle.cics_history.specs.Packed.{IsPackable, IsTold, op_of};
 
 use crate::borrowed::OpRef;
-use crate::packing::{Form, Kind, or_empty};
+use crate::packing::{Apart, Form, Kind, number_of, or_empty, part_of};
 use crate::resources::UnitId;
 use cics_names::{Condition, Name4, Name8, NoMemory, Record};
 use std::alloc::Global;
@@ -283,7 +283,21 @@ impl Entry {
         ensures packed { IsPackable op answer.content answer.number → length (key_of op) ≤ 255 →
             IsOk result }
     {
-        let form = Form::new(alloc, op, answer)?;
+        let Some(number) = number_of(&op, &answer) else {
+            let form = Form::Apart(Box::new(alloc, Apart { op, answer })?);
+            return Ok(Entry { unit, form });
+        };
+        let (is_given, is_numbered) = (answer.content.is_some(), answer.number.is_some());
+        let (kind, key_length, text) = op.packed(alloc, answer.content, number);
+        let form = Form::Packed {
+            kind,
+            condition: answer.condition,
+            is_given,
+            is_numbered,
+            key_length,
+            number,
+            text,
+        };
         Ok(Entry { unit, form })
     }
 
@@ -298,7 +312,19 @@ impl Entry {
     pub fn op(&self) -> OpRef<'_>
         ensures { as_op result ≡ self.now.op }
     {
-        self.form.op()
+        match &self.form {
+            Form::Packed {
+                kind,
+                key_length,
+                number,
+                text,
+                ..
+            } => {
+                let text = text.bytes();
+                kind.op(part_of(text, *number, *key_length), text, *number)
+            }
+            Form::Apart(apart) => OpRef::of(&apart.op),
+        }
     }
 
     /// Returns the condition that the command was answered with.

@@ -1,14 +1,13 @@
 //! How an entry of the history lies in memory.
 
-ghost use Rattle.std.specs.Prelude.{◌≡◌, ◌≤◌, IfSome, IsSome, IfOk, IsOk, length, take, drop};
-ghost use Rattle.std.specs.Option.{option_copied};
+ghost use Rattle.std.specs.Prelude.{◌≡◌, ◌≤◌, IfSome, IsSome, length, take, drop};
 ghost use Rattle.cics_history.specs.Borrowed.{as_op};
 ghost use Rattle.cics_history.specs.Records.{key_of};
-ghost use Rattle.cics_history.specs.Packed.{LiesIn, IsPackable, IsTold, op_of, op_in, answer_in};
+ghost use Rattle.cics_history.specs.Packed.{LiesIn, IsPackable, IsTold, op_of};
 
 use crate::borrowed::OpRef;
 use crate::ops::{Answer, Op};
-use cics_names::{Condition, Name4, Name8, NoMemory, Record};
+use cics_names::{Condition, Name4, Name8, Record};
 use std::alloc::Global;
 
 // What kind of command an entry has, with the file or queue that it names.
@@ -29,7 +28,7 @@ pub(crate) enum Kind {
 
 impl Kind {
     // Returns the command of this kind that has this key in its record, this text and this number.
-    fn op<'a>(&self, key: &'a [u8], text: &'a [u8], number: u64) -> OpRef<'a>
+    pub(crate) fn op<'a>(&self, key: &'a [u8], text: &'a [u8], number: u64) -> OpRef<'a>
         ensures { as_op result ≡ op_of self.now key.now text.now number }
     {
         match *self {
@@ -51,7 +50,7 @@ impl Kind {
 // A command and its answer, as they were given.
 #[derive(Drop)]
 pub(crate) struct Apart {
-    op: Op,
+    pub(crate) op: Op,
     pub(crate) answer: Answer,
 }
 
@@ -108,7 +107,7 @@ pub(crate) fn or_empty(alloc: Global, content: Option<Record>) -> Record
 }
 
 // Returns `count` bytes behind the first `at`, or as many as there are.
-fn part_of(text: &[u8], at: u64, count: u8) -> &[u8]
+pub(crate) fn part_of(text: &[u8], at: u64, count: u8) -> &[u8]
     ensures { result.now ≡ take count (drop at text.now) }
 {
     let start = (at as usize).min(text.len());
@@ -118,7 +117,7 @@ fn part_of(text: &[u8], at: u64, count: u8) -> &[u8]
 
 // Returns the number with which a command and its answer are packed: how many bytes of a record
 // stand before its key, or else that of an item or of the answer. Returns `None` if they don't fit.
-fn number_of(op: &Op, answer: &Answer) -> Option<u64>
+pub(crate) fn number_of(op: &Op, answer: &Answer) -> Option<u64>
     ensures told { IfSome result (IsTold op.now answer.now.content) }
     ensures number { IfSome result (λ n. IfSome answer.now.number (λ m. n ≡ m)) }
     ensures fits { IsPackable op.now answer.now.content answer.now.number →
@@ -146,51 +145,6 @@ fn number_of(op: &Op, answer: &Answer) -> Option<u64>
         Op::TsDelete { .. } | Op::TdRead { .. } | Op::TdDelete { .. } => Some(number.unwrap_or(0)),
         Op::Delete { .. } | Op::DeleteGeneric { .. } | Op::TsWrite { .. } | Op::TdWrite { .. } => {
             content.is_none().then_some(number.unwrap_or(0))
-        }
-    }
-}
-
-impl Form {
-    // Returns the form of a command and its answer. It takes memory only if they don't fit the
-    // packed form.
-    pub(crate) fn new(alloc: Global, op: Op, answer: Answer) -> Result<Form, NoMemory>
-        ensures op { IfOk result (λ form. op_in form ≡ op) }
-        ensures answer { IfOk result (λ form. answer_in form ≡ answer) }
-        ensures packed { IsPackable op answer.content answer.number → length (key_of op) ≤ 255 →
-            IsOk result }
-    {
-        let Some(number) = number_of(&op, &answer) else {
-            return Ok(Form::Apart(Box::new(alloc, Apart { op, answer })?));
-        };
-        let (is_given, is_numbered) = (answer.content.is_some(), answer.number.is_some());
-        let (kind, key_length, text) = op.packed(alloc, answer.content, number);
-        Ok(Form::Packed {
-            kind,
-            condition: answer.condition,
-            is_given,
-            is_numbered,
-            key_length,
-            number,
-            text,
-        })
-    }
-
-    // Returns the command.
-    pub(crate) fn op(&self) -> OpRef<'_>
-        ensures { as_op result ≡ op_in self.now }
-    {
-        match self {
-            Form::Packed {
-                kind,
-                key_length,
-                number,
-                text,
-                ..
-            } => {
-                let text = text.bytes();
-                kind.op(part_of(text, *number, *key_length), text, *number)
-            }
-            Form::Apart(apart) => OpRef::of(&apart.op),
         }
     }
 }
