@@ -14,7 +14,6 @@ use crate::resources::UnitId;
 use cics_names::{Condition, Name4, Name8, NoMemory, Record};
 use std::alloc::Global;
 use std::marker::Model;
-use std::mem::size_of;
 
 /// An updating command. `from` has the bytes of a record or an item. `key` is the record's key.
 pub enum Op {
@@ -262,9 +261,6 @@ impl Model for Entry {
 
     ghost view = { λ e. record { unit = e.unit; op = op_in e.form; answer = answer_in e.form } };
 }
-
-// A history is long.
-const _: () = prove!(size_of::<Entry>() == 64);
 
 impl Entry {
     /// Returns the entry of any command and any answer.
