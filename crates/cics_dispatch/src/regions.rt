@@ -333,6 +333,8 @@ impl Region {
     /// Returns whether the task of a label has ended. `false` if no task has the label.
     pub fn has_ended(&self, label: &Name8) -> bool
         ensures ended { result ≡ task_ended self.now.machine label.now }
+        ensures headline { IsHeadlineRegion self.now }
+        ensures serializable { IsSerializableRegion self.now }
     {
         self.dispatcher.has_ended(label)
     }
