@@ -1,3 +1,4 @@
 pub mod Plain
 pub mod PlainOpening
 pub mod PlainTrace
+pub mod Under

@@ -116,7 +116,7 @@ module _ (files new_files : Map (Map Bytes)) (ts : Map Queue) (td : Map (List By
         ∙ ap (λ s. (apply_delete s f k (value_at f s.files)).store) is
 
 -- if no record is under a prefix, all are beside it
-beside_all : (p : Bytes) (m : Map Bytes) → under p m ≡ [] → outside p m ≡ m
+pub beside_all : (p : Bytes) (m : Map Bytes) → under p m ≡ [] → outside p m ≡ m
 beside_all p [] none = refl
 beside_all p (e ∷ m) none =
     elim (has_prefix p e.0) as (λ b. cond b (e ∷ under p m) (under p m) ≡ [] → cond (not b) (e ∷ outside p m) (outside p m) ≡ e ∷ m) [

@@ -84,8 +84,8 @@ fn replayed(
 ///
 /// Errors: `NoMemory`.
 ///
-/// Cost: O(log n) for each record loaded and each entry, for n records in its file. DELETE GENERIC
-/// looks at each record of its file.
+/// Cost: O(log n) for each record loaded, each entry and each record that DELETE GENERIC deletes,
+/// for n records in its file.
 pub fn plain_replay(
     alloc: Global,
     opening: &Opening,

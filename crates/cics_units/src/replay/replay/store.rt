@@ -249,14 +249,14 @@ impl PlainStore {
     }
 
     /// Removes from a file each record whose key begins with a prefix: DELETE GENERIC.
-    fn delete_generic(&mut self, file: &Name8, prefix: &[u8])
-        ensures { self.new ≡ (apply_delete_generic self.old file.now prefix.now
-            (value_at file.now self.old.files)).store }
+    fn delete_generic(&mut self, file: &Name8, prefix: &Record) -> Result<(), NoMemory>
+        ensures { OnOk result (self.new ≡ (apply_delete_generic self.old file.now prefix.now
+            (value_at file.now self.old.files)).store) }
     {
         let Some(records) = self.files.get_mut(file) else {
-            return;
+            return Ok(());
         };
-        records.delete_generic(prefix);
+        records.delete_generic(prefix)
     }
 
     /// Makes a temporary storage queue of one item.
@@ -361,7 +361,9 @@ impl PlainStore {
                 self.rewrite(file, &key, Record::from_slice(alloc, from)?);
             }
             OpRef::Delete(file, key) => self.delete(file, &Record::from_slice(alloc, key)?),
-            OpRef::DeleteGeneric(file, prefix) => self.delete_generic(file, prefix),
+            OpRef::DeleteGeneric(file, prefix) => {
+                self.delete_generic(file, &Record::from_slice(alloc, prefix)?)?;
+            }
             OpRef::ReadUpdate(_, _) => {}
             OpRef::TsWrite(queue, from) => self.ts_write(queue, Record::from_slice(alloc, from)?)?,
             OpRef::TsRewrite(queue, item, from) => {

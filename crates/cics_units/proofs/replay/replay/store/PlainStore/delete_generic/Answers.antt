@@ -1,4 +1,5 @@
 use Rattle.std.proofs.Common.{ap}
+use Rattle.cics_history.proofs.Entries.{OnOk-more}
 use Rattle.cics_units.proofs.OfOpening.Changing.{still_rising}
 use Rattle.cics_units.proofs.OfReplay.Plain.{generic_nowhere, generic_there}
 use Rattle.cics_units.proofs.replay.replay.store.PlainStore.delete_generic.Goals as goal
@@ -14,5 +15,7 @@ invariant_of-self-2 c =
     (rising, c.self.invariant.1, c.self.invariant.2)
 
 pub returns : goal.returns
-returns c = generic_there c.self.inside.files.entries _ c.self.inside.temp_storage.entries c.self.inside.trans_data.entries c.args.self.now c.self.view_is c.args.file.now c.args.prefix.now
-    c.in-Some.records.now c.delete_generic.new.self c.self.invariant.0 c.in-Some.ensures.value (c.get_mut.follows.holds c.delete_generic.new.self).0 c.delete_generic.ensures
+returns c = OnOk-more c.delete_generic.result
+    (generic_there c.self.inside.files.entries _ c.self.inside.temp_storage.entries c.self.inside.trans_data.entries c.args.self.now c.self.view_is c.args.file.now c.args.prefix.now
+    c.in-Some.records.now c.delete_generic.new.self c.self.invariant.0 c.in-Some.ensures.value (c.get_mut.follows.holds c.delete_generic.new.self).0)
+    c.delete_generic.ensures
