@@ -13,10 +13,10 @@ const VERSION: &str = "1.0.0";
 const ABOUT: &str = "\
 Runs a script of CICS commands on a region in memory.
 
-The script comes from standard input: it defines and loads files, attaches
-tasks, issues their commands and sets the clock. The journal goes to standard
-output: each answer, then the commands that resume and the tasks that time out.
-The program then lists all files and queues, and the tasks that have not ended.";
+A script defines and loads files, attaches tasks, issues their commands and sets
+the clock. The journal goes to standard output: each answer, then the commands
+that resume and the tasks that time out. The program then lists all files and
+queues, and the tasks that have not ended.";
 
 const MORE: &str = "\
 The replay is the listing again, without tasks. It applies the history to what
@@ -41,7 +41,7 @@ ending can be run: it gives the lines in its first order.
 Exit status:
   0  the whole script was run, or the help or the version was printed
   1  a line or a definition has a fault: the output ends with it
-  2  bad arguments, or no ending has this number
+  2  bad arguments, a script that can't be opened, or no ending has this number
   3  no memory
   4  a read or a write failed, the script has more than 16,777,216 bytes, or a
      picture would show more than 100,000 lines of the journal
@@ -49,17 +49,17 @@ Exit status:
      abended by a condition or a time-out, or a task still waits at the end
 
 Each option, from the root of the repository:
-  bin/cicsrun < examples/lost-update.cics
-  bin/cicsrun --no-list < examples/lost-update.cics
-  bin/cicsrun --replay < examples/rollback.cics
-  bin/cicsrun --serial < examples/turns.cics
-  bin/cicsrun --with-script < examples/turns.cics
-  bin/cicsrun --strict < examples/deadlock.cics
-  bin/cicsrun --picture < examples/deadlock.cics > deadlock.svg
-  bin/cicsrun --orders --limit 5 < examples/race.cics
-  bin/cicsrun --orders --told < examples/race.cics
-  bin/cicsrun --orders --told --ending 2 < examples/race.cics
-  bin/cicsrun --orders --progress < examples/race.cics
+  bin/cicsrun examples/lost-update.cics
+  bin/cicsrun --no-list examples/lost-update.cics
+  bin/cicsrun --replay examples/rollback.cics
+  bin/cicsrun --serial examples/turns.cics
+  bin/cicsrun --with-script examples/turns.cics
+  bin/cicsrun --strict examples/deadlock.cics
+  bin/cicsrun --picture examples/deadlock.cics > deadlock.svg
+  bin/cicsrun --orders --limit 5 examples/race.cics
+  bin/cicsrun --orders --told examples/race.cics
+  bin/cicsrun --orders --told --ending 2 examples/race.cics
+  bin/cicsrun --orders --progress examples/race.cics
 The language of a script: docs/LANGUAGE.md.
 
 Example, from the root of the repository. T2 waits for the record until T1's
@@ -81,35 +81,42 @@ const STATES: u64 = 30_000;
 /// What the help says of that.
 const LIMIT: &str = "Follow about N states (30000)";
 
-/// What a command line asks for.
+/// What is printed of a script.
 ///
-/// - `Run`: a run of a script.
-/// - `Strict`: a run that ends with a status of its own if something is amiss (`strict_status`).
-/// - `Picture`: the picture of a run.
-/// - `Orders`: a report on the orders of a script's lines, or one of them as a script. `progress`
-///   asks for lines on standard error that say how far the search is.
-/// - `Help`: the help or the version, which is to go to standard output.
-/// - `Bad`: nothing that the program knows. The text says what is wrong, and is to go to standard
-///   error.
+/// - `Run`: its journal, and what follows that.
+/// - `Strict`: the same. The status is one of its own if something is amiss (`strict_status`).
+/// - `Picture`: the picture of its run.
+/// - `Orders`: a report on the orders of its lines, or one of them as a script. `progress` asks for
+///   lines on standard error that say how far the search is.
 #[derive(Drop)]
-pub enum Asked {
+pub enum Output {
     Run(Wanted),
     Strict(Wanted),
     Picture,
     Orders { wanted: Orders, progress: bool },
+}
+
+/// What a command line asks for.
+#[derive(Drop)]
+pub enum Asked {
+    /// The output of a script. It is in the file of this name, or comes from standard input.
+    Script(Output, Option<String>),
+    /// The help or the version, which is to go to standard output.
     Help(String),
+    /// Nothing that the program knows. The text says what is wrong, and is to go to standard error.
     Bad(String),
 }
 
 /// Reads the words of a command line, of which the first is the program's name.
 ///
-/// The options are those of the help. These are bad:
+/// The options are those of the help. A word that is none names the script's file; `-` is standard
+/// input. These are bad:
 ///
-/// - an option that is given twice;
+/// - an option that is given twice, and a second file;
 /// - `--serial` beside `--with-script`, and any option beside `--picture`;
 /// - `--told`, `--limit`, `--ending` and `--progress` without `--orders`, any other option beside
 ///   it, and a number that isn't from 1 on;
-/// - each other word but a `--`, after which no option may stand.
+/// - an option that the help doesn't have. Behind `--` each word names a file.
 ///
 /// The only error is `NoMemory`.
 pub fn arguments(alloc: Global, words: Vec<String>) -> Result<Asked, NoMemory> {
@@ -125,30 +132,8 @@ fn told_error(alloc: Global, error: &Error) -> Result<Asked, NoMemory> {
     match error.kind() {
         ErrorKind::DisplayHelp | ErrorKind::DisplayVersion => Ok(Asked::Help(text)),
         ErrorKind::OutOfMemory => Err(NoMemory),
-        ErrorKind::UnknownArgument => Ok(Asked::Bad(with_tip(alloc, &text)?)),
         _ => Ok(Asked::Bad(text)),
     }
-}
-
-const UNKNOWN: &str = "error: unexpected argument '";
-
-// Returns the message on a word that isn't known. If it may name a file, a tip says how to use it.
-fn with_tip(alloc: Global, text: &str) -> Result<String, NoMemory> {
-    match unknown_word(text) {
-        Some((word, behind)) => Ok(format!(in alloc;
-            "{UNKNOWN}{word}' found\n\n  tip: a script is standard input: use < {word}\n{behind}"
-        )?),
-        None => Ok(text.to_string(alloc)?),
-    }
-}
-
-// Returns the word that isn't known, if it may name a file, and the rest of the message behind it.
-fn unknown_word(text: &str) -> Option<(&str, &str)> {
-    let (word, behind) = text.strip_prefix(UNKNOWN)?.split_once("' found\n")?;
-    if word.is_empty() || word.starts_with('-') {
-        return None;
-    }
-    Some((word, behind))
 }
 
 // Returns an option that is given or not, with what the help says of it.
@@ -171,7 +156,14 @@ fn number<'a>(alloc: Global, name: &'a str, help: &'a str) -> Result<Arg<'a>, Al
 
 // Returns an option that goes with no option of a run.
 fn apart_from_runs<'a>(arg: Arg<'a>) -> Result<Arg<'a>, AllocError> {
-    arg.conflicts_with_all(&["no-list", "replay", "serial", "with-script", "strict"])
+    arg.conflicts_with_all(&[
+        "no-list",
+        "replay",
+        "serial",
+        "with-script",
+        "strict",
+        "picture",
+    ])
 }
 
 // Adds an option to a command line. It takes the results of the calls before: so a row of calls has
@@ -205,21 +197,29 @@ fn orders_flag<'a>(flag: Arg<'a>) -> Result<Arg<'a>, AllocError> {
     apart_from_runs(flag.requires_arg("orders")?)
 }
 
-// Adds the options of a run. A picture stands alone.
+// Adds the options of a run. A picture goes with none of them.
 fn with_runs<'a>(alloc: Global, command: Command<'a>) -> Result<Command<'a>, AllocError> {
     let serial = "Print the serial run after the listing and the replay";
     let script = "Print each line of the script before its journal lines";
     let script = flag(alloc, "with-script", script).conflicts_with("serial");
     let strict = "End with status 5 if something is amiss";
     let picture = "Print a picture of the run (SVG) in place of all that";
-    let picture = flag(alloc, "picture", picture).exclusive(true);
+    let apart = ["no-list", "replay", "serial", "with-script", "strict"];
+    let picture = flag(alloc, "picture", picture).conflicts_with_all(&apart);
     let command = command.arg(flag(alloc, "no-list", "Leave out the listing"));
     let replay = flag(alloc, "replay", "Print the replay after the listing");
     let command = with(command, Ok(replay));
     let command = with(command, Ok(flag(alloc, "serial", serial)));
     let command = with(command, script);
     let command = with(command, Ok(flag(alloc, "strict", strict)));
-    with(command, Ok(picture))
+    with(command, picture)
+}
+
+// Returns the word that names the script's file.
+fn script<'a>(alloc: Global) -> Arg<'a> {
+    Arg::new(alloc, "script")
+        .value_name("SCRIPT")
+        .help("The script's file; without it, or for -, standard input")
 }
 
 // Returns the command line, with its options in the order of the help.
@@ -228,18 +228,23 @@ fn command<'a>(alloc: Global) -> Result<Command<'a>, AllocError> {
         .version(VERSION)
         .about(ABOUT)
         .after_help(MORE);
-    with_orders(alloc, with_runs(alloc, named))
+    let command = with_orders(alloc, with_runs(alloc, named));
+    with(command, Ok(script(alloc)))
 }
 
 fn asked_run(alloc: Global, words: &[String]) -> Result<Asked, Error> {
     let matches = command(alloc)?.try_get_matches_from(words)?;
-    Ok(chosen(&matches))
+    let name = match matches.get_str("script") {
+        None | Some("-") => None,
+        Some(name) => Some(name.to_string(alloc)?),
+    };
+    Ok(Asked::Script(chosen(&matches), name))
 }
 
 // Returns what the options that were given ask for.
-fn chosen(matches: &ArgMatches) -> Asked {
+fn chosen(matches: &ArgMatches) -> Output {
     if matches.get_flag("picture") {
-        return Asked::Picture;
+        return Output::Picture;
     }
     if matches.get_flag("orders") {
         let wanted = Orders {
@@ -248,7 +253,7 @@ fn chosen(matches: &ArgMatches) -> Asked {
             ending: matches.get_one("ending"),
         };
         let progress = matches.get_flag("progress");
-        return Asked::Orders { wanted, progress };
+        return Output::Orders { wanted, progress };
     }
     let options = Options {
         replay: matches.get_flag("replay"),
@@ -260,7 +265,7 @@ fn chosen(matches: &ArgMatches) -> Asked {
         with_script: matches.get_flag("with-script"),
     };
     if matches.get_flag("strict") {
-        return Asked::Strict(wanted);
+        return Output::Strict(wanted);
     }
-    Asked::Run(wanted)
+    Output::Run(wanted)
 }

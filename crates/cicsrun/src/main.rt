@@ -1,17 +1,19 @@
-//! Runs the script on standard input. Prints its journal and listing on standard output, or a
-//! picture of it, or what the orders of its lines lead to.
+//! Runs the script on standard input, or in a file. Prints its journal and listing on standard
+//! output, or a picture of it, or what the orders of its lines lead to.
 #![tactic(auto)]
 
+mod input;
 mod progress;
 
+use crate::input::Input;
 use crate::progress::ProgressLines;
 use cics_orders::survey::{Surveyed, Surveyor};
 use cics_picture::draw::{NoPicture, run_picture};
 use cics_run::told::{Watched, is_left_waiting, told_at_end, told_of};
 use cics_run::whole::read_script;
 use cics_run::{
-    Asked, Options, Orders, RunFault, Session, Status, Wanted, arguments, exit_status, run_over,
-    strict_status,
+    Asked, Options, Orders, Output, RunFault, Session, Status, Wanted, arguments, exit_status,
+    run_over, strict_status,
 };
 use std::io::ErrorKind;
 use std::mem;
@@ -33,17 +35,14 @@ const JOURNAL: Wanted = Wanted {
 
 fn main(rt: HostRuntime) -> ExitCode {
     match asked(rt) {
-        Ok(Asked::Run(wanted)) => ended(rt, run_to_the_end(rt, wanted, false)),
-        Ok(Asked::Strict(wanted)) => ended(rt, run_to_the_end(rt, wanted, true)),
-        Ok(Asked::Picture) => match draw_to_the_end(rt) {
-            Err(NoPicture::TooManyEvents) => {
-                let _ = eprintln!(rt; "cicsrun: {}", NoPicture::TooManyEvents);
-                ExitCode::from(TOO_MANY_EVENTS)
+        Ok(Asked::Script(output, name)) => match Input::open(rt, &name) {
+            Ok(input) => print_of(rt, input, output),
+            Err(error) => {
+                let name = name.as_deref().unwrap_or("-");
+                let _ = eprintln!(rt; "cicsrun: {name}: {error}");
+                ExitCode::from(BAD_ARGUMENTS)
             }
-            Err(NoPicture::Stopped(fault)) => stopped(rt, fault),
-            Ok(status) => ExitCode::from(exit_status(&Ok(status))),
         },
-        Ok(Asked::Orders { wanted, progress }) => follow_orders(rt, wanted, progress),
         Ok(Asked::Help(text)) => match print!(rt; "{text}") {
             Ok(()) => ExitCode::SUCCESS,
             Err(_) => stopped(rt, RunFault::WriteFault),
@@ -56,12 +55,34 @@ fn main(rt: HostRuntime) -> ExitCode {
     }
 }
 
-// Runs the script on standard input, and returns the exit status. The process ends right after the
-// run. So its memory isn't given back piece by piece, which would take up to a tenth of the time.
-fn run_to_the_end(rt: HostRuntime, wanted: Wanted, is_strict: bool) -> Result<u8, RunFault> {
+// Prints this output of a script, and returns the exit status.
+fn print_of(rt: HostRuntime, script: Input, output: Output) -> ExitCode {
+    match output {
+        Output::Run(wanted) => ended(rt, run_to_the_end(rt, script, wanted, false)),
+        Output::Strict(wanted) => ended(rt, run_to_the_end(rt, script, wanted, true)),
+        Output::Picture => match draw_to_the_end(rt, script) {
+            Err(NoPicture::TooManyEvents) => {
+                let _ = eprintln!(rt; "cicsrun: {}", NoPicture::TooManyEvents);
+                ExitCode::from(TOO_MANY_EVENTS)
+            }
+            Err(NoPicture::Stopped(fault)) => stopped(rt, fault),
+            Ok(status) => ExitCode::from(exit_status(&Ok(status))),
+        },
+        Output::Orders { wanted, progress } => follow_orders(rt, script, wanted, progress),
+    }
+}
+
+// Runs a script, and returns the exit status. The process ends right after the run. So its memory
+// isn't given back piece by piece, which would take up to a tenth of the time.
+fn run_to_the_end(
+    rt: HostRuntime,
+    mut script: Input,
+    wanted: Wanted,
+    is_strict: bool,
+) -> Result<u8, RunFault> {
     let mut session = Session::new(rt.alloc());
     let mut journal = Watched::new(rt.stdout(), is_strict);
-    let answer = run_over(&mut session, &mut rt.stdin(), &mut journal, wanted);
+    let answer = run_over(&mut session, &mut script, &mut journal, wanted);
     if let Ok(status) = answer {
         tell(rt, &session, status);
     }
@@ -70,10 +91,10 @@ fn run_to_the_end(rt: HostRuntime, wanted: Wanted, is_strict: bool) -> Result<u8
     Ok(strict_status(&Ok(answer?), is_amiss))
 }
 
-// Draws the script on standard input. The process ends right after it, as after a run.
-fn draw_to_the_end(rt: HostRuntime) -> Result<Status, NoPicture> {
+// Draws the run of a script. The process ends right after it, as after a run.
+fn draw_to_the_end(rt: HostRuntime, mut script: Input) -> Result<Status, NoPicture> {
     let mut session = Session::new(rt.alloc());
-    let answer = run_picture(&mut session, &mut rt.stdin(), &mut rt.stdout());
+    let answer = run_picture(&mut session, &mut script, &mut rt.stdout());
     if let Ok(status) = answer {
         tell(rt, &session, status);
     }
@@ -81,11 +102,15 @@ fn draw_to_the_end(rt: HostRuntime) -> Result<Status, NoPicture> {
     answer
 }
 
-// Follows the orders of the script on standard input. Prints how far the search is, if that is
-// wanted.
-fn follow_orders(rt: HostRuntime, wanted: Orders, has_progress: bool) -> ExitCode {
+// Follows the orders of a script. Prints how far the search is, if that is wanted.
+fn follow_orders(
+    rt: HostRuntime,
+    mut input: Input,
+    wanted: Orders,
+    has_progress: bool,
+) -> ExitCode {
     let mut script = Vec::new(rt.alloc());
-    if let Err(fault) = read_script(&mut rt.stdin(), &mut script) {
+    if let Err(fault) = read_script(&mut input, &mut script) {
         return stopped(rt, fault);
     }
     let mut surveyor = Surveyor {
