@@ -48,24 +48,23 @@ Exit status:
   5  with --strict: the whole script was run, and an event was refused, a task was
      abended by a condition or a time-out, or a task still waits at the end
 
-Each option, from the root of the repository:
-  bin/cicsrun examples/lost-update.cics
-  bin/cicsrun --no-list examples/lost-update.cics
-  bin/cicsrun --replay examples/rollback.cics
-  bin/cicsrun --serial examples/turns.cics
-  bin/cicsrun --with-script examples/turns.cics
-  bin/cicsrun --strict examples/deadlock.cics
-  bin/cicsrun --picture examples/deadlock.cics > deadlock.svg
-  bin/cicsrun --orders --limit 5 examples/race.cics
-  bin/cicsrun --orders --told examples/race.cics
-  bin/cicsrun --orders --told --ending 2 examples/race.cics
-  bin/cicsrun --orders --progress examples/race.cics
-The language of a script: docs/LANGUAGE.md.
+Each option, on examples of the repository:
+  cicsrun examples/lost-update.cics
+  cicsrun --no-list examples/lost-update.cics
+  cicsrun --replay examples/rollback.cics
+  cicsrun --serial examples/turns.cics
+  cicsrun --with-script examples/turns.cics
+  cicsrun --strict examples/deadlock.cics
+  cicsrun --picture examples/deadlock.cics > deadlock.svg
+  cicsrun --orders --limit 5 examples/race.cics
+  cicsrun --orders --told examples/race.cics
+  cicsrun --orders --told --ending 2 examples/race.cics
+  cicsrun --orders --progress examples/race.cics
+The language of a script: the page cicsrun(5), or docs/LANGUAGE.md.
 
-Example, from the root of the repository. T2 waits for the record until T1's
-rollback undoes its delete:
+Example. T2 waits for the record until T1's rollback undoes its delete:
 
-bin/cicsrun <<END
+cicsrun <<END
 DEFINE FILE('ACCT') KEYLENGTH(4) RECOVERABLE
 LOAD FILE('ACCT') FROM('0001 100')
 ATTACH T1 TRANSID('MOVE')
