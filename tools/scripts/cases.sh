@@ -38,9 +38,11 @@ add_script() {
         add_case "$1" "$title --with-script" 0 "$base.journal" unshown "$said" --with-script
     fi
     if [ -f "$base.fault" ]; then
-        add_case "$1" "$title" 1 "$base.fault" same advice
-        add_case "$1" "$title --with-script" 1 "$base.fault" unshown advice --with-script
-        add_case "$1" "$title --picture" 1 "$base.fault" last advice --picture
+        of_fault=advice
+        [ ! -f "$base.said" ] || of_fault=$said
+        add_case "$1" "$title" 1 "$base.fault" same "$of_fault"
+        add_case "$1" "$title --with-script" 1 "$base.fault" unshown "$of_fault" --with-script
+        add_case "$1" "$title --picture" 1 "$base.fault" last "$of_fault" --picture
     fi
     if [ -f "$base.replay" ]; then
         add_case "$1" "$title --replay" 0 "$base.replay" same "$said" --replay
@@ -118,21 +120,24 @@ add_advice() {
     add_case "$room/script" 'a line of 70,001 bytes' 1 1 fault "$room/wanted/advice-long"
 }
 
+# Whether a script has one of these names, or none is given.
+is_asked() {
+    title=${1%.cics}
+    shift
+    [ $# -gt 0 ] || return 0
+    for name; do
+        case $title in */"$name") return 0 ;; esac
+    done
+    return 1
+}
+
 # All runs, or those of the scripts of these names.
 make_cases() {
-    if [ $# -gt 0 ]; then
-        for name; do
-            for script in "$root"/scripts/*/*.cics "$root"/examples/*.cics; do
-                case ${script%.cics} in
-                */"$name") add_script "$script" ;;
-                esac
-            done
-        done
-        return
-    fi
-    for script in "$root"/scripts/*/*.cics "$root"/examples/*.cics; do
-        add_script "$script"
+    for script in "$root"/scripts/*/*.cics "$root"/scripts/told/typed/*.cics \
+        "$root"/examples/*.cics; do
+        ! is_asked "$script" "$@" || add_script "$script"
     done
+    [ $# -eq 0 ] || return 0
     add_faults
     add_advice
 }

@@ -1,16 +1,22 @@
 //! What a faulty line of a script needs, told to a person: a message, the line, and a caret.
 //!
 //! `push_advice` adds three lines behind what was printed. `specs/Advice` states them to the byte,
-//! but for the words of the message. The fault and its column are those of
-//! `crate::find_fault`. Tables say what to mend, by what stands in front of the column
-//! (`tables`, `messages`). These words are tested, and no clause states them. So are the names that
-//! aren't defined, which `keep_undefined` keeps while lines run.
+//! but for the words of the message. The fault is that of `crate::find_fault`, and so is its column,
+//! but within a literal (`placing`). `push_fault` does both. Tables say what to mend, by what stands
+//! in front of the column (`tables`, `messages`, `unknown`, `values`), which word is meant (`meant`),
+//! and what bytes are (`bytes`). These words are tested, and no clause states them.
 
+mod bytes;
 mod context;
+mod filling;
+mod meant;
 mod messages;
+mod placing;
 mod showing;
 mod tables;
-mod undefined;
+mod unhandled;
+mod unknown;
+mod values;
 
-pub use messages::{Cause, push_advice};
-pub use undefined::{Named, keep_undefined};
+pub use messages::{Cause, push_advice, push_fault};
+pub use unhandled::has_resp2_alone;

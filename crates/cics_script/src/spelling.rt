@@ -11,5 +11,5 @@ mod texts;
 mod writing;
 
 pub use spelling::commands_in_any_order;
-pub use texts::{push_bare, push_name, push_number, push_str, push_text};
+pub use texts::{push_bare, push_hexadecimal, push_name, push_number, push_str, push_text};
 pub use writing::write_out;

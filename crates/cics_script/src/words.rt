@@ -143,7 +143,7 @@ pub enum Kind {
     Last,
 }
 
-static STARTS: [(&str, Start); 5] = [
+pub static STARTS: [(&str, Start); 5] = [
     ("DEFINE", Start::Define),
     ("LOAD", Start::Load),
     ("ATTACH", Start::Attach),
@@ -165,7 +165,7 @@ static LOAD_OBJECTS: [(&str, LoadObject); 3] = [
 ];
 
 // Frequent verbs come first: a search begins at the first row.
-static COMMANDS: [(&str, CommandWord); 18] = [
+pub static COMMANDS: [(&str, CommandWord); 18] = [
     ("READ", CommandWord::Read),
     ("WRITE", CommandWord::Write),
     ("REWRITE", CommandWord::Rewrite),
@@ -187,7 +187,7 @@ static COMMANDS: [(&str, CommandWord); 18] = [
 ];
 
 // FILE stands before DATASET: `option_word` returns the first word of an option.
-static OPTIONS: [(&str, OptionWord); 39] = [
+pub static OPTIONS: [(&str, OptionWord); 39] = [
     ("FILE", File),
     ("DATASET", File),
     ("TRANSID", Transid),

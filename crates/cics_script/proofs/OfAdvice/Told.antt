@@ -5,12 +5,12 @@ use Rattle.cics_script.specs.Advice.Advice.{message_line, marked, too_long, IsCo
 use Rattle.cics_script.specs.declared.advice.messages.Cause.{Cause}
 
 module _ {A E : Type 0} (number : ℕ) (bytes : List ℕ) (cause : Cause) (before : List ℕ) where
-  pub told_long : (now : List ℕ) (r : Result A E) → IsColumnOf cause None → OnOk r (now ≡ before ++ too_long number)
+  pub told_long : (now : List ℕ) (r : Result A E) → IsColumnOf bytes cause None → OnOk r (now ≡ before ++ too_long number)
       → OnOk r (Advises number bytes cause before now)
   told_long now (Ok x) is put = (None, is, put)
   told_long now (Err e) is put = tt
 
-  pub told_marked : (column : ℕ) (message middle now : List ℕ) (r : Result A E) → IsColumnOf cause (Some column)
+  pub told_marked : (column : ℕ) (message middle now : List ℕ) (r : Result A E) → IsColumnOf bytes cause (Some column)
       → middle ≡ before ++ message_line number column message → OnOk r (now ≡ middle ++ marked bytes column)
       → OnOk r (Advises number bytes cause before now)
   told_marked column message middle now (Ok x) is first put = (

@@ -1,7 +1,13 @@
 -- What a person is told of a faulty line: a message, the line round a column, and a caret under the
 -- column.
-use Rattle.std.specs.Prelude.{◌≡◌, ℕ, ◌-◌, ◌==◌, ◌&&◌, nat_le, min, max, if◌then◌else◌, Option, Some, None, is_some, true, List, ◌++◌, map, length, take, drop, replicate, codes}
+use Rattle.std.specs.Prelude.{◌≡◌, ℕ, ◌+◌, ◌-◌, ◌==◌, ◌&&◌, nat_le, min, max, Bool, not, true, false, if◌then◌else◌, Option, Some, None, is_some, option_map, List, [], ◌∷◌, ◌++◌, map, length, take, drop, replicate, codes}
 use Rattle.std.specs.Fmt.{decimal}
+use Rattle.std.specs.List.{prefix_len, list_any}
+use Rattle.cics_names.specs.Ebcdic.{code_of}
+use Rattle.cics_script.specs.Tokens.{is_quote, text_in}
+use Rattle.cics_script.specs.declared.literals.Notation.TheVariants.{Quoted}
+use Rattle.cics_script.specs.Columns.{IsFoundIn}
+use Rattle.cics_script.specs.declared.columns.Placed.{Placed}
 use Rattle.cics_script.specs.declared.advice.showing.TheConstants.{WIDTH, BEFORE}
 use Rattle.cics_script.specs.declared.advice.messages.Cause.{Cause}
 use Rattle.cics_script.specs.declared.advice.messages.Cause.TheVariants as causes
@@ -49,11 +55,36 @@ abbrev pub Tells : ℕ → List ℕ → List ℕ → List ℕ → Option ℕ →
 Tells number bytes before now None = now ≡ before ++ too_long number
 Tells number bytes before now (Some column) = (message : List ℕ) × (now ≡ before ++ advice number column message bytes)
 
--- the column of a cause: of a fault that was found its own, of a definition some column
-abbrev pub IsColumnOf : Cause → Option ℕ → Type 0
-IsColumnOf (causes.Line placed) column = column ≡ placed.column
-IsColumnOf (causes.Definition fault) column = is_some column ≡ true
+-- whether a character may stand in a quoted literal
+abbrev pub has_code : ℕ → Bool
+has_code c = is_some (code_of c)
+
+-- the same as fault_within, from after a first quote
+abbrev pub fault_in_quotes : List ℕ → ℕ
+fault_in_quotes text =
+    let coded = prefix_len has_code text in
+    if not (is_some (text_in Quoted text)) && list_any is_quote (drop coded text) then 1 + coded else 0
+
+-- how many bytes of a token stand before what is at fault in it: of a quoted literal that is closed,
+-- but is none, those before its first byte that no quoted literal has
+abbrev pub fault_within : List ℕ → ℕ
+fault_within [] = 0
+fault_within (c ∷ text) = if is_quote c then fault_in_quotes text else 0
+
+-- the column that is told of a fault: its own, or that of such a byte in the literal there
+abbrev pub told_column : List ℕ → Placed → Option ℕ
+told_column bytes placed = option_map (λ column. column + fault_within (drop (column - 1) bytes)) placed.column
+
+-- the column of a cause: of a fault that was found the one that is told, of a definition some column
+abbrev pub IsColumnOf : List ℕ → Cause → Option ℕ → Type 0
+IsColumnOf bytes (causes.Line placed) column = column ≡ told_column bytes placed
+IsColumnOf bytes (causes.Definition fault) column = is_some column ≡ true
 
 -- what is told of the line with this number and cause
 abbrev pub Advises : ℕ → List ℕ → Cause → List ℕ → List ℕ → Type 0
-Advises number bytes cause before now = (column : Option ℕ) × IsColumnOf cause column × Tells number bytes before now column
+Advises number bytes cause before now = (column : Option ℕ) × IsColumnOf bytes cause column × Tells number bytes before now column
+
+-- a line is read and nothing is put, or what is told of its fault
+abbrev pub Checks : ℕ → List ℕ → Bool → List ℕ → List ℕ → Type 0
+Checks number bytes true before now = IsFoundIn bytes None × (now ≡ before)
+Checks number bytes false before now = (placed : Placed) × IsFoundIn bytes (Some placed) × Advises number bytes (causes.Line placed) before now

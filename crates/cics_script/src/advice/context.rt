@@ -1,7 +1,8 @@
 //! What stands in front of the token at which a line can't be read on.
 
 use crate::words::{
-    Form, Start, command_named, define_object, load_object, queue_command, start_of,
+    Form, Kind, Start, command_named, define_object, kind_of, load_object, option_named,
+    queue_command, start_of,
 };
 use crate::{skip_blanks, whole_token};
 use cics_names::NoMemory;
@@ -12,6 +13,9 @@ use std::alloc::Global;
 pub struct Context<'a> {
     pub front: Vec<(usize, &'a [u8])>,
     pub token: &'a [u8],
+    /// The line from the column on, and how many bytes stand before it.
+    pub behind: &'a [u8],
+    pub before_len: usize,
 }
 
 /// Returns whether a token is a word, in capitals or small letters.
@@ -53,6 +57,8 @@ impl<'a> Context<'a> {
         Ok(Context {
             front,
             token: token_of(behind),
+            behind,
+            before_len: split,
         })
     }
 
@@ -93,6 +99,12 @@ impl<'a> Context<'a> {
         1
     }
 
+    /// Returns whether the token stands right behind the one before it.
+    pub fn is_adjacent(&self) -> bool {
+        self.front.last().is_some_and(|(before, token)| before.saturating_add(token.len())
+            == self.before_len)
+    }
+
     /// Returns whether the line is a command: EXEC CICS stands behind a label.
     pub fn is_command(&self) -> bool {
         is_word(self.at(1), "EXEC") && is_word(self.at(2), "CICS")
@@ -111,5 +123,18 @@ impl<'a> Context<'a> {
             Start::Clock => Some(Form::Clock),
             Start::Shutdown => Some(Form::Shutdown),
         }
+    }
+    /// Returns what an option of the line takes.
+    pub fn kind_of(&self, option: &[u8]) -> Option<Kind> {
+        kind_of(self.form()?, option_named(option)?)
+    }
+
+    /// Returns whether the token is the value of an option that takes a name.
+    pub fn is_name(&self) -> bool {
+        is_word(self.before(1), "(")
+            && matches!(
+                self.kind_of(self.before(2)),
+                Some(Kind::Name8 | Kind::Name4)
+            )
     }
 }

@@ -47,9 +47,18 @@ pub const NO_LINE: &str = "a line begins with DEFINE, LOAD, ATTACH, CLOCK, SHUTD
 pub const NO_COMMAND: &str =
     "a command is one line, written T1 EXEC CICS .., with its task's label in front";
 
+pub const NO_COMMAND_BUT: &str =
+    "a command is one line, written T1 EXEC CICS ..; or did you mean $ in front?";
+
+pub const NO_CICS: &str = "EXEC % isn't modelled, only EXEC CICS";
+
 pub const NO_OPTION: &str = "% is no option of the script (docs/LANGUAGE.md)";
 
+pub const NO_OPTION_BUT: &str = "% is no option of &: did you mean $?";
+
 pub const NO_VERB: &str = "% is no command of the script (docs/LANGUAGE.md)";
+
+pub const NO_VERB_BUT: &str = "% is no command of the script: did you mean $?";
 
 pub const ITEM_NUMBER: &str = "ITEM takes a number beside REWRITE, as ITEM(1)";
 
@@ -60,6 +69,10 @@ pub const NAME8_AS: &str = "$ takes a name of 1 to 8 characters in quotes, as $(
 pub const NAME4_AS: &str = "$ takes a name of 1 to 4 characters in quotes, as $('%')";
 
 pub const LENGTH_OF: &str = "LENGTH OF isn't modelled: the number is written out+";
+
+pub const UNCLOSED: &str = "this quote isn't closed: a literal ends with one";
+
+pub const UNCLOSED_VALUE: &str = "the quote in $('.. isn't closed: a literal ends with one+";
 
 /// Options, parted by blanks, and what they take in the examples.
 pub static EXAMPLES: [(&str, &str); 13] = [
@@ -79,7 +92,7 @@ pub static EXAMPLES: [(&str, &str); 13] = [
 ];
 
 /// Words that are no verbs of the script, or none, and what to write instead.
-pub static NO_VERBS: [(&str, &str); 8] = [
+pub static NO_VERBS: [(&str, &str); 12] = [
     ("", "a verb has to stand here: a command is one line"),
     ("END-EXEC", "a verb has to stand here"),
     ("HANDLE IGNORE PUSH POP", "% !: use RESP or NOHANDLE"),
@@ -94,23 +107,132 @@ pub static NO_VERBS: [(&str, &str); 8] = [
         "SEND RECEIVE CONVERSE GETMAIN FREEMAIN ASSIGN ADDRESS RELEASE JOURNAL DUMP",
         "% !",
     ),
+    ("ROLLBACK", "% is an option: write SYNCPOINT ROLLBACK"),
+    ("COMMIT", "% is written SYNCPOINT"),
+    (
+        "SELECT GET FETCH",
+        "% is no command of the script: did you mean READ?",
+    ),
+    (
+        "INSERT PUT",
+        "% is no command of the script: did you mean WRITE?",
+    ),
 ];
 
-/// Signs that begin no token, and what to do about them.
-pub static SIGNS: [(u8, &str); 10] = [
-    (b'.', "a line has no period at its end"),
-    (b',', "options are parted by blanks, not by commas"),
-    (b'"', "a literal stands in single quotes, as 'ACCT'"),
+/// Words that are no options of the script, and what to write instead.
+pub static NO_OPTIONS: [(&str, &str); 4] = [
     (
-        b'_',
+        "SET",
+        "% isn't modelled: write INTO(AREA) in its place, or nothing",
+    ),
+    ("RECOVERY", "% is written RECOVERABLE or UNRECOVERABLE"),
+    ("RECOVSTATUS", "% is written LOGICAL, PHYSICAL or NONE"),
+    ("KEYS", "% is written KEYLENGTH(6) and KEYOFFSET(0)"),
+];
+
+/// Words of other languages and products, and the option that stands for them.
+pub static MEANT: [(&str, &str); 7] = [
+    ("KEY RECKEY", "RIDFLD"),
+    ("QNAME", "QUEUE"),
+    ("DSNAME DDNAME DSN", "FILE"),
+    ("RECORD VALUE VALUES", "FROM"),
+    ("TRANSACTION", "TRANSID"),
+    ("TIMEOUT", "DTIMOUT"),
+    ("NOWAIT", "NOSUSPEND"),
+];
+
+/// Signs that begin no token, and what to do about them. The first row that fits counts.
+pub static SIGNS: [(&str, &str); 12] = [
+    (".", "a line has no period at its end"),
+    (",", "options are parted by blanks, not by commas"),
+    ("\"", "a literal stands in single quotes, as 'ACCT'"),
+    (
+        "_",
         "outside quotes a word has letters, digits and hyphens, no underscore",
     ),
-    (b'-', "no minus stands here: a number is digits alone"),
-    (b';', "no semicolon stands in a line"),
-    (b'=', "a value stands in parentheses, as LENGTH(80)"),
-    (b':', "no colon stands in a line"),
-    (b'/', "no slash here: a comment begins with an asterisk"),
-    (b'*', "a comment is a line of its own"),
+    ("--", OWN_LINE),
+    ("-", "no minus stands here: a number is digits alone"),
+    (";", "no semicolon stands in a line"),
+    ("=", "a value stands in parentheses, as LENGTH(80)"),
+    (":", "no colon stands in a line"),
+    ("/", OWN_LINE),
+    ("#", OWN_LINE),
+    ("*", OWN_LINE),
+];
+
+const OWN_LINE: &str = "a comment is a line of its own, and begins with *";
+
+/// Signs with which no line begins, and what to do about them.
+pub static FIRST_SIGNS: [(&str, &str); 7] = [
+    ("-", COMMENT),
+    ("#", COMMENT),
+    ("/", COMMENT),
+    (";", COMMENT),
+    ("!", COMMENT),
+    ("%", COMMENT),
+    (
+        ">",
+        "a line of a printed journal is no line of a script: leave out the > in front",
+    ),
+];
+
+const COMMENT: &str = "a comment begins with *";
+
+/// Characters that no line has, and what is told of them behind their bytes.
+pub static FOREIGN: [(&str, &str); 9] = [
+    (
+        "\u{FEFF}",
+        " is a mark of byte order: save the file without it, in ASCII",
+    ),
+    (
+        "\u{2018}\u{2019}\u{201A}\u{201B}\u{201C}\u{201D}\u{201E}\u{B4}",
+        " is a curly quote: type '",
+    ),
+    (
+        "\u{2010}\u{2011}\u{2012}\u{2013}\u{2014}\u{2212}\u{AD}",
+        " is a dash: type -",
+    ),
+    ("\u{2026}", " is an ellipsis: type .."),
+    (
+        "\u{A0}\u{2002}\u{2003}\u{2009}\u{202F}\u{3000}",
+        " is a blank of another kind: type a blank",
+    ),
+    (
+        "\u{200B}\u{200C}\u{200D}\u{2060}",
+        " can't be seen: delete it",
+    ),
+    (
+        "\u{1A}",
+        " is Ctrl-Z, an old mark of a file's end: delete it",
+    ),
+    (
+        "\0",
+        " is no text: if the file is in UTF-16, save it in ASCII",
+    ),
+    (
+        "\r",
+        " is a carriage return: it stands only at a line's end, before LF",
+    ),
+];
+
+pub const NOT_ASCII: &str = " is no byte of a line, which has printable ASCII and tabs alone";
+
+/// For each character from U+00C0 to U+00FF the letter of ASCII that is most like it, or a blank.
+pub const LETTERS: &str = "AAAAAAACEEEEIIIIDNOOOOO OUUUUYTsaaaaaaaceeeeiiiidnooooo ouuuuyty";
+
+/// Characters that no quoted literal has, and their codes in EBCDIC code page 037.
+pub static CODES: [(u8, u8); 11] = [
+    (b'\t', 0x05),
+    (b'!', 0x5A),
+    (b'[', 0xBA),
+    (b'\\', 0xE0),
+    (b']', 0xBB),
+    (b'^', 0xB0),
+    (b'`', 0x79),
+    (b'{', 0xC0),
+    (b'|', 0x4F),
+    (b'}', 0xD0),
+    (b'~', 0xA1),
 ];
 
 /// What has to stand behind the first word of a line.

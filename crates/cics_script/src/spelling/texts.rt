@@ -169,7 +169,8 @@ fn digit(number: u8) -> u8
     }
 }
 
-fn push_hexadecimal(out: &mut Vec<u8>, bytes: &[u8]) -> Result<(), NoMemory>
+/// Appends two hexadecimal digits for each byte.
+pub fn push_hexadecimal(out: &mut Vec<u8>, bytes: &[u8]) -> Result<(), NoMemory>
     ensures { OnOk result (out.new.items ≡ out.old.items ++ flat_map hexadecimal bytes.now) }
 {
     for code in bytes {

@@ -5,9 +5,9 @@ use Rattle.cics_script.proofs.advice.messages.push_advice.Goals as goal
 
 pub returns-in_default : goal.returns-in_default
 returns-in_default c =
-    told_long c.args.number c.args.line.now c.args.cause c.args.out.now.items _ _ (subst (IsColumnOf c.args.cause) c.in_default.is c.in_ok-column.ensures) c.push_too_long.ensures
+    told_long c.args.number c.args.line.now c.args.cause c.args.out.now.items _ _ (subst (IsColumnOf c.args.line.now c.args.cause) c.in_default.is c.in_ok-column.ensures) c.push_too_long.ensures
 
 pub returns : goal.returns
 returns c =
-    told_marked c.args.number c.args.line.now c.args.cause c.args.out.now.items c.in-Some.column _ _ _ _ (subst (IsColumnOf c.args.cause) c.in-Some.is c.in_ok-column.ensures)
+    told_marked c.args.number c.args.line.now c.args.cause c.args.out.now.items c.in-Some.column _ _ _ _ (subst (IsColumnOf c.args.line.now c.args.cause) c.in-Some.is c.in_ok-column.ensures)
     c.in_ok-push_message.ensures c.push_marked.ensures

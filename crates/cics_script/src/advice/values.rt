@@ -1,0 +1,134 @@
+//! What is told of a value that is wrong or missing, or of its parentheses.
+
+use crate::advice::context::{Context, is_word};
+use crate::advice::filling::{Told, push_start};
+use crate::advice::tables::{
+    ITEM_NUMBER, LENGTH_OF, NAME4_AS, NAME8_AS, NO_PARENTHESES, UNCLOSED, UNCLOSED_VALUE,
+};
+use crate::spelling::push_str;
+use crate::whole_token;
+use crate::words::Kind;
+use cics_names::NoMemory;
+
+/// A text that a quote within it splits: a literal, and right behind it a word or a number.
+#[derive(Clone, Copy)]
+pub struct Split<'a> {
+    literal: &'a [u8],
+    rest: &'a [u8],
+}
+
+impl<'a> Split<'a> {
+    /// Returns the text in the parentheses before the column, if a quote splits it.
+    pub fn new(context: &Context<'a>) -> Option<Split<'a>> {
+        let literal = context.before(1);
+        let is_split = is_word(context.before(2), "(")
+            && is_quoted(literal)
+            && !literal.contains(&b')')
+            && context.is_adjacent()
+            && context.token.first()?.is_ascii_alphanumeric();
+        let mut parts = context.behind.split(|one| matches!(*one, b'\'' | b')'));
+        let rest = parts.next()?;
+        is_split.then_some(Split { literal, rest })
+    }
+
+    /// Puts how the text is written.
+    pub fn push_joined(&self, out: &mut Vec<u8>) -> Result<(), NoMemory> {
+        push_str(out, "a quote within quotes is doubled: ")?;
+        push_start(out, self.literal)?;
+        push_str(out, "'")?;
+        push_start(out, self.rest)?;
+        push_str(out, "'")
+    }
+}
+
+// Returns whether a token is a literal in quotes.
+fn is_quoted(token: &[u8]) -> bool {
+    token.first() == Some(&b'\'')
+}
+
+/// Returns the text for a value that is wrong or missing, or for its parentheses.
+pub fn of_value<'a>(context: &Context<'a>) -> Told<'a> {
+    if is_broken(context.token) {
+        return of_broken(context);
+    }
+    if is_word(context.at(0), "CLOCK") && context.front.len() == 1 {
+        let text = "CLOCK takes the new time in seconds from the run's start, as CLOCK 30";
+        return (text, &[]);
+    }
+    if is_word(context.before(1), "(") {
+        let option = context.before(2);
+        return (of_content(context, option), option);
+    }
+    if is_word(context.before(2), "(") {
+        return (of_second_value(context), context.before(3));
+    }
+    if is_word(context.before(1), ")") && !context.token.is_empty() {
+        return ("a parenthesis too many after $(..)", context.before(4));
+    }
+    let option = context.before(1);
+    match context.kind_of(option) {
+        // The end of a line that could be read is at fault for one cause.
+        None | Some(Kind::Flag | Kind::Last) if context.token.is_empty() => (ITEM_NUMBER, &[]),
+        Some(Kind::Flag) => (NO_PARENTHESES, option),
+        Some(Kind::Area) => ("$ takes a word in parentheses+", option),
+        _ => ("$ takes its value in parentheses+", option),
+    }
+}
+
+/// Returns whether a token is there, and broken in itself.
+pub fn is_broken(token: &[u8]) -> bool {
+    !token.is_empty() && whole_token(token).is_none()
+}
+
+// Returns the text for a token that is broken in itself.
+fn of_broken<'a>(context: &Context<'a>) -> Told<'a> {
+    match context.token.first() {
+        Some(b'\'') if is_word(context.before(1), "(") => (UNCLOSED_VALUE, context.before(2)),
+        Some(b'\'') => (UNCLOSED, &[]),
+        Some(b'0'..=b'9') => ("a number is at most 18446744073709551615", &[]),
+        _ => {
+            let text = "X'..' has two hexadecimal digits for each byte, and ends with a quote";
+            (text, &[])
+        }
+    }
+}
+
+// Returns whether a literal in quotes has a parenthesis that belongs behind it.
+fn is_unclosed(token: &[u8]) -> bool {
+    is_quoted(token) && token.contains(&b')')
+}
+
+// Returns the text for a token behind the value in parentheses.
+fn of_second_value(context: &Context<'_>) -> &'static str {
+    if is_unclosed(context.before(1)) {
+        UNCLOSED_VALUE
+    } else {
+        "$ takes one value in its parentheses+"
+    }
+}
+
+// Returns whether a token is a word, and no hexadecimal literal.
+fn is_data_name(token: &[u8]) -> bool {
+    token
+        .first()
+        .is_some_and(|first| first.is_ascii_alphabetic())
+        && !token.contains(&b'\'')
+}
+
+// Returns what the option of an opening parenthesis takes.
+fn of_content(context: &Context<'_>, option: &[u8]) -> &'static str {
+    let length = context.token.len();
+    match (context.kind_of(option), is_data_name(context.token)) {
+        (Some(Kind::Name8 | Kind::Name4), _) if is_unclosed(context.token) => UNCLOSED_VALUE,
+        (Some(Kind::Name8), true) if length <= 8 => NAME8_AS,
+        (Some(Kind::Name8), _) => "$ takes a name of 1 to 8 characters in quotes+",
+        (Some(Kind::Name4), true) if length <= 4 => NAME4_AS,
+        (Some(Kind::Name4), _) => "$ takes a name of 1 to 4 characters in quotes+",
+        (Some(Kind::Text), true) => "$ takes a literal, no data name+",
+        (Some(Kind::Text), false) => "$ takes a literal in quotes+",
+        (Some(Kind::Number), _) if is_word(context.token, "LENGTH") => LENGTH_OF,
+        (Some(Kind::Number), true) => "$ takes a number, no data name+",
+        (Some(Kind::Number), false) => "$ takes a number without quotes+",
+        _ => "$ takes a word in parentheses+",
+    }
+}
