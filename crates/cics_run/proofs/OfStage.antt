@@ -1,2 +1,2 @@
-pub mod Settles
-pub mod Telling
+pub mod Draining
+pub mod Printing

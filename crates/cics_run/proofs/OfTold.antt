@@ -1,5 +1,1 @@
-pub mod AmissRows
 pub mod Put
-pub mod InLine
-pub mod Finding
-pub mod Journal

@@ -1,3 +1,5 @@
-pub mod Journal
-pub mod Settling
 pub mod Stages
+pub mod Seen
+pub mod Journal
+pub mod Amiss
+pub mod Printed

@@ -1,12 +1,21 @@
-//! What each line of a script leads to in a region, and the lines of the journal that tell it.
+//! What each line of a script leads to in a region, and who sees it.
 //!
 //! - `stage`: the definitions, then the region, and what a line makes of them.
-//! - `settling`: the wake-ups and time-outs after each event.
-//! - `journal`: the lines of the journal.
+//! - `draining`: a request, and what the region does by itself after it.
+//! - `observer`: who sees each event.
+//! - `printing`, `journal`: the observer that prints, and the lines of the journal.
+//! - `amiss`, `undefined`: what a strict run finds amiss, and names that aren't defined.
 
+pub mod amiss;
+mod draining;
 pub mod journal;
-mod settling;
+mod observer;
+mod printing;
 mod stage;
+mod undefined;
 
 pub use cics_script::LineFault;
+pub use observer::Observer;
+pub use printing::Journal;
 pub use stage::{Fault, Stage};
+pub use undefined::{Named, keep_undefined, tells_undefined};

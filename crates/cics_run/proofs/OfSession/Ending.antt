@@ -3,13 +3,14 @@ use Rattle.std.proofs.Common.{◌≡◌, ℕ, Bool, true, false, ◌+◌, cond, 
 use Rattle.std.proofs.lemmas.List.Sums.{fold-append}
 use Rattle.std.proofs.lemmas.List.{nil_from_length}
 use Rattle.std.proofs.lemmas.Bool.{true≢false}
-use Rattle.std.specs.Prelude.{Result, Ok, Err, IfOk, OnOk, OnErr, is_some}
+use Rattle.std.specs.Prelude.{Result, Ok, Err, IfOk, OnOk, OnErr, is_some, ◌||◌}
 use Rattle.std.specs.Io.KnownBytes.{Appends}
 use Rattle.cics_run.specs.Session.Lines.{completed, unfinished, last_line, all_lines}
 use Rattle.cics_run.specs.Session.Printing.{AppendsFront, Prints}
 use Rattle.cics_run.specs.Session.Running.{Form, Played, has_fault, next, play, start, stepped, journal_of, journal, whole, output, is_faulty}
+use Rattle.cics_run.specs.Stage.Amiss.{any_amiss}
 use Rattle.cics_run.specs.Stage.Stages.{region_of}
-use Rattle.cics_run.specs.Session.Standing.{next_step, next_text, Ran, Stands, Keeps, IsClosed, Closes, final_stage}
+use Rattle.cics_run.specs.Session.Standing.{next_step, next_text, Ran, Stands, Keeps, IsClosed, Closes, HasEnd}
 use Rattle.cics_run.specs.declared.stage.stage.Stage.{Stage}
 use Rattle.cics_run.specs.declared.stage.stage.Stage.TheVariants.{Running}
 use Rattle.cics_run.specs.declared.session.session.Session.{Session}
@@ -24,7 +25,8 @@ closed-empty form bytes before now s at empty =
     record {
       fault = ap has_fault same ∙ at.going;
       stage = ap (λ p. p.stage) same ∙ sym at.stage;
-      printed = subst (Prints before now [] s.pending.items) (sym (ap (journal_of form) same)) at.printed;
+      amiss = at.amiss ∙ sym (ap (λ p. p.is_amiss) same);
+      printed = subst (Prints before now [] s.journal.text.items) (sym (ap (journal_of form) same)) at.printed;
       kept = λ never. absurd (true≢false (sym never));
     }
 
@@ -39,20 +41,21 @@ module _ (form : Form) (bytes : List ℕ) (before old : Option (List ℕ)) (s : 
       let here : last_line (unfinished bytes) ≡ s.line.items ∷ [] = rw (← at.line) (last_line-some s.line.items some) in
       ap (λ l. play (completed bytes ++ l)) here ∙ fold-append next start (completed bytes) (s.line.items ∷ [])
       ∙ next-going (play (completed bytes)) s.line.items at.going
-      ∙ rw (at.number, at.stage) refl
+      ∙ rw at.stage refl
 
   journal-last : journal_of form (play (all_lines bytes)) ≡ journal form bytes ++ next_text s s.line.items
-  journal-last = ap (journal_of form) play-last ∙ rw at.shows (journal-stepped form (play (completed bytes)) s.line.items (next_step s s.line.items))
+  journal-last = ap (journal_of form) play-last ∙ rw (at.shows, at.number) (journal-stepped form (play (completed bytes)) s.line.items (next_step s s.line.items))
 
   pub closed-last : (now : Option (List ℕ)) (t : Session) (fault : Bool) → Ran s s.line.items t → t.line.items ≡ cond fault s.line.items [] → fault ≡ is_some t.fault
-      → Prints old now s.pending.items t.pending.items (next_text s s.line.items)
+      → Prints old now s.journal.text.items t.journal.text.items (next_text s s.line.items)
       → IsClosed form bytes before now t fault
   closed-last now t fault ran line is_fault text =
       record {
         fault = ap has_fault play-last ∙ sym (is_fault ∙ ap is_some ran.fault);
         stage = ap (λ p. p.stage) play-last ∙ sym ran.stage;
-        printed = subst (Prints before now [] t.pending.items) (sym journal-last)
-            (prints-prints before old now [] s.pending.items t.pending.items (journal form bytes) (next_text s s.line.items) at.printed text);
+        amiss = ran.amiss ∙ ap (λ b. b || any_amiss (next_step s s.line.items).events) at.amiss ∙ sym (ap (λ p. p.is_amiss) play-last);
+        printed = subst (Prints before now [] t.journal.text.items) (sym journal-last)
+            (prints-prints before old now [] s.journal.text.items t.journal.text.items (journal form bytes) (next_text s s.line.items) at.printed text);
         kept = λ is. record {
           line = line ∙ ap (λ b. cond b s.line.items []) is ∙ sym (ap (λ p. p.line) play-last);
           number = ran.number ∙ ap (λ n. n + 1) at.number ∙ sym (ap (λ p. p.number) play-last);
@@ -60,18 +63,18 @@ module _ (form : Form) (bytes : List ℕ) (before old : Option (List ℕ)) (s : 
         };
       }
 
-  front-last : (now : Option (List ℕ)) → AppendsFront old now (s.pending.items ++ next_text s s.line.items) → AppendsFront before now (journal_of form (play (all_lines bytes)))
+  front-last : (now : Option (List ℕ)) → AppendsFront old now (s.journal.text.items ++ next_text s s.line.items) → AppendsFront before now (journal_of form (play (all_lines bytes)))
   front-last now front =
       subst (AppendsFront before now) (sym journal-last)
-      (prints-front before old now [] s.pending.items (journal form bytes) (next_text s s.line.items) at.printed front)
+      (prints-front before old now [] s.journal.text.items (journal form bytes) (next_text s s.line.items) at.printed front)
 
   -- what running it gave
   pub closes-at : {E : Type 0} (now : Option (List ℕ)) (t : Session) (result : Result Bool E)
       → OnOk result (Ran s s.line.items t)
       → IfOk result (λ fault. t.line.items ≡ cond fault s.line.items [])
       → IfOk result (λ fault. fault ≡ is_some t.fault)
-      → OnOk result (Prints old now s.pending.items t.pending.items (next_text s s.line.items))
-      → OnErr result (AppendsFront old now (s.pending.items ++ next_text s s.line.items))
+      → OnOk result (Prints old now s.journal.text.items t.journal.text.items (next_text s s.line.items))
+      → OnErr result (AppendsFront old now (s.journal.text.items ++ next_text s s.line.items))
       → Closes form bytes before now t result
   closes-at now t (Ok fault) ran line is_fault text front = closed-last now t fault ran line is_fault text
   closes-at now t (Err e) ran line is_fault text front = front-last now front
@@ -87,7 +90,7 @@ whole-going : (form : Form) (p : Played) → has_fault p ≡ false → whole for
 whole-going form p going = let j = journal_of form p in subst (λ b. cond b j (j ++ form.ending p.stage) ≡ j ++ form.ending p.stage) (sym going) refl
 
 -- the last line was a fault, and nothing is pending
-pub fault-written : (form : Form) (bytes : List ℕ) (before now : Option (List ℕ)) (s : Session) → IsClosed form bytes before now s true → s.pending.items ≡ []
+pub fault-written : (form : Form) (bytes : List ℕ) (before now : Option (List ℕ)) (s : Session) → IsClosed form bytes before now s true → s.journal.text.items ≡ []
     → Appends before now (output form bytes) × (is_faulty bytes ≡ true) × Keeps s (play (all_lines bytes))
 fault-written form bytes before now s closed none =
     let p = play (all_lines bytes) in
@@ -103,19 +106,19 @@ output-going : (form : Form) (bytes : List ℕ) (stage : Stage) → has_fault (p
 output-going form bytes stage going same =
     whole-going form (play (all_lines bytes)) going ∙ ap (λ s. journal_of form (play (all_lines bytes)) ++ form.ending s) same
 
-pub end-written : (form : Form) (bytes : List ℕ) (before old now : Option (List ℕ)) (s : Session) (left : Stage) → IsClosed form bytes before old s false
-    → Appends old now (s.pending.items ++ form.ending s.stage) → left ≡ Running (region_of s.stage)
-    → Appends before now (output form bytes) × (is_faulty bytes ≡ false) × (left ≡ final_stage (play (all_lines bytes)))
-end-written form bytes before old now s left closed took opened =
+pub end-written : (form : Form) (bytes : List ℕ) (before old now : Option (List ℕ)) (s t : Session) → IsClosed form bytes before old s false
+    → Appends old now (s.journal.text.items ++ form.ending s.stage) → t.stage ≡ Running (region_of s.stage) → t.journal.is_amiss ≡ s.journal.is_amiss
+    → Appends before now (output form bytes) × (is_faulty bytes ≡ false) × HasEnd t (play (all_lines bytes))
+end-written form bytes before old now s t closed took opened same =
     let j = journal_of form (play (all_lines bytes)) in
-    let all = prints-prints before old now [] s.pending.items [] j (form.ending s.stage) closed.printed (prints-written old now s.pending.items (form.ending s.stage) took) in (
+    let all = prints-prints before old now [] s.journal.text.items [] j (form.ending s.stage) closed.printed (prints-written old now s.journal.text.items (form.ending s.stage) took) in (
       subst (Appends before now) (sym (output-going form bytes s.stage closed.fault closed.stage)) (prints-all before now [] (j ++ form.ending s.stage) all),
       closed.fault,
-      opened ∙ ap (λ stage. Running (region_of stage)) (sym closed.stage),
+      record { stage = opened ∙ ap (λ stage. Running (region_of stage)) (sym closed.stage); amiss = same ∙ closed.amiss },
     )
 
 pub end-front : (form : Form) (bytes : List ℕ) (before old now : Option (List ℕ)) (s : Session) → IsClosed form bytes before old s false
-    → AppendsFront old now (s.pending.items ++ form.ending s.stage) → AppendsFront before now (output form bytes)
+    → AppendsFront old now (s.journal.text.items ++ form.ending s.stage) → AppendsFront before now (output form bytes)
 end-front form bytes before old now s closed front =
     subst (AppendsFront before now) (sym (output-going form bytes s.stage closed.fault closed.stage))
-    (prints-front before old now [] s.pending.items (journal_of form (play (all_lines bytes))) (form.ending s.stage) closed.printed front)
+    (prints-front before old now [] s.journal.text.items (journal_of form (play (all_lines bytes))) (form.ending s.stage) closed.printed front)

@@ -7,7 +7,7 @@ use Rattle.std.specs.List.{fold, list_all}
 use Rattle.std.specs.Prelude.{not, if◌then◌else◌}
 use Rattle.std.specs.Io.BufRead.{strip_last}
 use Rattle.cics_run.specs.Session.Lines.{Pieces, pieces, with_first, completed, unfinished, last_line, all_lines, is_in_line}
-use Rattle.cics_run.specs.Stage.Journal.{script_line}
+use Rattle.cics_run.specs.Stage.Journal.{script_line, text_of}
 use Rattle.cics_run.specs.Stage.Stages.{step, Step}
 use Rattle.cics_run.specs.Session.Running.{Form, Played, has_fault, next, stepped, play, start, journal_of, journal, output, whole, is_faulty}
 use Rattle.cics_run.specs.Session.Printing.{IsFront}
@@ -77,24 +77,24 @@ front-trans a b c (m, e) (n, f) = (m ++ n, f ∙ ap (λ x. x ++ n) e ∙ append_
 
 -- what a line adds to the journal
 pub journal-stepped : (form : Form) (p : Played) (line : List ℕ) (s : Step)
-    → journal_of form (stepped p line s) ≡ journal_of form p ++ ((if form.with_script then script_line line else []) ++ s.text)
+    → journal_of form (stepped p line s) ≡ journal_of form p ++ ((if form.with_script then script_line line else []) ++ text_of (p.number + 1) s)
 journal-stepped form p line s = elim (cases_Bool form.with_script) [ inl shows ↦ rw shows refl | inr plain ↦ rw plain refl ]
 
 pub journal-start : (form : Form) → journal_of form start ≡ []
 journal-start form = elim (cases_Bool form.with_script) [ inl shows ↦ rw shows refl | inr plain ↦ rw plain refl ]
 
 pub next-fault : (p : Played) (line : List ℕ) → has_fault p ≡ true → next p line ≡ p
-next-fault p line fault = subst (λ b. cond b p (stepped p line (step (p.number + 1) p.stage line)) ≡ p) (sym fault) refl
+next-fault p line fault = subst (λ b. cond b p (stepped p line (step p.stage line)) ≡ p) (sym fault) refl
 
-pub next-going : (p : Played) (line : List ℕ) → has_fault p ≡ false → next p line ≡ stepped p line (step (p.number + 1) p.stage line)
-next-going p line going = let s = stepped p line (step (p.number + 1) p.stage line) in subst (λ b. cond b p s ≡ s) (sym going) refl
+pub next-going : (p : Played) (line : List ℕ) → has_fault p ≡ false → next p line ≡ stepped p line (step p.stage line)
+next-going p line going = let s = stepped p line (step p.stage line) in subst (λ b. cond b p s ≡ s) (sym going) refl
 
 -- one more line only adds to the journal
 journal-next : (form : Form) (p : Played) (line : List ℕ) → IsFront (journal_of form p) (journal_of form (next p line))
 journal-next form p line =
     elim (cases_Bool (has_fault p)) [
       | inl fault ↦ subst (λ q. IsFront (journal_of form p) (journal_of form q)) (sym (next-fault p line fault)) (front-whole (journal_of form p))
-      | inr none ↦ (_, ap (journal_of form) (next-going p line none) ∙ journal-stepped form p line (step (p.number + 1) p.stage line))
+      | inr none ↦ (_, ap (journal_of form) (next-going p line none) ∙ journal-stepped form p line (step p.stage line))
     ]
 
 pub journal-fold : (form : Form) (lines : List (List ℕ)) (p : Played) → IsFront (journal_of form p) (journal_of form (fold next p lines))

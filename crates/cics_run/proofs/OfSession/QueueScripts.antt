@@ -2,7 +2,7 @@
 use Rattle.std.proofs.Common.{◌∷◌, [], refl}
 use Rattle.std.specs.Fmt.{digits}
 use Rattle.cics_names.specs.Ebcdic.{code_of, character_of}
-use Rattle.cics_run.specs.Stage.Settling.{turn, settled}
+use Rattle.cics_dispatch.specs.Machine.Events.{turn, drained_within}
 use Rattle.cics_run.proofs.OfSession.Scripts.{Writes, replayed}
 use lib.Chars.{codes}
 
@@ -39,7 +39,7 @@ a_reader_of_a_queue_waits_for_the_commit : Writes replayed
     ∷ codes "  'one'"
     ∷ codes "  'two'"
     ∷ [])
-unfolding code_of character_of turn settled digits
+unfolding code_of character_of turn drained_within digits
 a_reader_of_a_queue_waits_for_the_commit = refl
 
 -- an item that was rewritten comes back, and the place of the next item stays where a read has put it
@@ -76,7 +76,7 @@ an_item_that_was_rewritten_comes_back : Writes replayed
     ∷ codes "  'one'"
     ∷ codes "  'two'"
     ∷ [])
-unfolding code_of character_of turn settled digits
+unfolding code_of character_of turn drained_within digits
 an_item_that_was_rewritten_comes_back = refl
 
 -- a generic delete counts its records and holds all keys that begin so; its rollback brings the records back
@@ -110,7 +110,7 @@ a_generic_delete_is_rolled_back : Writes replayed
     ∷ codes "FILE 'ACCT' RECOVERABLE RECORDS 1"
     ∷ codes "  '0021c'"
     ∷ [])
-unfolding code_of character_of turn settled digits
+unfolding code_of character_of turn drained_within digits
 a_generic_delete_is_rolled_back = refl
 
 -- a shutdown rolls back the open units, also of the task that waits, and from then on all is refused
@@ -145,5 +145,5 @@ a_shutdown_ends_all_and_refuses_all : Writes replayed
     ∷ codes "FILE 'ACCT' RECOVERABLE RECORDS 1"
     ∷ codes "  '0001a'"
     ∷ [])
-unfolding code_of character_of turn settled digits
+unfolding code_of character_of turn drained_within digits
 a_shutdown_ends_all_and_refuses_all = refl

@@ -76,7 +76,7 @@ stopped-keeps form bytes input rest before now s read stop =
 
 -- a run that came to the input's end keeps its final region, or the last line, where that is a fault
 pub ended-keeps : (form : Form) (bytes : List ℕ) (input rest before now : Option (List ℕ)) (s : Session) (answer : Result Status Stop) → Consumes input rest bytes → Finishes form bytes before now s answer → KeepsEnd input rest s (ended answer)
-ended-keeps form bytes input rest before now s (Ok status.Done) read (wrote, going, stage) = (bytes, read, going, stage)
+ended-keeps form bytes input rest before now s (Ok status.Done) read (wrote, going, end) = (bytes, read, going, end)
 ended-keeps form bytes input rest before now s (Ok status.LineFault) read (wrote, faulty, kept) = (bytes, read, faulty, kept)
 ended-keeps form bytes input rest before now s (Err stops.NoMemory) read end = tt
 ended-keeps form bytes input rest before now s (Err stops.WriteFault) read end = tt
@@ -89,12 +89,13 @@ stands-new form now s new =
       number = new.number;
       line = new.line;
       going = refl;
+      amiss = new.calm;
       shows = refl;
       printed = rw (new.pending, journal-start form) (prints-nothing now []);
     }
 
 -- where nothing is pending, the journal is written
-pub all-written : (form : Form) (bytes : List ℕ) (before now : Option (List ℕ)) (s : Session) → Stands form bytes before now s → s.pending.items ≡ [] → Appends before now (journal form bytes)
+pub all-written : (form : Form) (bytes : List ℕ) (before now : Option (List ℕ)) (s : Session) → Stands form bytes before now s → s.journal.text.items ≡ [] → Appends before now (journal form bytes)
 all-written form bytes before now s at none = prints-all before now [] (journal form bytes) (subst (λ x. Prints before now [] x (journal form bytes)) none at.printed)
 
 -- one chunk more

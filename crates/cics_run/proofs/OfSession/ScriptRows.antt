@@ -4,7 +4,7 @@ use Rattle.std.specs.Fmt.{digits}
 use Rattle.cics_names.specs.Ebcdic.{code_of, character_of}
 use Rattle.cics_run.specs.Stage.Journal.{line}
 use Rattle.cics_run.specs.Session.Running.{output}
-use Rattle.cics_run.specs.Stage.Settling.{turn, settled}
+use Rattle.cics_dispatch.specs.Machine.Events.{turn, drained_within}
 use Rattle.cics_run.proofs.OfSession.Scripts.{Writes, listed, replayed, with_script}
 use lib.Chars.{codes}
 
@@ -32,7 +32,7 @@ keys_come_in_the_order_of_their_codes : Writes listed
     ∷ codes "  '0'"
     ∷ codes "TASK T1 IDLE"
     ∷ [])
-unfolding code_of character_of turn settled digits
+unfolding code_of character_of turn drained_within digits
 keys_come_in_the_order_of_their_codes = refl
 
 -- a record that was rewritten twice comes back whole
@@ -62,7 +62,7 @@ two_rewrites_are_rolled_back : Writes listed
     ∷ codes "TASK T1 IDLE"
     ∷ codes "TASK T2 IDLE"
     ∷ [])
-unfolding code_of character_of turn settled digits
+unfolding code_of character_of turn drained_within digits
 two_rewrites_are_rolled_back = refl
 
 -- of two units side by side one is rolled back, and the other's change stays
@@ -96,7 +96,7 @@ one_unit_of_two_is_rolled_back : Writes listed
     ∷ codes "TASK T1 IDLE"
     ∷ codes "TASK T2 IDLE"
     ∷ [])
-unfolding code_of character_of turn settled digits
+unfolding code_of character_of turn drained_within digits
 one_unit_of_two_is_rolled_back = refl
 
 -- a deadlock ends when the time of the first waiting task is over
@@ -130,7 +130,7 @@ a_deadlock_ends_by_time_out : Writes listed
     ∷ codes "FILE 'ACCT' RECOVERABLE RECORDS 0"
     ∷ codes "FILE 'LOG' UNRECOVERABLE RECORDS 0"
     ∷ [])
-unfolding code_of character_of turn settled digits
+unfolding code_of character_of turn drained_within digits
 a_deadlock_ends_by_time_out = refl
 
 -- a waiting command goes on when the unit it waits for is rolled back, and the replay is the listing's files
@@ -161,7 +161,7 @@ the_replay_leaves_out_what_was_rolled_back : Writes replayed
     ∷ codes "  '0001aa'"
     ∷ codes "FILE 'LOG' UNRECOVERABLE RECORDS 0"
     ∷ [])
-unfolding code_of character_of turn settled digits
+unfolding code_of character_of turn drained_within digits
 the_replay_leaves_out_what_was_rolled_back = refl
 
 -- a browse goes by its position, whatever another task deletes and writes meanwhile
@@ -197,7 +197,7 @@ a_browse_goes_by_its_position : Writes listed
     ∷ codes "TASK T1 IDLE"
     ∷ codes "TASK T2 OPEN"
     ∷ [])
-unfolding code_of character_of turn settled digits
+unfolding code_of character_of turn drained_within digits
 a_browse_goes_by_its_position = refl
 
 -- events that are refused
@@ -228,7 +228,7 @@ what_is_refused_changes_nothing : Writes listed
     ∷ codes "FILE 'LOG' UNRECOVERABLE RECORDS 0"
     ∷ codes "TASK T2 IDLE"
     ∷ [])
-unfolding code_of character_of turn settled digits
+unfolding code_of character_of turn drained_within digits
 what_is_refused_changes_nothing = refl
 
 -- a line that lacks an option
@@ -238,12 +238,12 @@ an_option_is_missing : Writes listed
     ∷ [])
     (codes "LINE 2 FAULT 6 MissingOption"
     ∷ [])
-unfolding code_of character_of turn settled digits
+unfolding code_of character_of turn drained_within digits
 an_option_is_missing = refl
 
 -- a literal without its closing quote
 a_literal_does_not_end : output listed (codes "ATTACH T1 TRANSID('AB") ≡ line (codes "LINE 1 FAULT 4 BadLiteral")
-unfolding code_of character_of turn settled digits
+unfolding code_of character_of turn drained_within digits
 a_literal_does_not_end = refl
 
 -- a definition whose key has no byte
@@ -252,7 +252,7 @@ a_key_of_no_byte : Writes listed
     ∷ [])
     (codes "LINE 1 DEFINE 2 BadKey"
     ∷ [])
-unfolding code_of character_of turn settled digits
+unfolding code_of character_of turn drained_within digits
 a_key_of_no_byte = refl
 
 -- each line of the script stands in front of what it led to, blank lines and definitions too, without its CR; behind a fault there is none
@@ -273,5 +273,5 @@ a_script_beside_its_journal : Writes with_script
     ∷ codes "> HELLO"
     ∷ codes "LINE 5 FAULT 3 UnknownWord"
     ∷ [])
-unfolding code_of character_of turn settled digits
+unfolding code_of character_of turn drained_within digits
 a_script_beside_its_journal = refl

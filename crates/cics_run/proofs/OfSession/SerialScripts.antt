@@ -2,7 +2,7 @@
 use Rattle.std.proofs.Common.{◌∷◌, [], refl}
 use Rattle.std.specs.Fmt.{digits}
 use Rattle.cics_names.specs.Ebcdic.{code_of, character_of}
-use Rattle.cics_run.specs.Stage.Settling.{turn, settled}
+use Rattle.cics_dispatch.specs.Machine.Events.{turn, drained_within}
 use Rattle.cics_run.proofs.OfSession.Scripts.{Writes, listed}
 use lib.Chars.{codes}
 
@@ -35,5 +35,5 @@ the_serial_run_is_a_script : Writes listed
     ∷ codes "TASK U1 IDLE"
     ∷ codes "TASK U0 IDLE"
     ∷ [])
-unfolding code_of character_of turn settled digits
+unfolding code_of character_of turn drained_within digits
 the_serial_run_is_a_script = refl

@@ -4,11 +4,12 @@ use Rattle.std.proofs.lemmas.Bool.{cases_Bool, eqb-true}
 use Rattle.std.proofs.lemmas.List.{map-append}
 use Rattle.std.proofs.Math.Numerals.{one-add}
 use Rattle.std.proofs.lemmas.List.Sums.{fold-append}
-use Rattle.std.specs.Prelude.{is_some}
+use Rattle.std.specs.Prelude.{is_some, ◌||◌}
 use Rattle.std.specs.Global.{Vec}
 use Rattle.std.specs.List.{list_all, prefix_len}
 use Rattle.std.specs.Io.BufRead.{strip_last}
 use Rattle.std.specs.Io.KnownBytes.{Appends}
+use Rattle.cics_run.specs.Stage.Amiss.{any_amiss}
 use Rattle.cics_run.specs.Session.Lines.{pieces, completed, unfinished, is_in_line}
 use Rattle.cics_run.specs.Session.Printing.{AppendsFront, Prints}
 use Rattle.cics_run.specs.Session.Running.{Form, has_fault, next, play, start, stepped, journal_of, journal}
@@ -29,27 +30,28 @@ play-lf : (form : Form) (bytes : List ℕ) (before now : Option (List ℕ)) (s :
 play-lf form bytes before now s at =
     ap play (completed-lf bytes) ∙ fold-append next start (completed bytes) (strip_last 13 (unfinished bytes) ∷ [])
     ∙ next-going (play (completed bytes)) (strip_last 13 (unfinished bytes)) at.going
-    ∙ rw (at.number, at.stage, at.line) refl
+    ∙ rw (at.stage, at.line) refl
 
 -- the journal up to that line
 journal-lf : (form : Form) (bytes : List ℕ) (before now : Option (List ℕ)) (s : Session) → Stands form bytes before now s
     → journal form (bytes ++ 10 ∷ []) ≡ journal form bytes ++ next_text s (ended_line s)
 journal-lf form bytes before now s at =
     ap (journal_of form) (play-lf form bytes before now s at)
-    ∙ rw at.shows (journal-stepped form (play (completed bytes)) (ended_line s) (next_step s (ended_line s)))
+    ∙ rw (at.shows, at.number) (journal-stepped form (play (completed bytes)) (ended_line s) (next_step s (ended_line s)))
 
 pub stands-bytes : (form : Form) (bytes more : List ℕ) (before now : Option (List ℕ)) (s t : Session) → list_all is_in_line more ≡ true → Stands form bytes before now s
-    → t.stage ≡ s.stage → t.number ≡ s.number → t.line.items ≡ s.line.items ++ more → t.pending.items ≡ s.pending.items → t.with_script ≡ s.with_script
+    → t.stage ≡ s.stage → t.number ≡ s.number → t.line.items ≡ s.line.items ++ more → t.journal.text.items ≡ s.journal.text.items → t.journal.is_amiss ≡ s.journal.is_amiss → t.with_script ≡ s.with_script
     → Stands form (bytes ++ more) before now t
-stands-bytes form bytes more before now s t all at stage number line pending shows =
+stands-bytes form bytes more before now s t all at stage number line pending amiss shows =
     let same : play (completed (bytes ++ more)) ≡ play (completed bytes) = ap play (completed-bytes bytes more all) in
     record {
       stage = stage ∙ at.stage ∙ sym (ap (λ p. p.stage) same);
       number = number ∙ at.number ∙ sym (ap (λ p. p.number) same);
       line = line ∙ ap (λ x. x ++ more) at.line ∙ sym (ap (λ p. p.1) (pieces-bytes bytes more all));
       going = ap has_fault same ∙ at.going;
+      amiss = amiss ∙ at.amiss ∙ sym (ap (λ p. p.is_amiss) same);
       shows = shows ∙ at.shows;
-      printed = subst (λ j. Prints before now [] t.pending.items j) (sym (ap (journal_of form) same)) (subst (λ x. Prints before now [] x (journal form bytes)) (sym pending) at.printed);
+      printed = subst (λ j. Prints before now [] t.journal.text.items j) (sym (ap (journal_of form) same)) (subst (λ x. Prints before now [] x (journal form bytes)) (sym pending) at.printed);
     }
 
 -- A session runs its line without the CR right before the LF: this is what it does next.
@@ -60,28 +62,29 @@ module _ (s : Session) (line : Vec ℕ) (cut : line.items ≡ ended_line s) (t :
         stage = ran.stage ∙ ap (λ l. (next_step s l).stage) cut;
         number = ran.number;
         fault = ran.fault ∙ ap (λ l. (next_step s l).fault) cut;
+        amiss = ran.amiss ∙ ap (λ l. s.journal.is_amiss || any_amiss (next_step s l).events) cut;
         shows = ran.shows;
       }
 
-  pub prints-cut : (old now : Option (List ℕ)) (left : List ℕ) → Prints old now s.pending.items left (next_text (record s { line = line }) line.items)
-      → Prints old now s.pending.items left (next_text s (ended_line s))
-  prints-cut old now left = subst (λ l. Prints old now s.pending.items left (next_text s l)) cut
+  pub prints-cut : (old now : Option (List ℕ)) (left : List ℕ) → Prints old now s.journal.text.items left (next_text (record s { line = line }) line.items)
+      → Prints old now s.journal.text.items left (next_text s (ended_line s))
+  prints-cut old now left = subst (λ l. Prints old now s.journal.text.items left (next_text s l)) cut
 
-  pub front-cut : (old now : Option (List ℕ)) → AppendsFront old now (s.pending.items ++ next_text (record s { line = line }) line.items)
-      → AppendsFront old now (s.pending.items ++ next_text s (ended_line s))
-  front-cut old now = subst (λ l. AppendsFront old now (s.pending.items ++ next_text s l)) cut
+  pub front-cut : (old now : Option (List ℕ)) → AppendsFront old now (s.journal.text.items ++ next_text (record s { line = line }) line.items)
+      → AppendsFront old now (s.journal.text.items ++ next_text s (ended_line s))
+  front-cut old now = subst (λ l. AppendsFront old now (s.journal.text.items ++ next_text s l)) cut
 
 -- what a session has printed that ran a line more
 printed-line : (form : Form) (bytes : List ℕ) (before old now : Option (List ℕ)) (s t : Session) → Stands form bytes before old s
-    → Prints old now s.pending.items t.pending.items (next_text s (ended_line s))
-    → Prints before now [] t.pending.items (journal form (bytes ++ 10 ∷ []))
+    → Prints old now s.journal.text.items t.journal.text.items (next_text s (ended_line s))
+    → Prints before now [] t.journal.text.items (journal form (bytes ++ 10 ∷ []))
 printed-line form bytes before old now s t at text =
-    subst (Prints before now [] t.pending.items) (sym (journal-lf form bytes before old s at))
-    (prints-prints _ _ _ [] s.pending.items t.pending.items (journal form bytes) (next_text s (ended_line s)) at.printed text)
+    subst (Prints before now [] t.journal.text.items) (sym (journal-lf form bytes before old s at))
+    (prints-prints _ _ _ [] s.journal.text.items t.journal.text.items (journal form bytes) (next_text s (ended_line s)) at.printed text)
 
 pub stands-line : (form : Form) (bytes : List ℕ) (before old now : Option (List ℕ)) (s t : Session) → Stands form bytes before old s
     → Ran s (ended_line s) t → t.line.items ≡ []
-    → Prints old now s.pending.items t.pending.items (next_text s (ended_line s))
+    → Prints old now s.journal.text.items t.journal.text.items (next_text s (ended_line s))
     → false ≡ is_some t.fault
     → Stands form (bytes ++ 10 ∷ []) before now t
 stands-line form bytes before old now s t at ran line text going =
@@ -91,6 +94,7 @@ stands-line form bytes before old now s t at ran line text going =
       number = ran.number ∙ ap (λ n. n + 1) at.number ∙ sym (ap (λ p. p.number) after);
       line = line ∙ sym (ap (λ p. p.1) (pieces-lf bytes));
       going = ap has_fault after ∙ sym (going ∙ ap is_some ran.fault);
+      amiss = ran.amiss ∙ ap (λ b. b || any_amiss (next_step s (ended_line s)).events) at.amiss ∙ sym (ap (λ p. p.is_amiss) after);
       shows = ran.shows ∙ at.shows;
       printed = printed-line form bytes before old now s t at text;
     }
@@ -108,7 +112,7 @@ keeps-line form bytes before old s t at ran line =
 
 pub stopped-line : (form : Form) (bytes more : List ℕ) (before old now : Option (List ℕ)) (s t : Session) → Stands form bytes before old s
     → Ran s (ended_line s) t → t.line.items ≡ ended_line s
-    → Prints old now s.pending.items t.pending.items (next_text s (ended_line s)) → t.pending.items ≡ []
+    → Prints old now s.journal.text.items t.journal.text.items (next_text s (ended_line s)) → t.journal.text.items ≡ []
     → true ≡ is_some t.fault
     → Stopped form ((bytes ++ 10 ∷ []) ++ more) before now t
 stopped-line form bytes more before old now s t at ran line text none fault =
@@ -125,16 +129,16 @@ stopped-line form bytes more before old now s t at ran line text none fault =
 
 -- a line of whose text the writer took a front
 pub front-line : (form : Form) (bytes more : List ℕ) (before old now : Option (List ℕ)) (s : Session) → Stands form bytes before old s
-    → AppendsFront old now (s.pending.items ++ next_text s (ended_line s))
+    → AppendsFront old now (s.journal.text.items ++ next_text s (ended_line s))
     → AppendsFront before now (journal form ((bytes ++ 10 ∷ []) ++ more))
 front-line form bytes more before old now s at front =
     front-longer before now (journal form (bytes ++ 10 ∷ [])) (journal form ((bytes ++ 10 ∷ []) ++ more)) (journal-front form (bytes ++ 10 ∷ []) more)
-    (subst (AppendsFront before now) (sym (journal-lf form bytes before old s at)) (prints-front before old now [] s.pending.items (journal form bytes) (next_text s (ended_line s)) at.printed front))
+    (subst (AppendsFront before now) (sym (journal-lf form bytes before old s at)) (prints-front before old now [] s.journal.text.items (journal form bytes) (next_text s (ended_line s)) at.printed front))
 
 -- no more was written
 pub front-here : (form : Form) (bytes more : List ℕ) (before now : Option (List ℕ)) (s : Session) → Stands form bytes before now s → AppendsFront before now (journal form (bytes ++ more))
 front-here form bytes more before now s at =
-    front-longer before now (journal form bytes) (journal form (bytes ++ more)) (journal-front form bytes more) (prints-part before now [] s.pending.items (journal form bytes) at.printed)
+    front-longer before now (journal form bytes) (journal form (bytes ++ more)) (journal-front form bytes more) (prints-part before now [] s.journal.text.items (journal form bytes) at.printed)
 
 -- the bytes before an LF, and what follows them: an LF, if anything
 in-front : (bytes : List ℕ) → list_all is_in_line (take (prefix_len is_in_line bytes) bytes) ≡ true

@@ -1,9 +1,10 @@
 -- What a run of a script writes.
-use Rattle.std.specs.Prelude.{◌≡◌, ℕ, Bool, true, false, ◌+◌, ◌≤◌, ◌⊎◌, if◌then◌else◌, List, [], ◌++◌, length, take, Option, None, is_some, Result, Ok, Err}
+use Rattle.std.specs.Prelude.{◌≡◌, ℕ, Bool, true, false, ◌||◌, ◌+◌, ◌≤◌, ◌⊎◌, if◌then◌else◌, List, [], ◌++◌, length, take, Option, None, is_some, Result, Ok, Err}
 use Rattle.std.specs.List.{fold}
 use Rattle.std.specs.Io.KnownBytes.{Appends, Consumes, IsAtEnd}
 use Rattle.cics_run.specs.Session.Lines.{completed, all_lines}
-use Rattle.cics_run.specs.Stage.Journal.{script_line}
+use Rattle.cics_run.specs.Stage.Amiss.{any_amiss}
+use Rattle.cics_run.specs.Stage.Journal.{script_line, text_of}
 use Rattle.cics_run.specs.Stage.Stages.{step, Step, initial_stage, listing_at, replay_at}
 use Rattle.cics_run.specs.Session.Printing.{AppendsFront}
 use Rattle.cics_run.specs.Session.Streams.{Tells}
@@ -16,36 +17,39 @@ use Rattle.cics_run.specs.declared.session.running.RunFault.{RunFault}
 use Rattle.cics_run.specs.declared.session.running.RunFault.TheVariants as faults
 use Rattle.cics_run.specs.declared.session.running.Options.{Options}
 
--- the state after some lines: the stage, their number, the last of them, and its fault, if any. The
--- journal is there twice, once with each line in front of its journal lines
+-- The state after some lines: the stage, their number, the last of them, its fault, if any, and
+-- whether an event was amiss. The journal is there twice, once with each line in front of its
+-- journal lines.
 pub record Played : Type 0 where
   pub stage : Stage
   pub number : ℕ
   pub line : List ℕ
   pub journal : List ℕ
   pub shown : List ℕ
+  pub is_amiss : Bool
   pub fault : Option Fault
 
 -- whether the last line was a fault
 abbrev pub has_fault : Played → Bool
 has_fault p = is_some p.fault
 
--- a line was run: its text is printed behind the journal so far, and the line itself in front of
--- its text
+-- A line was run: its journal lines stand behind the journal so far, and the line itself in front
+-- of them. Lines are numbered from 1.
 abbrev pub stepped : Played → List ℕ → Step → Played
 stepped p line s =
     record {
       stage = s.stage;
       number = p.number + 1;
       line = line;
-      journal = p.journal ++ s.text;
-      shown = p.shown ++ (script_line line ++ s.text);
+      journal = p.journal ++ text_of (p.number + 1) s;
+      shown = p.shown ++ (script_line line ++ text_of (p.number + 1) s);
+      is_amiss = p.is_amiss || any_amiss s.events;
       fault = s.fault;
     }
 
--- One line more. Lines are numbered from 1, and behind a fault no line counts.
+-- one line more; behind a fault no line counts
 abbrev pub next : Played → List ℕ → Played
-next p line = if has_fault p then p else stepped p line (step (p.number + 1) p.stage line)
+next p line = if has_fault p then p else stepped p line (step p.stage line)
 
 -- how many bytes a script may have
 abbrev pub most_bytes : ℕ
@@ -53,7 +57,7 @@ most_bytes = 16777216
 
 -- before the first line
 abbrev pub start : Played
-start = record { stage = initial_stage; number = 0; line = []; journal = []; shown = []; fault = None }
+start = record { stage = initial_stage; number = 0; line = []; journal = []; shown = []; is_amiss = false; fault = None }
 
 -- some lines, in their order
 abbrev pub play : List (List ℕ) → Played

@@ -1,9 +1,10 @@
 -- Where a session stands after some bytes of a script.
-use Rattle.std.specs.Prelude.{◌≡◌, ℕ, Bool, true, false, ◌+◌, if◌then◌else◌, List, [], ◌++◌, Option, None, Result, MatchResult, Ok, Err, ⊤}
+use Rattle.std.specs.Prelude.{◌≡◌, ℕ, Bool, true, false, ◌||◌, ◌+◌, if◌then◌else◌, List, [], ◌++◌, Option, None, Result, MatchResult, Ok, Err, ⊤}
 use Rattle.std.specs.Io.BufRead.{strip_last}
 use Rattle.std.specs.Io.KnownBytes.{Appends, Consumes}
 use Rattle.cics_run.specs.Session.Lines.{completed, unfinished, all_lines}
-use Rattle.cics_run.specs.Stage.Journal.{script_line}
+use Rattle.cics_run.specs.Stage.Amiss.{any_amiss}
+use Rattle.cics_run.specs.Stage.Journal.{script_line, text_of}
 use Rattle.cics_run.specs.Stage.Stages.{step, Step, initial_stage, region_of}
 use Rattle.cics_run.specs.Session.Running.{Form, Played, play, has_fault, journal_of, journal, output, is_faulty}
 use Rattle.cics_run.specs.Session.Printing.{AppendsFront, Prints}
@@ -22,23 +23,25 @@ pub record IsNew (s : Session) : Type 0 where
   pub stage : s.stage ≡ initial_stage
   pub number : s.number ≡ 0
   pub line : s.line.items ≡ []
-  pub pending : s.pending.items ≡ []
+  pub pending : s.journal.text.items ≡ []
+  pub calm : s.journal.is_amiss ≡ false
   pub fault : s.fault ≡ None
 
 -- the step of a line that a session runs next
 abbrev pub next_step : Session → List ℕ → Step
-next_step s line = step (s.number + 1) s.stage line
+next_step s line = step s.stage line
 
 -- what is printed of that line: its bytes, if the script is printed, and behind them its journal
 -- lines
 abbrev pub next_text : Session → List ℕ → List ℕ
-next_text s line = (if s.with_script then script_line line else []) ++ (next_step s line).text
+next_text s line = (if s.with_script then script_line line else []) ++ text_of (s.number + 1) (next_step s line)
 
 -- A session ran a line more.
 pub record Ran (s : Session) (line : List ℕ) (t : Session) : Type 0 where
   pub stage : t.stage ≡ (next_step s line).stage
   pub number : t.number ≡ s.number + 1
   pub fault : t.fault ≡ (next_step s line).fault
+  pub amiss : t.journal.is_amiss ≡ (s.journal.is_amiss || any_amiss (next_step s line).events)
   pub shows : t.with_script ≡ s.with_script
 
 -- the line whose LF comes next
@@ -51,8 +54,9 @@ pub record Stands (form : Form) (bytes : List ℕ) (before now : Option (List �
   pub number : session.number ≡ (play (completed bytes)).number
   pub line : session.line.items ≡ unfinished bytes
   pub going : has_fault (play (completed bytes)) ≡ false
+  pub amiss : session.journal.is_amiss ≡ (play (completed bytes)).is_amiss
   pub shows : session.with_script ≡ form.with_script
-  pub printed : Prints before now [] session.pending.items (journal form bytes)
+  pub printed : Prints before now [] session.journal.text.items (journal form bytes)
 
 -- a call leads to this from each state of its session, after whatever bytes
 abbrev pub WhereverStands : Form → Option (List ℕ) → Session → (List ℕ → Option (List ℕ) → Type 0) → Type 0
@@ -90,7 +94,8 @@ Writes form bytes before now session result =
 pub record IsClosed (form : Form) (bytes : List ℕ) (before now : Option (List ℕ)) (session : Session) (is_fault : Bool) : Type 0 where
   pub fault : has_fault (play (all_lines bytes)) ≡ is_fault
   pub stage : (play (all_lines bytes)).stage ≡ session.stage
-  pub printed : Prints before now [] session.pending.items (journal_of form (play (all_lines bytes)))
+  pub amiss : session.journal.is_amiss ≡ (play (all_lines bytes)).is_amiss
+  pub printed : Prints before now [] session.journal.text.items (journal_of form (play (all_lines bytes)))
   pub kept : is_fault ≡ true → Keeps session (play (all_lines bytes))
 
 -- the last line was run, if it lacks its LF
@@ -102,19 +107,25 @@ Closes form bytes before now session result =
 abbrev pub final_stage : Played → Stage
 final_stage p = Running (region_of p.stage)
 
+-- A session has the region in which these lines end, and knows whether one of their events was
+-- amiss.
+pub record HasEnd (session : Session) (p : Played) : Type 0 where
+  pub stage : session.stage ≡ final_stage p
+  pub amiss : session.journal.is_amiss ≡ p.is_amiss
+
 -- the input's end came
 abbrev pub Finishes : {E : Type 0} → Form → List ℕ → Option (List ℕ) → Option (List ℕ) → Session → Result Status E → Type 0
 Finishes form bytes before now session (Ok status.Done) =
-    Appends before now (output form bytes) × (is_faulty bytes ≡ false) × (session.stage ≡ final_stage (play (all_lines bytes)))
+    Appends before now (output form bytes) × (is_faulty bytes ≡ false) × HasEnd session (play (all_lines bytes))
 Finishes form bytes before now session (Ok status.LineFault) =
     Appends before now (output form bytes) × (is_faulty bytes ≡ true) × Keeps session (play (all_lines bytes))
 Finishes form bytes before now session (Err e) = AppendsFront before now (output form bytes)
 
--- What a run over some bytes leaves in its session: the region in which their lines end, or the
--- line that has a fault.
+-- What a run over some bytes leaves in its session: the end of their lines, or the line that has a
+-- fault.
 abbrev pub KeepsEnd : Option (List ℕ) → Option (List ℕ) → Session → Result Status RunFault → Type 0
 KeepsEnd input rest session (Ok status.Done) =
-    (bytes : List ℕ) × Consumes input rest bytes × (is_faulty bytes ≡ false) × (session.stage ≡ final_stage (play (all_lines bytes)))
+    (bytes : List ℕ) × Consumes input rest bytes × (is_faulty bytes ≡ false) × HasEnd session (play (all_lines bytes))
 KeepsEnd input rest session (Ok status.LineFault) =
     (bytes : List ℕ) × Consumes input rest bytes × (is_faulty bytes ≡ true) × Keeps session (play (all_lines bytes))
 KeepsEnd input rest session _ = ⊤

@@ -1,6 +1,7 @@
 -- The lines of the journal: what each event prints.
 use Rattle.std.specs.Prelude.{ℕ, List, [], ◌∷◌, ◌++◌, Option, Some, None, codes}
 use Rattle.std.specs.Fmt.{decimal}
+use Rattle.std.specs.List.{flat_map}
 use Rattle.cics_names.specs.Conditions.{number_of, title_of}
 use Rattle.cics_names.specs.declared.conditions.Condition.{Condition}
 use Rattle.cics_names.specs.declared.conditions.AbendCode.{AbendCode}
@@ -10,16 +11,21 @@ use Rattle.cics_dispatch.specs.declared.machine.outcomes.Number.TheVariants.{Ite
 use Rattle.cics_dispatch.specs.declared.machine.outcomes.Reply.{Reply}
 use Rattle.cics_dispatch.specs.declared.machine.outcomes.Outcome.{Outcome}
 use Rattle.cics_dispatch.specs.declared.machine.outcomes.Outcome.TheVariants.{Replied, Waiting, Abended, Ended}
-use Rattle.cics_dispatch.specs.declared.machine.outcomes.Woken.{Woken}
-use Rattle.cics_dispatch.specs.declared.machine.outcomes.Expired.{Expired}
+use Rattle.cics_dispatch.specs.declared.machine.events.Subject.{Subject}
+use Rattle.cics_dispatch.specs.declared.machine.events.Subject.TheVariants as subject
+use Rattle.cics_dispatch.specs.declared.machine.events.Event.{Event}
+use Rattle.cics_dispatch.specs.declared.machine.events.Event.TheVariants as event
 use Rattle.cics_dispatch.specs.declared.machine.outcomes.Refused.{Refused}
 use Rattle.cics_dispatch.specs.declared.machine.outcomes.Refused.TheVariants as refused
 use Rattle.cics_units.specs.Opening.Faults.{fault_number}
 use Rattle.cics_units.specs.declared.opening.opening.DefineFault.{DefineFault}
 use Rattle.cics_units.specs.declared.opening.opening.DefineFault.TheVariants as define
 use Rattle.cics_script.specs.Faults as script
-use Rattle.cics_script.specs.declared.faults.LineFault.{LineFault}
-use Rattle.cics_script.specs.Texts.{text_of, name_text, bare}
+use Rattle.cics_script.specs.Texts as texts
+use Rattle.cics_script.specs.Texts.{name_text, bare}
+use Rattle.cics_run.specs.Stage.Stages.{Step}
+use Rattle.cics_run.specs.declared.stage.stage.Fault.{Fault}
+use Rattle.cics_run.specs.declared.stage.stage.Fault.TheVariants as faults
 
 -- a line of the journal ends with LF
 abbrev pub line : List ℕ → List ℕ
@@ -40,7 +46,7 @@ condition_text condition = title_of condition ++ (codes " " ++ decimal (number_o
 -- a key or a content, if a reply has it
 abbrev pub part : List ℕ → Option (List ℕ) → List ℕ
 part title None = []
-part title (Some bytes) = title ++ text_of bytes
+part title (Some bytes) = title ++ texts.text_of bytes
 
 -- a number, if a reply has it
 abbrev pub number_part : Option Number → List ℕ
@@ -66,30 +72,6 @@ outcome_text (Waiting holder) = codes "WAITING " ++ bare holder
 outcome_text (Abended code reply) = abend_text code reply
 outcome_text Ended = codes "ENDED"
 
--- a line that begins with a task's label
-abbrev pub task_line : List ℕ → List ℕ → List ℕ
-task_line label text = line (bare label ++ (codes " " ++ text))
-
--- a task was attached
-abbrev pub attached_line : List ℕ → List ℕ → List ℕ
-attached_line label transaction = task_line label (codes "ATTACHED " ++ name_text transaction)
-
--- a command was issued
-abbrev pub outcome_line : List ℕ → Outcome → List ℕ
-outcome_line label outcome = task_line label (outcome_text outcome)
-
--- a waiting command resumed
-abbrev pub woken_line : Woken → List ℕ
-woken_line woken = task_line woken.label (codes "WOKEN " ++ outcome_text woken.outcome)
-
--- a task had waited too long
-abbrev pub expired_line : Expired → List ℕ
-expired_line expired = task_line expired.label (abend_text expired.code None)
-
--- the clock was set
-abbrev pub clock_line : ℕ → List ℕ
-clock_line now = line (codes "CLOCK " ++ decimal now)
-
 -- the names of the refusals
 abbrev pub refusal_title : Refused → List ℕ
 refusal_title refused.NoMemory = codes "NoMemory"
@@ -104,21 +86,29 @@ refusal_title refused.RegionDown = codes "RegionDown"
 abbrev pub refusal_text : Refused → List ℕ
 refusal_text refusal = codes "REFUSED " ++ numbered (refusal_number refusal) (refusal_title refusal)
 
--- an attach or a command was refused
-abbrev pub refused_line : List ℕ → Refused → List ℕ
-refused_line label refusal = task_line label (refusal_text refusal)
+-- whom a refused request was for
+abbrev pub subject_text : Subject → List ℕ
+subject_text (subject.Task label) = bare label
+subject_text subject.Clock = codes "CLOCK"
+subject_text subject.Shutdown = codes "SHUTDOWN"
 
--- a setting of the clock was refused
-abbrev pub clock_refused_line : Refused → List ℕ
-clock_refused_line refusal = line (codes "CLOCK " ++ refusal_text refusal)
+-- an event
+abbrev pub event_text : Event → List ℕ
+event_text (event.Attached label transaction) = bare label ++ (codes " ATTACHED " ++ name_text transaction)
+event_text (event.Issued label outcome) = bare label ++ (codes " " ++ outcome_text outcome)
+event_text (event.Woken w) = bare w.label ++ (codes " WOKEN " ++ outcome_text w.outcome)
+event_text (event.Expired e) = bare e.label ++ (codes " " ++ abend_text e.code None)
+event_text (event.ClockSet now) = codes "CLOCK " ++ decimal now
+event_text (event.ShutDown units) = codes "SHUTDOWN " ++ decimal units
+event_text (event.Refused who refusal) = subject_text who ++ (codes " " ++ refusal_text refusal)
 
--- the region was shut down, and so many units of work were backed out
-abbrev pub shutdown_line : ℕ → List ℕ
-shutdown_line units = line (codes "SHUTDOWN " ++ decimal units)
+-- the line of an event
+abbrev pub event_line : Event → List ℕ
+event_line e = line (event_text e)
 
--- a shutdown was refused
-abbrev pub shutdown_refused_line : Refused → List ℕ
-shutdown_refused_line refusal = line (codes "SHUTDOWN " ++ refusal_text refusal)
+-- the line of a command that was issued
+abbrev pub outcome_line : List ℕ → Outcome → List ℕ
+outcome_line label outcome = event_line (event.Issued label outcome)
 
 -- the names of the faults of definitions
 abbrev pub define_title : DefineFault → List ℕ
@@ -128,12 +118,21 @@ define_title define.BadLength = codes "BadLength"
 define_title define.NotThere = codes "NotThere"
 define_title define.NoMemory = codes "NoMemory"
 
--- a definition or a load was refused, at a line of the script
-abbrev pub define_fault_line : ℕ → DefineFault → List ℕ
-define_fault_line at fault =
-    line (codes "LINE " ++ (decimal at ++ (codes " DEFINE " ++ numbered (fault_number fault) (define_title fault))))
+-- why a line of the script ends a run: it can't be read, or stands where it may not; or what it
+-- defines or loads is refused
+abbrev pub fault_text : Fault → List ℕ
+fault_text (faults.Line fault) = codes " FAULT " ++ numbered (script.number_of fault) (script.title_of fault)
+fault_text (faults.Definition fault) = codes " DEFINE " ++ numbered (fault_number fault) (define_title fault)
 
--- a line of the script can't be read, or stands where it may not
-abbrev pub line_fault_line : ℕ → LineFault → List ℕ
-line_fault_line at fault =
-    line (codes "LINE " ++ (decimal at ++ (codes " FAULT " ++ numbered (script.number_of fault) (script.title_of fault))))
+-- the line of a fault, of the script's line with this number
+abbrev pub fault_line : ℕ → Fault → List ℕ
+fault_line number fault = line (codes "LINE " ++ (decimal number ++ fault_text fault))
+
+-- the line of a fault, if there is one
+abbrev pub fault_lines : ℕ → Option Fault → List ℕ
+fault_lines number None = []
+fault_lines number (Some fault) = fault_line number fault
+
+-- the lines of all that a line with this number led to
+abbrev pub text_of : ℕ → Step → List ℕ
+text_of number s = flat_map (λ h. event_line h.event) s.events ++ fault_lines number s.fault

@@ -22,11 +22,11 @@ use crate::session::running::{Options, Status, Wanted};
 use crate::session::streams::Sink;
 use crate::session::writing::{Stop, write_pending, write_printed};
 use crate::stage::journal::push_script_line;
-use crate::stage::{Fault, Stage};
+use crate::stage::{Fault, Journal, Named, Stage, keep_undefined};
 use cics_dispatch::Region;
 use cics_names::NoMemory;
-use cics_script::advice::{Named, keep_undefined};
 use std::alloc::Global;
+use std::mem::replace;
 
 const LF: u8 = 10;
 
@@ -40,8 +40,8 @@ pub struct Session {
     pub number: u64,
     /// The bytes of the next line that have come, or the last line if it has a fault.
     pub line: Vec<u8>,
-    /// Text that is printed and not yet written.
-    pub pending: Vec<u8>,
+    /// The text that is printed and not yet written, and whether an event was amiss.
+    pub journal: Journal,
     /// The fault of the last line.
     pub fault: Option<Fault>,
     /// Whether each line is printed in front of its journal lines.
@@ -57,7 +57,7 @@ impl Drop for Session {
             stage: _stage,
             number: _number,
             line: _line,
-            pending: _pending,
+            journal: _journal,
             fault: _fault,
             with_script: _with_script,
             undefined: _undefined,
@@ -143,7 +143,7 @@ impl Session {
             stage: Stage::new(alloc),
             number: 0,
             line: Vec::new(alloc),
-            pending: Vec::new(alloc),
+            journal: Journal::new(alloc),
             fault: None,
             with_script: false,
             undefined: Vec::new(alloc),
@@ -154,10 +154,10 @@ impl Session {
     fn write<K: Sink>(&mut self, sink: &mut K) -> Result<(), Stop>
         ensures writes { (form : Form) → WhereverStands form (K.contents sink.old) self.old
             (λ bytes before. Writes form bytes before (K.contents sink.new) self.new result) }
-        ensures left { OnOk result (self.new.pending.items ≡ []) }
+        ensures left { OnOk result (self.new.journal.text.items ≡ []) }
         ensures failed { Rises (K.failed sink.old) (K.failed sink.new) (stopped_writes result) }
     {
-        write_pending(&mut self.pending, sink)
+        write_pending(&mut self.journal.text, sink)
     }
 
     // Runs the line that is kept, prints its journal lines, and returns whether it has a fault. A
@@ -169,23 +169,23 @@ impl Session {
             ≡ (if fault then self.old.line.items else [])) }
         ensures fault { IfOk result (λ fault. fault ≡ is_some self.new.fault) }
         ensures printed { OnOk result (Prints (K.contents sink.old)
-            (K.contents sink.new) self.old.pending.items self.new.pending.items
+            (K.contents sink.new) self.old.journal.text.items self.new.journal.text.items
             (next_text self.old self.old.line.items)) }
-        ensures left { IfOk result (λ fault. fault ≡ true → self.new.pending.items ≡ []) }
+        ensures left { IfOk result (λ fault. fault ≡ true → self.new.journal.text.items ≡ []) }
         ensures err { OnErr result
             (AppendsFront (K.contents sink.old) (K.contents sink.new)
-            (self.old.pending.items ++ next_text self.old self.old.line.items)) }
+            (self.old.journal.text.items ++ next_text self.old self.old.line.items)) }
         ensures failed { Rises (K.failed sink.old) (K.failed sink.new) (stopped_writes result) }
     {
         self.number += 1;
-        push_wanted_line(self.with_script, &self.line, &mut self.pending)?;
-        let before = self.pending.len();
+        push_wanted_line(self.with_script, &self.line, &mut self.journal.text)?;
         self.fault = self
-            .stage
-            .run_line(self.number, &self.line, &mut self.pending)?;
-        keep_undefined(&mut self.undefined, &self.line, &self.pending, before);
+            .journal
+            .print_line(&mut self.stage, self.number, &self.line)?;
+        let is_undefined = replace(&mut self.journal.is_undefined, false);
+        keep_undefined(&mut self.undefined, &self.line, is_undefined);
         let is_fault = self.fault.is_some();
-        write_printed(&mut self.pending, sink, is_fault)?;
+        write_printed(&mut self.journal.text, sink, is_fault)?;
         if is_fault {
             return Ok(true);
         }
@@ -229,7 +229,7 @@ impl Session {
         ensures feeds { (form : Form) → WhereverStands form (K.contents sink.old) self.old
             (λ bytes before. Feeds form (bytes ++ chunk.now) before (K.contents sink.new) self.new
             result) }
-        ensures left { IfOk result (λ fault. fault ≡ false → self.new.pending.items ≡ []) }
+        ensures left { IfOk result (λ fault. fault ≡ false → self.new.journal.text.items ≡ []) }
         ensures failed { Rises (K.failed sink.old) (K.failed sink.new) (stopped_writes result) }
     {
         match self.run_lines(chunk, sink) {
@@ -247,7 +247,7 @@ impl Session {
         requires { self.old.number + 1 < 2 ^ 64 }
         ensures closes { (form : Form) → WhereverStands form (K.contents sink.old) self.old
             (λ bytes before. Closes form bytes before (K.contents sink.new) self.new result) }
-        ensures left { IfOk result (λ fault. fault ≡ true → self.new.pending.items ≡ []) }
+        ensures left { IfOk result (λ fault. fault ≡ true → self.new.journal.text.items ≡ []) }
         ensures failed { Rises (K.failed sink.old) (K.failed sink.new) (stopped_writes result) }
     {
         if self.line.is_empty() {
@@ -271,7 +271,7 @@ impl Session {
             Ok(true) => return Ok(Status::LineFault),
             Err(stop) => return Err(stop),
         }
-        match write_end(&mut self.stage, wanted, &mut self.pending, sink) {
+        match write_end(&mut self.stage, wanted, &mut self.journal.text, sink) {
             Ok(()) => Ok(Status::Done),
             Err(stop) => Err(stop),
         }

@@ -1,17 +1,16 @@
-//! The lines of the journal. Each public call appends one, and its only error is `NoMemory`.
+//! The lines of the journal: the only text of events. Each public call appends one, and its only
+//! error is `NoMemory`.
 
 ghost use Rattle.std.specs.Prelude.{◌≡◌, ◌++◌, OnOk};
 ghost use Rattle.cics_run.specs.Stage.Journal.{numbered, condition_text, part, number_part, reply_text};
-ghost use Rattle.cics_run.specs.Stage.Journal.{abend_text, outcome_text, attached_line, outcome_line};
-ghost use Rattle.cics_run.specs.Stage.Journal.{woken_line, expired_line, clock_line};
-ghost use Rattle.cics_run.specs.Stage.Journal.{clock_refused_line};
-ghost use Rattle.cics_run.specs.Stage.Journal.{shutdown_line, shutdown_refused_line, refusal_title};
-ghost use Rattle.cics_run.specs.Stage.Journal.{refusal_text, refused_line, define_title};
-ghost use Rattle.cics_run.specs.Stage.Journal.{define_fault_line, line_fault_line, script_line};
+ghost use Rattle.cics_run.specs.Stage.Journal.{abend_text, outcome_text, outcome_line, script_line};
+ghost use Rattle.cics_run.specs.Stage.Journal.{refusal_title, refusal_text, subject_text, define_title};
+ghost use Rattle.cics_run.specs.Stage.Journal.{event_text, event_line, fault_text, fault_line};
+ghost use Rattle.cics_dispatch.specs.declared.machine.events.Event.TheVariants.{Issued as IssuedEvent};
 
-use cics_dispatch::{Expired, Number, Outcome, Refused, Reply, Woken};
-use cics_names::{AbendCode, Condition, Name4, Name8, NoMemory, Record};
-use cics_script::LineFault;
+use crate::stage::Fault;
+use cics_dispatch::{Event, Number, Outcome, Refused, Reply, Subject};
+use cics_names::{AbendCode, Condition, Name8, NoMemory, Record};
 use cics_script::spelling::{push_bare, push_name, push_number, push_str, push_text};
 use cics_units::DefineFault;
 
@@ -24,113 +23,104 @@ pub fn push_script_line(out: &mut Vec<u8>, line: &[u8]) -> Result<(), NoMemory>
     push_str(out, "\n")
 }
 
-/// Appends the line of a task that was attached for a transaction.
-pub fn push_attached(out: &mut Vec<u8>, label: Name8, transaction: Name4) -> Result<(), NoMemory>
-    ensures { OnOk result (out.new.items ≡ out.old.items ++ attached_line label transaction) }
+/// Appends the line of an event.
+pub fn push_event(out: &mut Vec<u8>, event: &Event) -> Result<(), NoMemory>
+    ensures { OnOk result (out.new.items ≡ out.old.items ++ event_line event.now) }
 {
-    push_bare(out, &label.bytes())?;
-    push_str(out, " ATTACHED ")?;
-    push_name(out, &transaction.bytes())?;
+    push_event_text(out, event)?;
     push_str(out, "\n")
 }
 
 /// Appends the line of a command that was issued, with its outcome.
-#[inline(always)]
 pub fn push_outcome(out: &mut Vec<u8>, label: Name8, outcome: &Outcome) -> Result<(), NoMemory>
     ensures { OnOk result (out.new.items ≡ out.old.items ++ outcome_line label outcome.now) }
 {
-    push_bare(out, &label.bytes())?;
-    push_str(out, " ")?;
-    push_what_came(out, outcome)?;
+    push_issued(out, label, outcome)?;
     push_str(out, "\n")
 }
 
-/// Appends the line of a waiting command that resumed, with its outcome.
-pub fn push_woken(out: &mut Vec<u8>, woken: &Woken) -> Result<(), NoMemory>
-    ensures { OnOk result (out.new.items ≡ out.old.items ++ woken_line woken.now) }
-{
-    push_bare(out, &woken.label.bytes())?;
-    push_str(out, " WOKEN ")?;
-    push_what_came(out, &woken.outcome)?;
-    push_str(out, "\n")
-}
-
-/// Appends the line of a task that was abended, as it had waited too long.
-pub fn push_expired(out: &mut Vec<u8>, expired: &Expired) -> Result<(), NoMemory>
-    ensures { OnOk result (out.new.items ≡ out.old.items ++ expired_line expired.now) }
-{
-    push_bare(out, &expired.label.bytes())?;
-    push_str(out, " ABEND ")?;
-    push_bare(out, &expired.code.0.bytes())?;
-    push_str(out, "\n")
-}
-
-/// Appends the line of a clock that was set, in seconds.
-pub fn push_clock(out: &mut Vec<u8>, now: u64) -> Result<(), NoMemory>
-    ensures { OnOk result (out.new.items ≡ out.old.items ++ clock_line now) }
-{
-    push_str(out, "CLOCK ")?;
-    push_number(out, now)?;
-    push_str(out, "\n")
-}
-
-/// Appends the line of an attach or a command that was refused.
-pub fn push_refused(out: &mut Vec<u8>, label: Name8, refusal: Refused) -> Result<(), NoMemory>
-    ensures { OnOk result (out.new.items ≡ out.old.items ++ refused_line label refusal) }
-{
-    push_bare(out, &label.bytes())?;
-    push_str(out, " ")?;
-    push_refusal(out, refusal)?;
-    push_str(out, "\n")
-}
-
-/// Appends the line of a setting of the clock that was refused.
-pub fn push_clock_refused(out: &mut Vec<u8>, refusal: Refused) -> Result<(), NoMemory>
-    ensures { OnOk result (out.new.items ≡ out.old.items ++ clock_refused_line refusal) }
-{
-    push_str(out, "CLOCK ")?;
-    push_refusal(out, refusal)?;
-    push_str(out, "\n")
-}
-
-/// Appends the line of a shutdown that backed out so many units of work.
-pub fn push_shutdown(out: &mut Vec<u8>, units: u64) -> Result<(), NoMemory>
-    ensures { OnOk result (out.new.items ≡ out.old.items ++ shutdown_line units) }
-{
-    push_str(out, "SHUTDOWN ")?;
-    push_number(out, units)?;
-    push_str(out, "\n")
-}
-
-/// Appends the line of a shutdown that was refused.
-pub fn push_shutdown_refused(out: &mut Vec<u8>, refusal: Refused) -> Result<(), NoMemory>
-    ensures { OnOk result (out.new.items ≡ out.old.items ++ shutdown_refused_line refusal) }
-{
-    push_str(out, "SHUTDOWN ")?;
-    push_refusal(out, refusal)?;
-    push_str(out, "\n")
-}
-
-/// Appends the line of a definition or a load that was refused, at this line of the script.
-pub fn push_define_fault(out: &mut Vec<u8>, at: u64, fault: DefineFault) -> Result<(), NoMemory>
-    ensures { OnOk result (out.new.items ≡ out.old.items ++ define_fault_line at fault) }
+/// Appends the line of a fault, of the script's line with this number.
+#[cold]
+pub fn push_fault(out: &mut Vec<u8>, number: u64, fault: Fault) -> Result<(), NoMemory>
+    ensures { OnOk result (out.new.items ≡ out.old.items ++ fault_line number fault) }
 {
     push_str(out, "LINE ")?;
-    push_number(out, at)?;
-    push_str(out, " DEFINE ")?;
-    push_numbered(out, fault.number(), define_title(fault))?;
+    push_number(out, number)?;
+    push_fault_text(out, fault)?;
     push_str(out, "\n")
 }
 
-/// Appends the line of a script line that can't be read, or stands where it may not.
-pub fn push_line_fault(out: &mut Vec<u8>, at: u64, fault: LineFault) -> Result<(), NoMemory>
-    ensures { OnOk result (out.new.items ≡ out.old.items ++ line_fault_line at fault) }
+fn push_fault_text(out: &mut Vec<u8>, fault: Fault) -> Result<(), NoMemory>
+    ensures { OnOk result (out.new.items ≡ out.old.items ++ fault_text fault) }
 {
-    push_str(out, "LINE ")?;
-    push_number(out, at)?;
-    push_str(out, " FAULT ")?;
-    push_numbered(out, fault.number(), fault.name())?;
-    push_str(out, "\n")
+    match fault {
+        Fault::Line(fault) => {
+            push_str(out, " FAULT ")?;
+            push_numbered(out, fault.number(), fault.name())
+        }
+        Fault::Definition(fault) => {
+            push_str(out, " DEFINE ")?;
+            push_numbered(out, fault.number(), define_title(fault))
+        }
+    }
+}
+
+#[inline(always)]
+fn push_event_text(out: &mut Vec<u8>, event: &Event) -> Result<(), NoMemory>
+    ensures { OnOk result (out.new.items ≡ out.old.items ++ event_text event.now) }
+{
+    match event {
+        Event::Issued(label, outcome) => push_issued(out, *label, outcome),
+        Event::Attached(label, transaction) => {
+            push_bare(out, &label.bytes())?;
+            push_str(out, " ATTACHED ")?;
+            push_name(out, &transaction.bytes())
+        }
+        Event::Woken(woken) => {
+            push_bare(out, &woken.label.bytes())?;
+            push_str(out, " WOKEN ")?;
+            push_what_came(out, &woken.outcome)
+        }
+        Event::Expired(expired) => {
+            push_bare(out, &expired.label.bytes())?;
+            push_str(out, " ")?;
+            push_abend(out, expired.code, &None)
+        }
+        Event::ClockSet(seconds) => {
+            push_str(out, "CLOCK ")?;
+            push_number(out, *seconds)
+        }
+        Event::ShutDown(units) => {
+            push_str(out, "SHUTDOWN ")?;
+            push_number(out, *units)
+        }
+        Event::Refused(subject, refusal) => {
+            push_subject(out, *subject)?;
+            push_str(out, " ")?;
+            push_refusal(out, *refusal)
+        }
+    }
+}
+
+// Appends a task and the outcome of a command that it issued.
+#[inline(always)]
+fn push_issued(out: &mut Vec<u8>, label: Name8, outcome: &Outcome) -> Result<(), NoMemory>
+    ensures { OnOk result (out.new.items
+        ≡ out.old.items ++ event_text (IssuedEvent label outcome.now)) }
+{
+    push_bare(out, &label.bytes())?;
+    push_str(out, " ")?;
+    push_what_came(out, outcome)
+}
+
+fn push_subject(out: &mut Vec<u8>, subject: Subject) -> Result<(), NoMemory>
+    ensures { OnOk result (out.new.items ≡ out.old.items ++ subject_text subject) }
+{
+    match subject {
+        Subject::Task(label) => push_bare(out, &label.bytes()),
+        Subject::Clock => push_str(out, "CLOCK"),
+        Subject::Shutdown => push_str(out, "SHUTDOWN"),
+    }
 }
 
 // Appends a number and its name.

@@ -1,8 +1,8 @@
 //! Hints on names that aren't defined, if their capitals are.
 
+use crate::stage::Named;
 use cics_dispatch::Region;
 use cics_names::{Name4, Name8, NoMemory};
-use cics_script::advice::Named;
 use cics_script::spelling::{push_bare, push_name, push_str};
 use std::alloc::Global;
 

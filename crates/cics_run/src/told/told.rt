@@ -5,13 +5,13 @@ ghost use Rattle.cics_run.specs.Told.Told.{first_column, IsCauseOf, IsToldOf, fe
 ghost use Rattle.cics_run.specs.Told.Told.{IsToldOfRegion, IsToldAtEnd};
 
 use crate::session::Session;
-use crate::stage::{Fault, Stage};
+use crate::stage::{Fault, Named, Stage};
 use crate::told::deadlocked::push_deadlocks;
 use crate::told::hints::hints_of;
 use cics_dispatch::Region;
 use cics_dispatch::deadlocks::waiting_count;
 use cics_names::NoMemory;
-use cics_script::advice::{Cause, Named, push_advice};
+use cics_script::advice::{Cause, push_advice};
 use cics_script::{Placed, find_fault, skip_blanks};
 use std::alloc::Global;
 

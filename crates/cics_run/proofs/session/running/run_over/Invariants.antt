@@ -8,7 +8,7 @@ use Rattle.cics_run.proofs.session.running.run_over.Given as goal
 
 abbrev pub invariant-reads : goal.invariant-reads
 invariant-reads g l = (bytes : List ℕ) × Consumes (g.S.Source.remaining l.fn.source) (g.S.Source.remaining l.source) bytes
-    × Stands (form_of l.fn.wanted) bytes (g.K.Sink.contents l.fn.sink) (g.K.Sink.contents l.sink) l.session × (l.session.pending.items ≡ [])
+    × Stands (form_of l.fn.wanted) bytes (g.K.Sink.contents l.fn.sink) (g.K.Sink.contents l.sink) l.session × (l.session.journal.text.items ≡ [])
     × (((reads : ℕ) × Rises (g.S.Source.asked l.fn.source) (g.S.Source.asked l.source) reads × (reads ≤ length bytes))
     × Rises (g.S.Source.failed l.fn.source) (g.S.Source.failed l.source) 0
     × Rises (g.K.Sink.failed l.fn.sink) (g.K.Sink.failed l.sink) 0)

@@ -1,0 +1,74 @@
+//! What a region does as it is asked, and by itself after it.
+
+ghost use Rattle.std.specs.Prelude.{◌≡◌, OnOk};
+ghost use Rattle.cics_dispatch.specs.Machine.Events.{drained, all_played};
+ghost use Rattle.cics_run.specs.Stage.Seen.{after_events};
+ghost use Rattle.cics_run.specs.Stage.Stages.{region_at};
+
+use crate::stage::Observer;
+use cics_dispatch::{Event, Region, Request};
+use cics_names::NoMemory;
+
+/// Plays a request of the line with this number, and drains the region. An observer sees each
+/// event.
+///
+/// Errors: `NoMemory`.
+pub fn play<O: Observer>(
+    region: &mut Region,
+    number: u64,
+    request: Request,
+    observer: &mut O,
+) -> Result<(), NoMemory>
+    ensures region { OnOk result (region.new
+        ≡ region_at (all_played region.old.machine request).machine) }
+    ensures seen { OnOk result (O.seen observer.new ≡ after_events O.sight number
+        (O.seen observer.old) (all_played region.old.machine request).turns) }
+{
+    let event = region.play(request)?;
+    show(region, number, event, observer)?;
+    drain(region, number, observer)
+}
+
+// Shows an event to an observer. It owns the event, so that it is dropped by one call.
+#[inline(always)]
+fn show<O: Observer>(
+    region: &Region,
+    number: u64,
+    event: Event,
+    observer: &mut O,
+) -> Result<(), NoMemory>
+    ensures { OnOk result (O.seen observer.new ≡ O.sight.with_event (O.seen observer.old) number
+        (record { event = event; machine = region.now.machine })) }
+{
+    observer.see(number, &event, region)
+}
+
+// Drains a region.
+fn drain<O: Observer>(region: &mut Region, number: u64, observer: &mut O) -> Result<(), NoMemory>
+    ensures region { OnOk result (region.new ≡ region_at (drained region.old.machine).machine) }
+    ensures seen { OnOk result (O.seen observer.new ≡ after_events O.sight number
+        (O.seen observer.old) (drained region.old.machine).turns) }
+{
+    // After most lines no turn is left, and that is known.
+    if region.is_at_rest() {
+        return Ok(());
+    }
+    take_turns(region, number, observer)
+}
+
+// Takes turns until none is left.
+#[inline(never)]
+fn take_turns<O: Observer>(
+    region: &mut Region,
+    number: u64,
+    observer: &mut O,
+) -> Result<(), NoMemory>
+    ensures region { OnOk result (region.new ≡ region_at (drained region.old.machine).machine) }
+    ensures seen { OnOk result (O.seen observer.new ≡ after_events O.sight number
+        (O.seen observer.old) (drained region.old.machine).turns) }
+{
+    while let Some(event) = region.drain_step()? {
+        show(region, number, event, observer)?;
+    }
+    Ok(())
+}
