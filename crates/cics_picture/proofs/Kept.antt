@@ -11,8 +11,7 @@ use Rattle.cics_picture.specs.declared.bars.Standing.{Standing}
 use Rattle.cics_picture.specs.declared.bars.Lane.{Lane}
 use Rattle.cics_picture.specs.declared.bars.Bar.{Bar}
 use Rattle.cics_picture.specs.declared.events.Kind.{Kind}
-use Rattle.cics_picture.specs.Events.{first_word, kind_of}
-use Rattle.cics_picture.specs.Lanes.{lane_x, row_y, lane_of, tasks_behind}
+use Rattle.cics_picture.specs.Lanes.{lane_x, row_y, row_lane}
 use Rattle.cics_picture.specs.Bars.{nobody, new_lane, new_lanes, nobodies, lane_at, noted, lanes_behind, gone, lane_behind, ended, is_bar_of}
 use Rattle.cics_picture.specs.Drawings.{Drawn, nothing_drawn, Row, with_row, Printed, rows_of, turned, turned_from, any_caught, word_if, with_text, with_end, with_line, drawn, finished}
 
@@ -34,7 +33,7 @@ turned-long (s ∷ standings) first l d = turned-long standings first (l + 1) (t
 
 rows-long : (rows : List Row) (d : Drawn) → length (fold with_row d rows).lanes ≡ length d.lanes
 rows-long [] d = refl
-rows-long (r ∷ rows) d = rows-long rows (with_row d r) ∙ behind-long d.lanes d.rows (kind_of r.event) (lane_of (tasks_behind d.tasks r.event) (first_word r.event))
+rows-long (r ∷ rows) d = rows-long rows (with_row d r) ∙ behind-long d.lanes d.rows r.told.kind (row_lane d.tasks r.told)
 
 end-long : (first : ℕ) (standings : List Standing) (d : Drawn) → length (with_end first standings d).lanes ≡ length d.lanes
 end-long first standings d = turned-long standings first 0 (with_text d (word_if (any_caught d.lanes 0 standings) (row_y (d.rows - 1) + 4)))
@@ -94,13 +93,13 @@ module _ (lane unit : ℕ) where
       ] refl
 
   row-has : (r : Row) (d : Drawn) → lane < length d.lanes → Has d → Has (with_row d r)
-  row-has r d within (inl has) = inl (ap (λ s. s.unit) (behind-stands d.lanes d.rows (kind_of r.event) (lane_of (tasks_behind d.tasks r.event) (first_word r.event)) within) ∙ has)
+  row-has r d within (inl has) = inl (ap (λ s. s.unit) (behind-stands d.lanes d.rows r.told.kind (row_lane d.tasks r.told) within) ∙ has)
   row-has r d within (inr has) = inr has
 
   rows-have : (rows : List Row) (d : Drawn) → lane < length d.lanes → Has d → Has (fold with_row d rows)
   rows-have [] d within has = has
   rows-have (r ∷ rows) d within has =
-      rows-have rows (with_row d r) (subst (λ n. lane < n) (sym (behind-long d.lanes d.rows (kind_of r.event) (lane_of (tasks_behind d.tasks r.event) (first_word r.event)))) within) (row-has r d within has)
+      rows-have rows (with_row d r) (subst (λ n. lane < n) (sym (behind-long d.lanes d.rows r.told.kind (row_lane d.tasks r.told))) within) (row-has r d within has)
 
   -- a lane that turns
   own-has : (first : ℕ) (s : Standing) (d : Drawn) → lane < length d.lanes → (lane_at d.lanes lane).standing.unit ≡ Some unit → Has (turned first lane s d)

@@ -3,4 +3,5 @@ pub mod Counting
 pub mod Journals
 pub mod Marking
 pub mod Outcomes
+pub mod Recording
 pub mod Blocking

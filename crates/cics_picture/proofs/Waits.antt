@@ -5,50 +5,52 @@ use Rattle.std.proofs.lemmas.Bool.{false≢true}
 use Rattle.std.proofs.lemmas.Bool.Decides.{nat_tests}
 use Rattle.std.specs.Prelude.{is_some, nat_lt}
 use Rattle.std.specs.List.{fold}
+use Rattle.cics_names.specs.Keyed.{Bytes}
 use Rattle.cics_picture.specs.declared.events.Kind.{Kind}
 use Rattle.cics_picture.specs.declared.events.Kind.TheVariants as kind
-use Rattle.cics_picture.specs.Events.{first_word, behind_word, kind_of}
+use Rattle.cics_picture.specs.declared.events.Told.{Told}
 use Rattle.cics_picture.specs.Lanes.{lane_of, lane_x, row_y, with_task, tasks_behind}
 use Rattle.cics_picture.specs.Elements.{mark, arrow}
 use Rattle.cics_picture.specs.Drawings.{Drawn, nothing_drawn, Row, with_row, row_number, row_marks, marks_of, lane_marks, beside, arrow_to}
-use Rattle.cics_picture.specs.Arrows.{attached, rows_drawn, awaited, TellsWait, DrawsArrow}
+use Rattle.cics_picture.specs.Arrows.{attached, rows_drawn, TellsWait, DrawsArrow}
 use Rattle.cics_picture.proofs.Counted.{rows-counted}
 
 -- a task is attached where there is room
-one-task : (tasks : List (List ℕ)) (label : List ℕ) (k : Kind) → length tasks + length (with_task [] label k) ≤ 16 → with_task tasks label k ≡ tasks ++ with_task [] label k
-one-task tasks label kind.Attached few =
+one-task : (tasks : List Bytes) (task : Option Bytes) (k : Kind) → length tasks + length (with_task [] task k) ≤ 16 → with_task tasks task k ≡ tasks ++ with_task [] task k
+one-task tasks None kind.Attached few = sym (append-nil tasks)
+one-task tasks (Some label) kind.Attached few =
     let room : nat_lt (length tasks) 16 ≡ true = grind (arith, few, nat_tests) in
     rw room refl
-one-task tasks label kind.Normal few = sym (append-nil tasks)
-one-task tasks label kind.Waiting few = sym (append-nil tasks)
-one-task tasks label kind.Woken few = sym (append-nil tasks)
-one-task tasks label kind.Ended few = sym (append-nil tasks)
-one-task tasks label kind.Abended few = sym (append-nil tasks)
-one-task tasks label kind.Refused few = sym (append-nil tasks)
-one-task tasks label kind.Condition few = sym (append-nil tasks)
-one-task tasks label kind.Clock few = sym (append-nil tasks)
-one-task tasks label kind.Down few = sym (append-nil tasks)
+one-task tasks task kind.Normal few = sym (append-nil tasks)
+one-task tasks task kind.Waiting few = sym (append-nil tasks)
+one-task tasks task kind.Woken few = sym (append-nil tasks)
+one-task tasks task kind.Ended few = sym (append-nil tasks)
+one-task tasks task kind.Abended few = sym (append-nil tasks)
+one-task tasks task kind.Refused few = sym (append-nil tasks)
+one-task tasks task kind.Condition few = sym (append-nil tasks)
+one-task tasks task kind.Clock few = sym (append-nil tasks)
+one-task tasks task kind.Down few = sym (append-nil tasks)
 
 -- where they are few, all tasks that rows attach have lanes
 tasks-drawn : (rows : List Row) (d : Drawn) → length d.tasks + length (attached rows) ≤ 16 → (fold with_row d rows).tasks ≡ d.tasks ++ attached rows
 tasks-drawn [] d few = sym (append-nil d.tasks)
 tasks-drawn (r ∷ rows) d few =
-    let one = tasks_behind [] r.event in
+    let one = tasks_behind [] r.told in
     let both : length (one ++ attached rows) ≡ length one + length (attached rows) = length-append one (attached rows) in
-    let first : tasks_behind d.tasks r.event ≡ d.tasks ++ one = one-task d.tasks (first_word r.event) (kind_of r.event) (omega (arith, few, both)) in
+    let first : tasks_behind d.tasks r.told ≡ d.tasks ++ one = one-task d.tasks r.told.task r.told.kind (omega (arith, few, both)) in
     let count : length (d.tasks ++ one) ≡ length d.tasks + length one = length-append d.tasks one in
-    let more : length (tasks_behind d.tasks r.event) + length (attached rows) ≤ 16 = omega (arith, few, both, count, ap length first) in
+    let more : length (tasks_behind d.tasks r.told) + length (attached rows) ≤ 16 = omega (arith, few, both, count, ap length first) in
     tasks-drawn rows (with_row d r) more ∙ ap (λ t. t ++ attached rows) first ∙ append_assoc d.tasks one (attached rows)
 
 -- the marks of a wait between two lanes
-wait-marks : (tasks : List (List ℕ)) (y : ℕ) (event : List ℕ) (from to : ℕ) → kind_of event ≡ kind.Waiting
-    → lane_of tasks (first_word event) ≡ Some from → lane_of tasks (behind_word (behind_word event)) ≡ Some to
-    → row_marks (tasks_behind tasks event) y event ≡ arrow from to y ++ mark kind.Waiting (lane_x from) y
-wait-marks tasks y event from to waits f t =
-    ap (λ tasks. row_marks tasks y event) (ap (with_task tasks (first_word event)) waits)
-    ∙ ap (marks_of tasks y event) waits
-    ∙ ap (lane_marks tasks y event) f
-    ∙ ap (λ k. beside tasks from y event k ++ mark k (lane_x from) y) waits
+wait-marks : (tasks : List Bytes) (y : ℕ) (told : Told) (from to : ℕ) → told.kind ≡ kind.Waiting
+    → lane_of tasks told.task ≡ Some from → lane_of tasks told.blocker ≡ Some to
+    → row_marks (tasks_behind tasks told) y told ≡ arrow from to y ++ mark kind.Waiting (lane_x from) y
+wait-marks tasks y told from to waits f t =
+    ap (λ tasks. row_marks tasks y told) (ap (with_task tasks told.task) waits)
+    ∙ ap (marks_of tasks y told) waits
+    ∙ ap (lane_marks tasks y told) f
+    ∙ ap (λ k. beside tasks from y told k ++ mark k (lane_x from) y) waits
     ∙ ap (λ h. arrow_to from h y ++ mark kind.Waiting (lane_x from) y) t
 
 some-lane : (lane : Option ℕ) → is_some lane ≡ true → (at : ℕ) × (lane ≡ Some at)
@@ -60,16 +62,16 @@ wait-drawn before r tells =
     let d = rows_drawn before in
     let lanes : d.tasks ≡ attached before = tasks-drawn before nothing_drawn (omega (arith, tells.few)) in
     let count : d.rows ≡ length before = omega (arith, rows-counted before nothing_drawn) in
-    let (from, f) = some-lane (lane_of (attached before) (first_word r.event)) tells.waiter_attached in
-    let (to, t) = some-lane (lane_of (attached before) (awaited r)) tells.awaited_attached in
-    let is-from : lane_of d.tasks (first_word r.event) ≡ Some from = ap (λ tasks. lane_of tasks (first_word r.event)) lanes ∙ f in
-    let is-to : lane_of d.tasks (awaited r) ≡ Some to = ap (λ tasks. lane_of tasks (awaited r)) lanes ∙ t in
+    let (from, f) = some-lane (lane_of (attached before) r.told.task) tells.waiter_attached in
+    let (to, t) = some-lane (lane_of (attached before) r.told.blocker) tells.awaited_attached in
+    let is-from : lane_of d.tasks r.told.task ≡ Some from = ap (λ tasks. lane_of tasks r.told.task) lanes ∙ f in
+    let is-to : lane_of d.tasks r.told.blocker ≡ Some to = ap (λ tasks. lane_of tasks r.told.blocker) lanes ∙ t in
     record {
       from = from;
       to = to;
       from_waiter = f;
       to_awaited = t;
       marks = ap (λ e. e.marks) (fold-append with_row nothing_drawn before (r ∷ []))
-          ∙ ap (λ m. d.marks ++ (row_number (row_y d.rows + 4) r.number ++ m)) (wait-marks d.tasks (row_y d.rows) r.event from to tells.waits is-from is-to)
+          ∙ ap (λ m. d.marks ++ (row_number (row_y d.rows + 4) r.number ++ m)) (wait-marks d.tasks (row_y d.rows) r.told from to tells.waits is-from is-to)
           ∙ ap (λ n. d.marks ++ (row_number (row_y n + 4) r.number ++ (arrow from to (row_y n) ++ mark kind.Waiting (lane_x from) (row_y n)))) count;
     }

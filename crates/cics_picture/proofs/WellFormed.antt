@@ -11,13 +11,15 @@ use Rattle.cics_picture.specs.Xml.Reading.{document_of}
 use Rattle.cics_picture.proofs.OfXml.ReadBack.{read_back}
 use Rattle.cics_picture.specs.declared.events.Kind.{Kind}
 use Rattle.cics_picture.specs.declared.events.Kind.TheVariants as kind
-use Rattle.cics_picture.specs.Events.{first_word, behind_word, kind_of, class_of, shape_of}
-use Rattle.cics_picture.specs.Lanes.{most_lanes, lane_of, tasks_behind, lane_x, row_y}
+use Rattle.cics_picture.specs.declared.events.Told.{Told}
+use Rattle.cics_picture.specs.Events.{class_of, shape_of}
+use Rattle.cics_names.specs.Keyed.{Bytes}
+use Rattle.cics_picture.specs.Lanes.{most_lanes, lane_of, tasks_behind, row_lane, lane_x, row_y}
 use Rattle.cics_picture.specs.declared.bars.Standing.{Standing}
 use Rattle.cics_picture.specs.declared.bars.Bar.{Bar}
 use Rattle.cics_picture.specs.Bars.{nobodies, lane_at, is_caught, look_of, look_class, bar_text}
 use Rattle.cics_picture.specs.Elements.{ring_shape, stays_shape, shows_shape, class, words, number_words, shape, stroke, field, spoken, namespace, picture_start, moved_start, tip, head, cut}
-use Rattle.cics_picture.specs.Drawings.{Drawn, nothing_drawn, arrow_to, beside, lane_marks, marks_of, row_number, waited, line_text, event_text, Row, with_row, rows_of, Printed, drawn, ring_if, stays_if, link_if, shows_if, turned, turned_from, any_caught, word_if, with_text, with_end, with_line, finished}
+use Rattle.cics_picture.specs.Drawings.{Drawn, nothing_drawn, label_text, arrow_to, beside, lane_marks, marks_of, row_number, waited, line_text, told_text, Row, with_row, rows_of, Printed, drawn, ring_if, stays_if, link_if, shows_if, turned, turned_from, any_caught, word_if, with_text, with_end, with_line, finished}
 use Rattle.cics_picture.specs.Sheets.{style_text, bands, lane_lines, headings, legend_item, answers_legend, ways_legend, region_legend, sign_item, units_legend, heading, ground, bars_text, moved_texts, whole_sheet, sheet, width_of, height_of}
 use Rattle.cics_picture.specs.declared.style.TheConstants.{STYLE}
 use Rattle.cics_picture.proofs.Markup.{IsMarkup, nothing, itself, behind, within}
@@ -56,34 +58,33 @@ arrow-to lane y None = nothing
 arrow-to lane y (Some holder) =
     behind _ _ (stroke-there (codes "aw") (lane_x lane) y (tip lane holder) y) (shape-there (codes "fw") (head lane holder) (tip lane holder) y)
 
-at-side : (tasks : List (List ℕ)) (lane y : ℕ) (event : List ℕ) (k : Kind) → IsMarkup (beside tasks lane y event k)
-at-side tasks lane y event kind.Attached = at-place (codes "b m") (lane_x lane) 98 (first_word event)
-at-side tasks lane y event kind.Waiting = arrow-to lane y (lane_of tasks (behind_word (behind_word event)))
-at-side tasks lane y event kind.Normal = nothing
-at-side tasks lane y event kind.Woken = nothing
-at-side tasks lane y event kind.Ended = nothing
-at-side tasks lane y event kind.Abended = nothing
-at-side tasks lane y event kind.Refused = nothing
-at-side tasks lane y event kind.Condition = nothing
-at-side tasks lane y event kind.Clock = nothing
-at-side tasks lane y event kind.Down = nothing
+at-side : (tasks : List Bytes) (lane y : ℕ) (t : Told) (k : Kind) → IsMarkup (beside tasks lane y t k)
+at-side tasks lane y t kind.Attached = at-place (codes "b m") (lane_x lane) 98 (label_text t.task)
+at-side tasks lane y t kind.Waiting = arrow-to lane y (lane_of tasks t.blocker)
+at-side tasks lane y t kind.Normal = nothing
+at-side tasks lane y t kind.Woken = nothing
+at-side tasks lane y t kind.Ended = nothing
+at-side tasks lane y t kind.Abended = nothing
+at-side tasks lane y t kind.Refused = nothing
+at-side tasks lane y t kind.Condition = nothing
+at-side tasks lane y t kind.Clock = nothing
+at-side tasks lane y t kind.Down = nothing
 
-in-lane : (tasks : List (List ℕ)) (y : ℕ) (event : List ℕ) (lane : Option ℕ) → IsMarkup (lane_marks tasks y event lane)
-in-lane tasks y event None = nothing
-in-lane tasks y event (Some lane) =
-    behind _ _ (at-side tasks lane y event (kind_of event)) (shape-there (class_of (kind_of event)) (shape_of (kind_of event)) (lane_x lane) y)
+in-lane : (tasks : List Bytes) (y : ℕ) (t : Told) (lane : Option ℕ) → IsMarkup (lane_marks tasks y t lane)
+in-lane tasks y t None = nothing
+in-lane tasks y t (Some lane) = behind _ _ (at-side tasks lane y t t.kind) (shape-there (class_of t.kind) (shape_of t.kind) (lane_x lane) y)
 
-all-marks : (tasks : List (List ℕ)) (y : ℕ) (event : List ℕ) (k : Kind) → IsMarkup (marks_of tasks y event k)
-all-marks tasks y event kind.Clock = stroke-there (codes "clk") 66 y (66 + 60 * length tasks) y
-all-marks tasks y event kind.Down = stroke-there (codes "dwn") 66 y (66 + 60 * length tasks) y
-all-marks tasks y event kind.Attached = in-lane tasks y event (lane_of tasks (first_word event))
-all-marks tasks y event kind.Normal = in-lane tasks y event (lane_of tasks (first_word event))
-all-marks tasks y event kind.Waiting = in-lane tasks y event (lane_of tasks (first_word event))
-all-marks tasks y event kind.Woken = in-lane tasks y event (lane_of tasks (first_word event))
-all-marks tasks y event kind.Ended = in-lane tasks y event (lane_of tasks (first_word event))
-all-marks tasks y event kind.Abended = in-lane tasks y event (lane_of tasks (first_word event))
-all-marks tasks y event kind.Refused = in-lane tasks y event (lane_of tasks (first_word event))
-all-marks tasks y event kind.Condition = in-lane tasks y event (lane_of tasks (first_word event))
+all-marks : (tasks : List Bytes) (y : ℕ) (t : Told) (k : Kind) → IsMarkup (marks_of tasks y t k)
+all-marks tasks y t kind.Clock = stroke-there (codes "clk") 66 y (66 + 60 * length tasks) y
+all-marks tasks y t kind.Down = stroke-there (codes "dwn") 66 y (66 + 60 * length tasks) y
+all-marks tasks y t kind.Attached = in-lane tasks y t (lane_of tasks t.task)
+all-marks tasks y t kind.Normal = in-lane tasks y t (lane_of tasks t.task)
+all-marks tasks y t kind.Waiting = in-lane tasks y t (lane_of tasks t.task)
+all-marks tasks y t kind.Woken = in-lane tasks y t (lane_of tasks t.task)
+all-marks tasks y t kind.Ended = in-lane tasks y t (lane_of tasks t.task)
+all-marks tasks y t kind.Abended = in-lane tasks y t (lane_of tasks t.task)
+all-marks tasks y t kind.Refused = in-lane tasks y t (lane_of tasks t.task)
+all-marks tasks y t kind.Condition = in-lane tasks y t (lane_of tasks t.task)
 
 either : (b : Bool) (x y : List ℕ) → IsMarkup x → IsMarkup y → IsMarkup (cond b x y)
 either true x y p q = p
@@ -92,14 +93,14 @@ either false x y p q = q
 number-drawn : (y number : ℕ) → IsMarkup (row_number y number)
 number-drawn y number = either (number == 0) _ _ nothing (number-there (codes "d e") 52 y number)
 
-row : (y number : ℕ) (line asked event : List ℕ) → IsMarkup (line_text y number line asked ++ event_text y event)
-row y number line asked event =
-    behind _ _ (either (number == 0) _ _ (at-place (codes "d") 78 y _) (at-place (codes "line") 78 y _)) (at-place (class_of (kind_of event)) 744 y _)
+row : (y number : ℕ) (line asked : List ℕ) (t : Told) → IsMarkup (line_text y number line asked ++ told_text y t)
+row y number line asked t =
+    behind _ _ (either (number == 0) _ _ (at-place (codes "d") 78 y _) (at-place (codes "line") 78 y _)) (at-place (class_of t.kind) 744 y _)
 
 row-drawn : (d : Drawn) (r : Row) → IsDrawn d → IsDrawn (with_row d r)
 row-drawn d r p = (
-  behind _ _ p.0 (behind _ _ (number-drawn (row_y d.rows + 4) r.number) (all-marks (tasks_behind d.tasks r.event) (row_y d.rows) r.event (kind_of r.event))),
-  behind _ _ p.1 (row (row_y d.rows + 4) r.number r.line (waited d.lines d.lanes (lane_of (tasks_behind d.tasks r.event) (first_word r.event))) r.event),
+  behind _ _ p.0 (behind _ _ (number-drawn (row_y d.rows + 4) r.number) (all-marks (tasks_behind d.tasks r.told) (row_y d.rows) r.told r.told.kind)),
+  behind _ _ p.1 (row (row_y d.rows + 4) r.number r.line (waited d.lines d.lanes (row_lane d.tasks r.told)) r.told),
 )
 
 rows-drawn : (rows : List Row) (d : Drawn) → IsDrawn d → IsDrawn (fold with_row d rows)

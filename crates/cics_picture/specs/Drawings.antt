@@ -1,14 +1,17 @@
 -- What the rows of a picture draw: one row for each event, in order.
 use Rattle.std.specs.Prelude.{ℕ, ◌==◌, nat_lt, ◌+◌, ◌-◌, ◌*◌, max, Bool, true, false, if◌then◌else◌, List, [], ◌∷◌, ◌++◌, length, slice_get, slice_set, Option, Some, None, unwrap_or}
 use Rattle.std.specs.List.{fold, flat_map}
+use Rattle.cics_names.specs.Keyed.{Bytes}
+use Rattle.cics_script.specs.Texts.{bare}
 use Rattle.cics_picture.specs.declared.events.Kind.{Kind}
 use Rattle.cics_picture.specs.declared.events.Kind.TheVariants.{Attached, Waiting, Clock, Down}
 use Rattle.cics_picture.specs.declared.drawing.Drawing.{Drawing}
 use Rattle.cics_picture.specs.declared.bars.Standing.{Standing}
 use Rattle.cics_picture.specs.declared.bars.Lane.{Lane}
 use Rattle.cics_picture.specs.declared.bars.Bar.{Bar}
-use Rattle.cics_picture.specs.Events.{first_word, behind_word, kind_of, class_of}
-use Rattle.cics_picture.specs.Lanes.{most_lanes, lane_of, tasks_behind, lane_x, row_y}
+use Rattle.cics_picture.specs.declared.events.Told.{Told}
+use Rattle.cics_picture.specs.Events.{class_of}
+use Rattle.cics_picture.specs.Lanes.{most_lanes, lane_of, tasks_behind, row_lane, lane_x, row_y}
 use Rattle.cics_picture.specs.Elements.{words, number_words, shape, ring_shape, stays_shape, shows_shape, mark, stroke, arrow, link, cut}
 use Rattle.cics_picture.specs.Bars.{new_lanes, nobodies, lane_at, lanes_behind, gone, lane_behind, ended, is_caught}
 use lib.Chars.{codes}
@@ -19,7 +22,7 @@ use lib.Chars.{codes}
 pub record Drawn : Type 0 where
   pub rows : ℕ
   pub lines : List (List ℕ)
-  pub tasks : List (List ℕ)
+  pub tasks : List Bytes
   pub marks : List ℕ
   pub texts : List ℕ
   pub lanes : List Lane
@@ -38,30 +41,35 @@ abbrev pub arrow_to : ℕ → Option ℕ → ℕ → List ℕ
 arrow_to lane None y = []
 arrow_to lane (Some holder) y = arrow lane holder y
 
+-- a task's label, without the blanks that fill it up
+abbrev pub label_text : Option Bytes → List ℕ
+label_text None = []
+label_text (Some label) = bare label
+
 -- beside its mark an attached task has a heading, and a wait an arrow
-abbrev pub beside : List (List ℕ) → ℕ → ℕ → List ℕ → Kind → List ℕ
-beside tasks lane y event Attached = words (codes "b m") (lane_x lane) 98 (first_word event)
-beside tasks lane y event Waiting = arrow_to lane (lane_of tasks (behind_word (behind_word event))) y
-beside tasks lane y event kind = []
+abbrev pub beside : List Bytes → ℕ → ℕ → Told → Kind → List ℕ
+beside tasks lane y told Attached = words (codes "b m") (lane_x lane) 98 (label_text told.task)
+beside tasks lane y told Waiting = arrow_to lane (lane_of tasks told.blocker) y
+beside tasks lane y told kind = []
 
 -- the marks of an event, in the lane of its task
-abbrev pub lane_marks : List (List ℕ) → ℕ → List ℕ → Option ℕ → List ℕ
-lane_marks tasks y event None = []
-lane_marks tasks y event (Some lane) = beside tasks lane y event (kind_of event) ++ mark (kind_of event) (lane_x lane) y
+abbrev pub lane_marks : List Bytes → ℕ → Told → Option ℕ → List ℕ
+lane_marks tasks y told None = []
+lane_marks tasks y told (Some lane) = beside tasks lane y told told.kind ++ mark told.kind (lane_x lane) y
 
 -- a line across the lanes
-abbrev pub across : List (List ℕ) → ℕ → Kind → List ℕ
+abbrev pub across : List Bytes → ℕ → Kind → List ℕ
 across tasks y kind = stroke (class_of kind) 66 y (66 + 60 * length tasks) y
 
 -- an event of the region has a line across the lanes, one of a task its marks if that has a lane
-abbrev pub marks_of : List (List ℕ) → ℕ → List ℕ → Kind → List ℕ
-marks_of tasks y event Clock = across tasks y Clock
-marks_of tasks y event Down = across tasks y Down
-marks_of tasks y event kind = lane_marks tasks y event (lane_of tasks (first_word event))
+abbrev pub marks_of : List Bytes → ℕ → Told → Kind → List ℕ
+marks_of tasks y told Clock = across tasks y Clock
+marks_of tasks y told Down = across tasks y Down
+marks_of tasks y told kind = lane_marks tasks y told (lane_of tasks told.task)
 
--- the marks of an event
-abbrev pub row_marks : List (List ℕ) → ℕ → List ℕ → List ℕ
-row_marks tasks y event = marks_of tasks y event (kind_of event)
+-- the marks of a row
+abbrev pub row_marks : List Bytes → ℕ → Told → List ℕ
+row_marks tasks y told = marks_of tasks y told told.kind
 
 -- the number of the script's line, to the left of the lanes; 0 is that of an event without a line,
 -- and isn't shown
@@ -77,15 +85,15 @@ waited lines lanes (Some lane) = unwrap_or (slice_get lines (lane_at lanes lane)
 abbrev pub line_text : ℕ → ℕ → List ℕ → List ℕ → List ℕ
 line_text y number line asked = if number == 0 then words (codes "d") 78 y (cut 90 asked) else words (codes "line") 78 y (cut 90 line)
 
--- the event beside it
-abbrev pub event_text : ℕ → List ℕ → List ℕ
-event_text y event = words (class_of (kind_of event)) 744 y (cut 70 event)
+-- what the row tells, beside it
+abbrev pub told_text : ℕ → Told → List ℕ
+told_text y told = words (class_of told.kind) 744 y (cut 70 told.text)
 
--- A row: the number and the text of the line that it shows, or 0 and nothing, and its event.
+-- A row: the number and the text of the line that it shows, or 0 and nothing, and what it tells.
 pub record Row : Type 0 where
   pub number : ℕ
   pub line : List ℕ
-  pub event : List ℕ
+  pub told : Told
 
 -- one row more; its words stand a little below its middle
 abbrev pub with_row : Drawn → Row → Drawn
@@ -93,40 +101,38 @@ with_row d r =
     record {
       rows = d.rows + 1;
       lines = d.lines ++ (r.line ∷ []);
-      tasks = tasks_behind d.tasks r.event;
-      marks = d.marks ++ (row_number (row_y d.rows + 4) r.number ++ row_marks (tasks_behind d.tasks r.event) (row_y d.rows) r.event);
+      tasks = tasks_behind d.tasks r.told;
+      marks = d.marks ++ (row_number (row_y d.rows + 4) r.number ++ row_marks (tasks_behind d.tasks r.told) (row_y d.rows) r.told);
       texts = d.texts
-          ++ (line_text (row_y d.rows + 4) r.number r.line (waited d.lines d.lanes (lane_of (tasks_behind d.tasks r.event) (first_word r.event)))
-          ++ event_text (row_y d.rows + 4) r.event);
-      lanes = lanes_behind d.lanes d.rows (kind_of r.event) (lane_of (tasks_behind d.tasks r.event) (first_word r.event));
+          ++ (line_text (row_y d.rows + 4) r.number r.line (waited d.lines d.lanes (row_lane d.tasks r.told)) ++ told_text (row_y d.rows + 4) r.told);
+      lanes = lanes_behind d.lanes d.rows r.told.kind (row_lane d.tasks r.told);
       bars = d.bars;
     }
 
 -- a row of these
-abbrev pub row : ℕ → List ℕ → List ℕ → Row
-row number line event = record { number = number; line = line; event = event }
+abbrev pub row : ℕ → List ℕ → Told → Row
+row number line told = record { number = number; line = line; told = told }
 
--- The rows of what a line printed. `event` has the bytes of the next event so far. An LF ends each
--- event, and the first row is the line's own.
-abbrev pub rows_from : ℕ → List ℕ → List ℕ → List ℕ → List Row
-rows_from number line event [] = []
-rows_from number line event (c ∷ text) = if c == 10 then row number line event ∷ rows_from 0 [] [] text else rows_from number line (event ++ (c ∷ [])) text
+-- the rows of what a line led to: the first one is the line's own
+abbrev pub rows_from : ℕ → List ℕ → List Told → List Row
+rows_from number line [] = []
+rows_from number line (t ∷ told) = row number line t ∷ rows_from 0 [] told
 
--- a line of a script: its number, its text, what it printed, and how the task of each lane stands
+-- a line of a script: its number, its text, what it led to, and how the task of each lane stands
 -- after it
 pub record Printed : Type 0 where
   pub number : ℕ
   pub line : List ℕ
-  pub text : List ℕ
+  pub told : List Told
   pub standings : List Standing
 
 -- a line of these
-abbrev pub printed : ℕ → List ℕ → List ℕ → List Standing → Printed
-printed number line text standings = record { number = number; line = line; text = text; standings = standings }
+abbrev pub printed : ℕ → List ℕ → List Told → List Standing → Printed
+printed number line told standings = record { number = number; line = line; told = told; standings = standings }
 
 -- the rows of a line
 abbrev pub rows_of : Printed → List Row
-rows_of p = rows_from p.number p.line [] p.text
+rows_of p = rows_from p.number p.line p.told
 
 -- the rows of some lines, in order
 abbrev pub all_rows : List Printed → List Row
@@ -202,4 +208,4 @@ finished d = with_end (row_y d.rows) nobodies d
 
 -- the events of rows, each with its LF
 abbrev pub events_of : List Row → List ℕ
-events_of rows = flat_map (λ r. r.event ++ (10 ∷ [])) rows
+events_of rows = flat_map (λ r. r.told.text ++ (10 ∷ [])) rows

@@ -1,55 +1,8 @@
--- What a line of the journal says: a label, and what its task was told. The first word of that
--- says of what kind it is. A first word that is no label has a number after it.
-use Rattle.std.specs.Prelude.{ℕ, Bool, false, not, ◌&&◌, ◌==◌, nat_le, ◌+◌, if◌then◌else◌, List, [], ◌∷◌, take, drop}
-use Rattle.std.specs.List.{prefix_len}
-use Rattle.std.specs.Str.{bytes_eq}
+-- The kinds of rows, and how each is drawn.
+use Rattle.std.specs.Prelude.{ℕ, List}
 use Rattle.cics_picture.specs.declared.events.Kind.{Kind}
 use Rattle.cics_picture.specs.declared.events.Kind.TheVariants as kind
 use lib.Chars.{codes}
-
--- whether a byte stands in a word
-abbrev pub is_in_word : ℕ → Bool
-is_in_word c = not (c == 32)
-
--- the bytes before the first blank
-abbrev pub first_word : List ℕ → List ℕ
-first_word bytes = take (prefix_len is_in_word bytes) bytes
-
--- the bytes behind the first blank
-abbrev pub behind_word : List ℕ → List ℕ
-behind_word bytes = drop (prefix_len is_in_word bytes + 1) bytes
-
--- whether a word begins with a digit
-abbrev pub is_number : List ℕ → Bool
-is_number [] = false
-is_number (c ∷ word) = nat_le 48 c && nat_le c 57
-
--- the kind of an event of the region: Clock if its clock was set, else Down, for a shutdown or a
--- fault of a line
-abbrev pub region_kind : List ℕ → Kind
-region_kind word = if bytes_eq word (codes "CLOCK") then kind.Clock else kind.Down
-
--- the kind of what a waiting command was told, from the first word of it
-abbrev pub woken_kind : List ℕ → Kind
-woken_kind word = if bytes_eq word (codes "NORMAL") then kind.Woken else if bytes_eq word (codes "ABEND") then kind.Abended else kind.Condition
-
--- the kind of what a task was told
-abbrev pub told_kind : List ℕ → List ℕ → Kind
-told_kind word behind =
-    if bytes_eq word (codes "ATTACHED") then kind.Attached
-    else if bytes_eq word (codes "NORMAL") then kind.Normal
-    else if bytes_eq word (codes "WAITING") then kind.Waiting
-    else if bytes_eq word (codes "WOKEN") then woken_kind (first_word behind)
-    else if bytes_eq word (codes "ENDED") then kind.Ended
-    else if bytes_eq word (codes "ABEND") then kind.Abended
-    else if bytes_eq word (codes "REFUSED") then kind.Refused
-    else kind.Condition
-
--- the kind of an event
-abbrev pub kind_of : List ℕ → Kind
-kind_of event =
-    if is_number (behind_word event) then region_kind (first_word event)
-    else told_kind (first_word (behind_word event)) (behind_word (behind_word event))
 
 -- the class that gives a kind its colour
 abbrev pub class_of : Kind → List ℕ

@@ -7,9 +7,11 @@
 mod drawing;
 mod picture;
 mod reads;
+mod recording;
 mod standings;
 mod titles;
 
 pub use drawing::{bars_tell_outcomes, draw_script, rows_are_the_journal, waits_name_blockers};
 pub use picture::{NoPicture, run_picture};
+pub use recording::{Given, Recorder};
 pub use standings::deadlocks_are_marked;

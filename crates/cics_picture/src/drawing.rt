@@ -5,7 +5,7 @@ ghost use Rattle.cics_picture.specs.Lanes.{most_lanes, most_rows};
 
 use crate::bars::{Bar, Lane};
 use crate::lanes::MOST_LANES;
-use cics_names::{Items, Record};
+use cics_names::{Items, Name8, NoMemory, Record};
 
 /// How many rows a picture has at most.
 pub const LIMIT: u64 = 100_000;
@@ -18,7 +18,7 @@ pub const LIMIT: u64 = 100_000;
 pub struct Drawing {
     pub rows: u64,
     pub lines: Items<Record>,
-    pub tasks: Items<Record>,
+    pub tasks: Items<Name8>,
     pub marks: Vec<u8>,
     pub texts: Vec<u8>,
     pub lanes: [Lane; MOST_LANES],
@@ -34,4 +34,15 @@ pub enum Undrawn {
     NoMemory,
     /// It would have more than `LIMIT` rows.
     TooManyRows,
+}
+
+impl From<NoMemory> for Undrawn {
+    ghost use Rattle.std.specs.Prelude.{◌≡◌};
+    ghost use Rattle.cics_picture.specs.declared.drawing.Undrawn.TheVariants.{NoMemory as Wanting};
+
+    ghost from_gives = { λ _ undrawn. undrawn ≡ Wanting };
+
+    fn from(_want: NoMemory) -> Undrawn {
+        Undrawn::NoMemory
+    }
 }

@@ -1,9 +1,9 @@
 //! A picture of a run: a row for each event, a lane for each task, a bar for each unit of work.
 //!
-//! [`Drawing::push_line`] draws a row for each line of the journal that a line of a script printed,
-//! and how the tasks stand after it. [`push_sheet`] puts the whole picture at the end of a text, as
-//! SVG. Three laws say that each picture is well formed ([`sheets_are_documents`]), that each wait
-//! has its arrow ([`waits_have_arrows`]), and each unit its bar ([`units_have_bars`]).
+//! [`Drawing::push_line`] draws a row for each event of a line of a script, and for its fault. Then
+//! it draws how the tasks stand after it. [`push_sheet`] puts the whole picture at the end of a
+//! text, as SVG. Three laws say that each picture is well formed ([`sheets_are_documents`]), that
+//! each wait has its arrow ([`waits_have_arrows`]), and each unit its bar ([`units_have_bars`]).
 #![tactic(auto)]
 
 mod bars;
@@ -19,6 +19,6 @@ pub mod xml;
 
 pub use bars::{Look, NOBODY, Standing};
 pub use drawing::{Drawing, LIMIT, Undrawn};
-pub use events::{behind_word, first_word};
+pub use events::{Kind, Told};
 pub use lanes::MOST_LANES;
 pub use sheet::{push_sheet, sheets_are_documents, units_have_bars, waits_have_arrows};

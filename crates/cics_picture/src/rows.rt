@@ -1,14 +1,14 @@
 //! The rows of a picture and the marks in its lanes.
 
 ghost use Rattle.std.specs.Prelude.{◌≡◌, ◌++◌, ◌<◌, ◌≤◌, ◌+◌, ◌*◌, [], length, IfSome, OnOk};
-ghost use Rattle.std.specs.Prelude.{IfErr};
+ghost use Rattle.std.specs.Prelude.{IfErr, codes};
 ghost use Rattle.std.specs.List.{fold};
-ghost use Rattle.cics_picture.specs.Lanes.{most_lanes, most_rows, lane_of};
+ghost use Rattle.cics_picture.specs.Lanes.{most_lanes, most_rows, lane_of, lane_x};
 ghost use Rattle.cics_picture.specs.Drawings.{drawn_of, nothing_drawn, arrow_to, beside};
-ghost use Rattle.cics_picture.specs.Drawings.{lane_marks, waited, line_text, event_text};
-ghost use Rattle.cics_picture.specs.Elements.{stroke};
-ghost use Rattle.cics_picture.specs.Events.{behind_word, first_word, kind_of, class_of};
-ghost use Rattle.cics_picture.specs.Drawings.{row_marks, row_number, with_row};
+ghost use Rattle.cics_picture.specs.Drawings.{label_text, lane_marks, waited, line_text};
+ghost use Rattle.cics_picture.specs.Elements.{stroke, words};
+ghost use Rattle.cics_picture.specs.Events.{class_of};
+ghost use Rattle.cics_picture.specs.Drawings.{row_marks, row_number, told_text, with_row};
 ghost use Rattle.cics_picture.specs.Drawings.{row, rows_from, printed, with_line};
 ghost use Rattle.cics_picture.specs.declared.drawing.Undrawn.TheVariants.{TooManyRows};
 
@@ -17,12 +17,11 @@ use crate::drawing::{Drawing, LIMIT, Undrawn};
 use crate::elements::{
     cut, push_arrow, push_cut_words, push_mark, push_number_words, push_stroke, push_words,
 };
-use crate::events::{Kind, behind_word, first_word, kind_of};
+use crate::events::{Kind, Told};
 use crate::lanes::{give_lane, lane_of, lane_x, row_y};
-use cics_names::{Items, NoMemory, Record};
+use cics_names::{Items, Name8, NoMemory, Record};
+use cics_script::spelling::push_bare;
 use std::alloc::Global;
-
-const LF: u8 = 10;
 
 // Puts an arrow to the blocker, if it has a lane.
 fn push_arrow_to(
@@ -41,35 +40,34 @@ fn push_arrow_to(
     }
 }
 
-// The lane of the task that an event waits for.
-fn holder_of(tasks: &[Record], event: &[u8]) -> Option<usize>
-    requires { length tasks.now ≤ most_lanes }
-    ensures value { result ≡ lane_of tasks.now (behind_word (behind_word event.now)) }
-    ensures within { IfSome result (λ h. h < most_lanes) }
+// Puts the label of a task above its lane.
+fn push_label(out: &mut Vec<u8>, lane: usize, task: Option<Name8>) -> Result<(), NoMemory>
+    requires { lane < most_lanes }
+    ensures { OnOk result (out.new.items
+        ≡ out.old.items ++ words (codes "b m") (lane_x lane) 98 (label_text task)) }
 {
-    lane_of(tasks, behind_word(behind_word(event)))
+    let mut text = Vec::new(*out.allocator());
+    if let Some(label) = task {
+        push_bare(&mut text, &label.bytes())?;
+    }
+    push_words(out, "b m".as_bytes(), (lane_x(lane), 98), &text)
 }
 
 // Puts what an event has beside its mark: an attached task its heading, a wait its arrow.
 fn push_beside(
     out: &mut Vec<u8>,
-    tasks: &[Record],
+    tasks: &[Name8],
     place: (usize, u64),
-    event: &[u8],
+    told: &Told,
 ) -> Result<(), NoMemory>
     requires few { length tasks.now ≤ most_lanes }
     requires lane { place.0 < most_lanes }
     ensures { OnOk result (out.new.items ≡ out.old.items
-        ++ beside tasks.now place.0 place.1 event.now (kind_of event.now)) }
+        ++ beside tasks.now place.0 place.1 told.now told.now.kind) }
 {
-    match kind_of(event) {
-        Kind::Attached => push_words(
-            out,
-            "b m".as_bytes(),
-            (lane_x(place.0), 98),
-            first_word(event),
-        ),
-        Kind::Waiting => push_arrow_to(out, place.0, holder_of(tasks, event), place.1),
+    match told.kind {
+        Kind::Attached => push_label(out, place.0, told.task),
+        Kind::Waiting => push_arrow_to(out, place.0, lane_of(tasks, told.blocker), place.1),
         _ => Ok(()),
     }
 }
@@ -89,34 +87,29 @@ fn push_across(out: &mut Vec<u8>, lanes: usize, y: u64, kind: Kind) -> Result<()
 }
 
 // Puts the marks of a task's event in its lane, if it has one.
-fn push_lane_marks(
-    out: &mut Vec<u8>,
-    tasks: &[Record],
-    y: u64,
-    event: &[u8],
-) -> Result<(), NoMemory>
+fn push_lane_marks(out: &mut Vec<u8>, tasks: &[Name8], y: u64, told: &Told) -> Result<(), NoMemory>
     requires { length tasks.now ≤ most_lanes }
     ensures { OnOk result (out.new.items ≡ out.old.items
-        ++ lane_marks tasks.now y event.now (lane_of tasks.now (first_word event.now))) }
+        ++ lane_marks tasks.now y told.now (lane_of tasks.now told.now.task)) }
 {
-    match lane_of(tasks, first_word(event)) {
+    match lane_of(tasks, told.task) {
         Some(lane) => {
-            push_beside(out, tasks, (lane, y), event)?;
-            push_mark(out, kind_of(event), lane_x(lane), y)
+            push_beside(out, tasks, (lane, y), told)?;
+            push_mark(out, told.kind, lane_x(lane), y)
         }
         None => Ok(()),
     }
 }
 
-// Puts the marks of an event.
-fn push_marks(out: &mut Vec<u8>, tasks: &[Record], y: u64, event: &[u8]) -> Result<(), NoMemory>
+// Puts the marks of a row.
+fn push_marks(out: &mut Vec<u8>, tasks: &[Name8], y: u64, told: &Told) -> Result<(), NoMemory>
     requires { length tasks.now ≤ most_lanes }
-    ensures { OnOk result (out.new.items ≡ out.old.items ++ row_marks tasks.now y event.now) }
+    ensures { OnOk result (out.new.items ≡ out.old.items ++ row_marks tasks.now y told.now) }
 {
-    match kind_of(event) {
+    match told.kind {
         Kind::Clock => push_across(out, tasks.len(), y, Kind::Clock),
         Kind::Down => push_across(out, tasks.len(), y, Kind::Down),
-        _ => push_lane_marks(out, tasks, y, event),
+        _ => push_lane_marks(out, tasks, y, told),
     }
 }
 
@@ -162,16 +155,12 @@ fn push_line_text(
     }
 }
 
-// Puts the event of a row.
-fn push_event_text(out: &mut Vec<u8>, y: u64, event: &[u8]) -> Result<(), NoMemory>
-    ensures { OnOk result (out.new.items ≡ out.old.items ++ event_text y event.now) }
+// Puts what a row tells.
+fn push_told_text(out: &mut Vec<u8>, y: u64, told: &Told) -> Result<(), NoMemory>
+    ensures { OnOk result (out.new.items ≡ out.old.items ++ told_text y told.now) }
 {
-    push_cut_words(
-        out,
-        kind_of(event).class().as_bytes(),
-        (744, y),
-        cut(event, 70),
-    )
+    let text = cut(told.text.bytes(), 70);
+    push_cut_words(out, told.kind.class().as_bytes(), (744, y), text)
 }
 
 impl Drawing {
@@ -190,63 +179,51 @@ impl Drawing {
         }
     }
 
-    // Draws the row of an event: a line of the journal without its LF. `number` and `line` are
-    // those of the script's line, or 0 and nothing for an event that comes by itself.
-    fn push_row(&mut self, number: u64, line: &[u8], event: &[u8]) -> Result<(), NoMemory>
+    // Draws a row. `number` and `line` are those of the script's line, or 0 and nothing for an
+    // event that comes by itself.
+    fn push_row(&mut self, number: u64, line: &[u8], told: &Told) -> Result<(), NoMemory>
         requires { self.old.rows < 100000 }
         ensures { OnOk result (drawn_of self.new
-            ≡ with_row (drawn_of self.old) (row number line.now event.now)) }
+            ≡ with_row (drawn_of self.old) (row number line.now told.now)) }
     {
         let y = row_y(self.rows);
-        let alloc = *self.texts.allocator();
-        give_lane(&mut self.tasks, alloc, event)?;
+        give_lane(&mut self.tasks, told)?;
         push_row_number(&mut self.marks, y + 4, number)?;
-        push_marks(&mut self.marks, self.tasks.as_slice(), y, event)?;
-        let lane = lane_of(self.tasks.as_slice(), first_word(event));
+        push_marks(&mut self.marks, self.tasks.as_slice(), y, told)?;
+        let lane = lane_of(self.tasks.as_slice(), told.task);
         let asked = waited(self.lines.as_slice(), &self.lanes, lane);
         push_line_text(&mut self.texts, (y + 4, number), line, asked)?;
-        push_event_text(&mut self.texts, y + 4, event)?;
+        push_told_text(&mut self.texts, y + 4, told)?;
+        let alloc = *self.texts.allocator();
         self.lines.push(Record::from_slice(alloc, line)?)?;
-        note_row(&mut self.lanes, lane, self.rows, kind_of(event));
+        note_row(&mut self.lanes, lane, self.rows, told.kind);
         self.rows += 1;
         Ok(())
     }
 
-    // Draws a row for each line of the journal in a text that a line of the script printed. The
-    // first row has the line's number and its text.
-    fn push_rows(&mut self, number: u64, line: &[u8], text: &[u8]) -> Result<(), Undrawn>
+    // Draws the rows of what a line of the script led to. The first row has the line's number and
+    // its text.
+    fn push_rows(&mut self, number: u64, line: &[u8], rows: &[Told]) -> Result<(), Undrawn>
         ensures drawn { OnOk result (drawn_of self.new
-            ≡ fold with_row (drawn_of self.old) (rows_from number line.now [] text.now)) }
+            ≡ fold with_row (drawn_of self.old) (rows_from number line.now rows.now)) }
         ensures too_many { IfErr result (λ e. e ≡ TooManyRows
-            → most_rows < self.old.rows + length (rows_from number line.now [] text.now)) }
+            → most_rows < self.old.rows + length (rows_from number line.now rows.now)) }
     {
-        let mut event = Vec::new(*self.texts.allocator());
         let mut number = number;
         let mut line = line;
-        for byte in text {
-            if *byte == LF {
-                if self.rows == LIMIT {
-                    return Err(Undrawn::TooManyRows);
-                }
-                match self.push_row(number, line, &event) {
-                    Ok(()) => {}
-                    Err(_) => return Err(Undrawn::NoMemory),
-                }
-                event.clear();
-                number = 0;
-                line = &[];
-            } else {
-                match event.push(*byte) {
-                    Ok(()) => {}
-                    Err(_) => return Err(Undrawn::NoMemory),
-                }
+        for told in rows {
+            if self.rows == LIMIT {
+                return Err(Undrawn::TooManyRows);
             }
+            self.push_row(number, line, told)?;
+            number = 0;
+            line = &[];
         }
         Ok(())
     }
 
-    /// Draws a row for each line of the journal in a text that a line of the script printed. Then
-    /// it draws how the task of each lane stands. The first row has the line's number and its text.
+    /// Draws the rows of what a line of the script led to. Then it draws how the task of each lane
+    /// stands. The first row has the line's number and its text.
     ///
     /// Errors: `TooManyRows` if that is more rows than a picture may have; `NoMemory`. A picture
     /// that was refused a row is of no use.
@@ -254,23 +231,18 @@ impl Drawing {
         &mut self,
         number: u64,
         line: &[u8],
-        text: &[u8],
+        rows: &[Told],
         standings: &[Standing],
     ) -> Result<(), Undrawn>
         requires { length standings.now ≤ most_lanes }
         ensures drawn { OnOk result (drawn_of self.new ≡ with_line (drawn_of self.old)
-            (printed number line.now text.now standings.now)) }
+            (printed number line.now rows.now standings.now)) }
         ensures too_many { IfErr result (λ e. e ≡ TooManyRows
-            → most_rows < self.old.rows + length (rows_from number line.now [] text.now)) }
+            → most_rows < self.old.rows + length (rows_from number line.now rows.now)) }
     {
         let first = row_y(self.rows);
-        match self.push_rows(number, line, text) {
-            Ok(()) => {}
-            Err(undrawn) => return Err(undrawn),
-        }
-        match self.end_line(first, standings) {
-            Ok(()) => Ok(()),
-            Err(_) => Err(Undrawn::NoMemory),
-        }
+        self.push_rows(number, line, rows)?;
+        self.end_line(first, standings)?;
+        Ok(())
     }
 }

@@ -1,14 +1,7 @@
 -- The row of a command that has to wait names the task that blocks it.
-use Rattle.std.proofs.Common.{◌≡◌, ℕ, suc, Bool, true, false, cond, ◌==◌, ◌+◌, ◌-◌, ◌<◌, List, [], ◌∷◌, ◌++◌, length, take, drop, refl, ap, sym, ◌∙◌, subst, append_assoc, append-nil, arith, inl, inr, Option, Some, None, Result, Ok, Err}
-use Rattle.std.proofs.lemmas.Bool.{cases_Bool, and_parts, and_from, ne_eqb, ltb-true, true≢false, false≢true}
-use Rattle.std.proofs.lemmas.Slice.Eq.{bytes_eq-Decides}
-use Rattle.std.proofs.lemmas.List.{take_all, take-append-le}
-use Rattle.std.proofs.lemmas.List.Folds.{list_all-append}
-use Rattle.std.specs.Prelude.{not, option_map, is_some, nat_lt, if◌then◌else◌}
-use Rattle.std.specs.List.{list_all, flat_map, prefix_len}
-use Rattle.std.specs.Option.{option_to_list}
-use Rattle.std.specs.Str.{bytes_eq}
-use Rattle.cics_names.specs.Ebcdic.{Run, runs, is_within, character_in, character_of}
+use Rattle.std.proofs.Common.{◌≡◌, ℕ, Bool, true, false, cond, List, [], ◌∷◌, ◌++◌, take, refl, ap, sym, ◌∙◌, Option, Some, None, Result, Ok, Err}
+use Rattle.std.proofs.lemmas.Bool.{true≢false}
+use Rattle.std.specs.Prelude.{option_map, if◌then◌else◌}
 use Rattle.cics_names.specs.Keyed.{Bytes, is_same, value_at}
 use Rattle.cics_names.specs.KeyedLaws.{is_same-self}
 use Rattle.cics_names.specs.Conditions.{default_abend_of}
@@ -36,25 +29,20 @@ use Rattle.cics_dispatch.specs.declared.machine.outcomes.Outcome.{Outcome}
 use Rattle.cics_dispatch.specs.declared.machine.outcomes.Outcome.TheVariants.{Replied, Waiting, Abended, Ended}
 use Rattle.cics_dispatch.specs.declared.machine.outcomes.Refused.{Refused}
 use Rattle.cics_dispatch.specs.declared.machine.outcomes.Refused.TheVariants.{NoTask, RegionDown}
+use Rattle.cics_dispatch.specs.declared.machine.events.Event.TheVariants as event
+use Rattle.cics_dispatch.specs.declared.machine.events.Subject.TheVariants as subject
+use Rattle.cics_dispatch.specs.Machine.Events.{Happened, happened, drained}
 use Rattle.cics_dispatch.proofs.OfMachine.TaskPlaces.{place_of_task}
 use Rattle.cics_dispatch.proofs.OfMachine.Remembered.{not_refused}
-use Rattle.cics_script.specs.Texts.{shown, unfilled, bare}
-use Rattle.cics_run.specs.Session.Lines.{is_in_line}
-use Rattle.cics_run.specs.Stage.Journal.{outcome_line, refused_line}
-use Rattle.cics_run.specs.Stage.Stages.{step, followed, answered as answered_step, region_of}
-use Rattle.cics_run.specs.Stage.Settling.{settled}
+use Rattle.cics_run.specs.Stage.Stages.{step, followed, region_of}
 use Rattle.cics_run.specs.declared.stage.stage.Stage.{Stage}
-use Rattle.cics_run.proofs.OfSession.Playing.{not-true}
-use Rattle.cics_picture.specs.declared.events.Kind.{Kind}
-use Rattle.cics_picture.specs.declared.events.Kind.TheVariants as kind
-use Rattle.cics_picture.specs.Events.{is_in_word, first_word, behind_word, is_number, region_kind, told_kind, kind_of}
-use Rattle.cics_picture.specs.Lanes.{lane_from, lane_of, with_task, tasks_behind}
+use Rattle.cics_picture.specs.declared.events.Told.{Told}
 use Rattle.cics_picture.specs.Drawings.{Row, row, rows_from, rows_of}
-use Rattle.cics_picture.specs.Arrows.{attached}
 use Rattle.cics_picture.proofs.Waits.{wait-drawn}
+use Rattle.cics_picture.specs.Draw.Recording.{told_of, recorded}
 use Rattle.cics_picture.specs.Draw.Pictures.{printed}
 use Rattle.cics_picture.specs.Draw.Blocking.{commanded, HasToWait, ShowsBlocker}
-use lib.Chars.{codes}
+use Rattle.cics_picture.proofs.OfDraw.Recording.{events_told, faults_told, line-kept}
 
 -- ---- The task that is told is the one that blocks
 
@@ -171,146 +159,40 @@ named m label c holder = up m.is_down
 
 -- ---- The row of a wait
 
--- a text that has no LF within and one behind it is an event
-first-row : (front : List ℕ) (number : ℕ) (line event rest : List ℕ) → list_all is_in_line front ≡ true
-    → rows_from number line event (front ++ 10 ∷ rest) ≡ row number line (event ++ front) ∷ rows_from 0 [] [] rest
-first-row [] number line event rest all = ap (λ e. row number line e ∷ rows_from 0 [] [] rest) (sym (append-nil event))
-first-row (c ∷ front) number line event rest all =
-    let parts = and_parts (is_in_line c) (list_all is_in_line front) all in
-    rw (not-true (c == 10) parts.0) (
-    first-row front number line (event ++ c ∷ []) rest parts.1
-    ∙ ap (λ e. row number line e ∷ rows_from 0 [] [] rest) (append_assoc event (c ∷ []) front))
-
--- the word in front of a blank, and what stands behind it
-word-len : (w rest : List ℕ) → list_all is_in_word w ≡ true → prefix_len is_in_word (w ++ 32 ∷ rest) ≡ length w
-word-len [] rest all = refl
-word-len (c ∷ w) rest all =
-    let parts = and_parts (is_in_word c) (list_all is_in_word w) all in
-    let same : 1 + length w ≡ length (c ∷ w) = omega arith in
-    rw (not-true (c == 32) parts.0) (ap (λ n. 1 + n) (word-len w rest parts.1) ∙ same)
-
-dropped : (w rest : List ℕ) → drop (length w + 1) (w ++ 32 ∷ rest) ≡ rest
-dropped [] rest = refl
-dropped (c ∷ w) rest =
-    let same : length (c ∷ w) + 1 ≡ suc (length w + 1) = omega arith in
-    ap (λ k. drop k (c ∷ (w ++ 32 ∷ rest))) same ∙ dropped w rest
-
-word-first : (w rest : List ℕ) → list_all is_in_word w ≡ true → first_word (w ++ 32 ∷ rest) ≡ w
-word-first w rest all = ap (λ k. take k (w ++ 32 ∷ rest)) (word-len w rest all) ∙ take-append-le (length w) w (32 ∷ rest) (omega arith) ∙ take_all (length w) w (omega arith)
-
-word-behind : (w rest : List ℕ) → list_all is_in_word w ≡ true → behind_word (w ++ 32 ∷ rest) ≡ rest
-word-behind w rest all = ap (λ k. drop (k + 1) (w ++ 32 ∷ rest)) (word-len w rest all) ∙ dropped w rest
-
--- a label that rows attach is a word
-taken-word : (bytes : List ℕ) → list_all is_in_word (first_word bytes) ≡ true
-taken-word [] = refl
-taken-word (c ∷ bytes) =
-    let more : 1 + prefix_len is_in_word bytes ≡ suc (prefix_len is_in_word bytes) = omega arith in
-    elim (cases_Bool (c == 32)) [
-      | inl blank ↦ rw blank refl
-      | inr other ↦ rw other (
-          ap (λ k. list_all is_in_word (take k (c ∷ bytes))) more
-          ∙ and_from (is_in_word c) (list_all is_in_word (first_word bytes)) (ap not other) (taken-word bytes))
-    ]
-
-with-task-words : (label : List ℕ) (k : Kind) → list_all is_in_word label ≡ true → list_all (list_all is_in_word) (with_task [] label k) ≡ true
-with-task-words label kind.Attached all = and_from (list_all is_in_word label) true all refl
-with-task-words label k all = refl
-
-attached-words : (rows : List Row) → list_all (list_all is_in_word) (attached rows) ≡ true
-attached-words [] = refl
-attached-words (r ∷ rows) =
-    list_all-append (list_all is_in_word) (tasks_behind [] r.event) (attached rows)
-    ∙ and_from (list_all (list_all is_in_word) (tasks_behind [] r.event)) (list_all (list_all is_in_word) (attached rows))
-    (with-task-words (first_word r.event) (kind_of r.event) (taken-word r.event)) (attached-words rows)
-
-label-word : (n : ℕ) (tasks : List (List ℕ)) (label : List ℕ) → is_some (lane_from n tasks label) ≡ true → list_all (list_all is_in_word) tasks ≡ true → list_all is_in_word label ≡ true
-label-word n [] label some all = absurd (false≢true some)
-label-word n (task ∷ tasks) label some all =
-    let parts = and_parts (list_all is_in_word task) (list_all (list_all is_in_word) tasks) all in
-    elim (bytes_eq task label) as (λ b. bytes_eq task label ≡ b → is_some (cond b (Some n) (lane_from (n + 1) tasks label)) ≡ true → list_all is_in_word label ≡ true) [
-      | true ↦ λ same e. subst (λ l. list_all is_in_word l ≡ true) ((bytes_eq-Decides task label).0 same) parts.0
-      | false ↦ λ other e. label-word (n + 1) tasks label e parts.1
-    ] refl some
-
--- a label has no LF
-character-in-line : (rs : List Run) → list_all (λ r. nat_lt 10 r.character) rs ≡ true → (b : ℕ) → list_all is_in_line (option_to_list (character_in rs b)) ≡ true
-character-in-line [] above b = refl
-character-in-line (r ∷ rs) above b =
-    let parts = and_parts (nat_lt 10 r.character) (list_all (λ s. nat_lt 10 s.character) rs) above in
-    let first : 10 < r.character = ltb-true 10 r.character parts.0 in
-    let other : (r.character + (b - r.code) == 10) ≡ false = ne_eqb (r.character + (b - r.code)) 10 (λ same. omega (arith, first, same)) in
-    elim (cases_Bool (is_within r.code r.count b)) [
-      | inl here ↦ rw (here, other) refl
-      | inr past ↦ rw past (character-in-line rs parts.1 b)
-    ]
-
-shown-in-line : (b : ℕ) → list_all is_in_line (shown b) ≡ true
-unfolding character_of
-shown-in-line b = character-in-line runs refl b
-
-both-in-line : (xs ys : List ℕ) → list_all is_in_line xs ≡ true → list_all is_in_line ys ≡ true → list_all is_in_line (xs ++ ys) ≡ true
-both-in-line xs ys p q = list_all-append is_in_line xs ys ∙ and_from (list_all is_in_line xs) (list_all is_in_line ys) p q
-
-all-in-line : (bytes : List ℕ) → list_all is_in_line (flat_map shown bytes) ≡ true
-all-in-line [] = refl
-all-in-line (b ∷ bytes) = both-in-line (shown b) (flat_map shown bytes) (shown-in-line b) (all-in-line bytes)
-
-module _ (label holder : Bytes) where
-  abbrev told : List ℕ
-  told = codes "WAITING " ++ bare holder
-
-  -- what is printed of a wait
-  abbrev event : List ℕ
-  event = bare label ++ (32 ∷ told)
-
-  event-in-line : list_all is_in_line event ≡ true
-  event-in-line = both-in-line (bare label) (32 ∷ told) (all-in-line (unfilled label)) (both-in-line (codes " WAITING ") (bare holder) refl (all-in-line (unfilled holder)))
-
-  module _ (word : list_all is_in_word (bare label) ≡ true) where
-    names-waiter : first_word event ≡ bare label
-    names-waiter = word-first (bare label) told word
-
-    behind-waiter : behind_word event ≡ told
-    behind-waiter = word-behind (bare label) told word
-
-    names-holder : behind_word (behind_word event) ≡ bare holder
-    names-holder = ap behind_word behind-waiter
-
-    kind-waits : kind_of event ≡ kind.Waiting
-    kind-waits = ap (λ b. cond (is_number b) (region_kind (first_word event)) (told_kind (first_word b) (behind_word b))) behind-waiter
-
--- the line prints the event of its wait, and then what the region prints as it settles
+-- the first event of the line is its wait, and then come the turns that the region takes
 module _ (rows : List Row) (number : ℕ) (stage : Stage) (line : List ℕ) (w : HasToWait rows stage line) where
   abbrev behind : Machine
   behind = (commanded stage w.label w.command).machine
 
-  abbrev more : List ℕ
-  more = (settled (length behind.waiting) behind).text
+  abbrev wait : Happened
+  wait = record { event = event.Issued w.label (Waiting w.holder); machine = behind }
 
-  text : (step number stage line).text ≡ event w.label w.holder ++ 10 ∷ more
-  text =
-      ap (λ r. (followed number stage r).text) w.read
-      ∙ ap (λ o. (answered_step (region_of stage).machine (outcome_line w.label) (refused_line w.label) o behind).text) w.waits
-      ∙ append_assoc (event w.label w.holder) (10 ∷ []) more
+  events : (step stage line).events ≡ wait ∷ (drained behind).turns
+  events =
+      ap (λ r. (followed stage r).events) w.read
+      ∙ ap (λ o. let first = happened (region_of stage).machine (subject.Task w.label) (event.Issued w.label) o behind in first ∷ (drained first.machine).turns) w.waits
 
-  word : list_all is_in_word (bare w.label) ≡ true
-  word = label-word 0 (attached rows) (bare w.label) w.waiter_attached (attached-words rows)
+  no-fault : (step stage line).fault ≡ None
+  no-fault = ap (λ r. (followed stage r).fault) w.read
+
+  abbrev more : List Told
+  more = events_told (drained behind).turns ++ []
+
+  told : (recorded number (step stage line)).told ≡ told_of wait.event ∷ more
+  told =
+      line-kept number (step stage line)
+      ∙ ap (λ all. events_told all ++ faults_told number (step stage line).fault) events
+      ∙ ap (λ fault. events_told (wait ∷ (drained behind).turns) ++ faults_told number fault) no-fault
 
   pub blocker-shown : ShowsBlocker rows (rows_of (printed number stage line)) behind w.label
   blocker-shown =
-      let r = row number line (event w.label w.holder) in record {
+      let r = row number line (told_of wait.event) in record {
         first = r;
-        rest = rows_from 0 [] [] more;
+        rest = rows_from 0 [] more;
         blocker = w.holder;
-        begins = ap (rows_from number line []) text ∙ first-row (event w.label w.holder) number line [] more (event-in-line w.label w.holder);
+        begins = ap (rows_from number line) told;
         blocks = named (region_of stage).machine w.label w.command w.holder w.waits;
-        from_waiter = names-waiter w.label w.holder word;
-        to_blocker = names-holder w.label w.holder word;
-        arrow = wait-drawn rows r (record {
-          waits = kind-waits w.label w.holder word;
-          few = w.few;
-          waiter_attached = ap (λ l. is_some (lane_of (attached rows) l)) (names-waiter w.label w.holder word) ∙ w.waiter_attached;
-          awaited_attached = ap (λ l. is_some (lane_of (attached rows) l)) (names-holder w.label w.holder word) ∙ w.holder_attached;
-        });
+        from_waiter = refl;
+        to_blocker = refl;
+        arrow = wait-drawn rows r (record { waits = refl; few = w.few; waiter_attached = w.waiter_attached; awaited_attached = w.holder_attached });
       }

@@ -5,13 +5,13 @@ use Rattle.std.specs.List.{fold}
 use Rattle.cics_run.specs.Session.Lines.{all_lines}
 use Rattle.cics_run.specs.Stage.Stages.{step}
 use Rattle.cics_run.specs.Session.Running.{Played, play, has_fault, next, stepped, is_faulty}
-use Rattle.cics_run.specs.Session.Standing.{Ran, Keeps, next_step}
+use Rattle.cics_run.specs.Session.Standing.{Keeps, next_step}
 use Rattle.cics_run.specs.declared.session.session.Session.{Session}
 use Rattle.cics_run.proofs.OfSession.Playing.{next-going, fault-fold}
 use Rattle.cics_picture.specs.Lanes.{most_rows}
 use Rattle.cics_picture.specs.Drawings.{Drawn, rows_of, with_line}
 use Rattle.cics_picture.proofs.Counted.{line-counted, lines-counted}
-use Rattle.cics_picture.specs.Draw.Pictures.{printed, next_printed, printed_from, drawing_of, HasTooMany}
+use Rattle.cics_picture.specs.Draw.Pictures.{printed, Ran, next_printed, printed_from, drawing_of, HasTooMany}
 
 -- what is drawn of the lines that a run plays from where it stands
 abbrev pub drawn_from : Drawn → Played → List (List ℕ) → Drawn
@@ -63,8 +63,8 @@ module _ (d e : Drawn) (s t : Session) (rest line after script : List ℕ) (at :
   same : next_printed s line ≡ printed (at.played.number + 1) at.played.stage line
   same = rw (at.at_number, at.at_stage) refl
 
-  same-step : next_step s line ≡ step (at.played.number + 1) at.played.stage line
-  same-step = rw (at.at_number, at.at_stage) refl
+  same-step : next_step s line ≡ step at.played.stage line
+  same-step = ap (λ stage. step stage line) at.at_stage
 
   going-on : next at.played line ≡ stepped at.played line (next_step s line)
   going-on = next-going at.played line at.going ∙ ap (stepped at.played line) (sym same-step)

@@ -13,12 +13,8 @@ pub tag-within : (t : Tag) → list_all (is_gathered Name) (tag_name t) ≡ true
 tag-within tag.Svg = refl
 tag-within tag.Title = refl
 tag-within tag.Style = refl
-tag-within tag.Defs = refl
-tag-within tag.Pattern = refl
 tag-within tag.G = refl
-tag-within tag.A = refl
 tag-within tag.Rect = refl
-tag-within tag.Circle = refl
 tag-within tag.Line = refl
 tag-within tag.Path = refl
 tag-within tag.Text = refl
@@ -28,12 +24,8 @@ pub tag-start : (t : Tag) (c : ℕ) → named (tag_name t) c ≡ behind t [] c
 tag-start tag.Svg c = refl
 tag-start tag.Title c = refl
 tag-start tag.Style c = refl
-tag-start tag.Defs c = refl
-tag-start tag.Pattern c = refl
 tag-start tag.G c = refl
-tag-start tag.A c = refl
 tag-start tag.Rect c = refl
-tag-start tag.Circle c = refl
 tag-start tag.Line c = refl
 tag-start tag.Path c = refl
 tag-start tag.Text c = refl
@@ -43,31 +35,17 @@ pub tag-end : (t : Tag) → named (47 ∷ tag_name t) 62 ≡ Some (End t ∷ [],
 tag-end tag.Svg = refl
 tag-end tag.Title = refl
 tag-end tag.Style = refl
-tag-end tag.Defs = refl
-tag-end tag.Pattern = refl
 tag-end tag.G = refl
-tag-end tag.A = refl
 tag-end tag.Rect = refl
-tag-end tag.Circle = refl
 tag-end tag.Line = refl
 tag-end tag.Path = refl
 tag-end tag.Text = refl
 
 pub key-within : (k : Key) → list_all (λ c. not (c == 34)) (key_name k ++ codes "=") ≡ true
 key-within key.Class = refl
-key-within key.Cx = refl
-key-within key.Cy = refl
 key-within key.D = refl
 key-within key.Height = refl
-key-within key.Href = refl
-key-within key.Id = refl
-key-within key.PatternUnits = refl
-key-within key.R = refl
-key-within key.Role = refl
-key-within key.Rx = refl
-key-within key.Space = refl
 key-within key.Transform = refl
-key-within key.ViewBox = refl
 key-within key.Width = refl
 key-within key.X = refl
 key-within key.X1 = refl
@@ -79,19 +57,9 @@ key-within key.Y2 = refl
 
 pub key-found : (k : Key) → called (λ x. key_name x ++ codes "=") (key_name k ++ codes "=") keys ≡ Some k
 key-found key.Class = refl
-key-found key.Cx = refl
-key-found key.Cy = refl
 key-found key.D = refl
 key-found key.Height = refl
-key-found key.Href = refl
-key-found key.Id = refl
-key-found key.PatternUnits = refl
-key-found key.R = refl
-key-found key.Role = refl
-key-found key.Rx = refl
-key-found key.Space = refl
 key-found key.Transform = refl
-key-found key.ViewBox = refl
 key-found key.Width = refl
 key-found key.X = refl
 key-found key.X1 = refl

@@ -16,7 +16,7 @@ bytes : shown_text (38 ∷ 9 ∷ 0 ∷ 200 ∷ 126 ∷ []) ≡ codes "&#38; &#65
 unfolding digits
 bytes = refl
 
-crossed : document_of (codes "<g><a></g></a>") ≡ None
+crossed : document_of (codes "<g><text></g></text>") ≡ None
 unfolding pieces_from pairs_of
 crossed = refl
 

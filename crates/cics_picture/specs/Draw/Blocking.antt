@@ -10,14 +10,12 @@ use Rattle.cics_dispatch.specs.declared.machine.outcomes.Outcome.{Outcome}
 use Rattle.cics_dispatch.specs.declared.machine.outcomes.Outcome.TheVariants.{Waiting}
 use Rattle.cics_dispatch.specs.declared.machine.outcomes.Refused.{Refused}
 use Rattle.cics_script.specs.Lines as reading
-use Rattle.cics_script.specs.Texts.{bare}
 use Rattle.cics_script.specs.declared.lines.Line.TheVariants.{Issue}
 use Rattle.cics_run.specs.Stage.Stages.{region_of}
 use Rattle.cics_run.specs.declared.stage.stage.Stage.{Stage}
-use Rattle.cics_picture.specs.Events.{first_word}
 use Rattle.cics_picture.specs.Lanes.{most_lanes, lane_of}
 use Rattle.cics_picture.specs.Drawings.{Row, rows_of}
-use Rattle.cics_picture.specs.Arrows.{attached, awaited, DrawsArrow}
+use Rattle.cics_picture.specs.Arrows.{attached, DrawsArrow}
 use Rattle.cics_picture.specs.Draw.Pictures.{printed}
 
 -- the step of a region that a command of the task of a label asks for
@@ -34,8 +32,8 @@ pub record HasToWait (rows : List Row) (stage : Stage) (line : List ℕ) : Type 
   pub read : reading.line line ≡ Ok (Issue label command)
   pub waits : (commanded stage label command).outcome ≡ Ok (Waiting holder)
   pub few : length (attached rows) ≤ most_lanes
-  pub waiter_attached : is_some (lane_of (attached rows) (bare label)) ≡ true
-  pub holder_attached : is_some (lane_of (attached rows) (bare holder)) ≡ true
+  pub waiter_attached : is_some (lane_of (attached rows) (Some label)) ≡ true
+  pub holder_attached : is_some (lane_of (attached rows) (Some holder)) ≡ true
 
 -- The first row of a line, after other rows, draws exactly one arrow. It leads from the lane of a
 -- label's task to that of the task that blocks it in this machine.
@@ -45,8 +43,8 @@ pub record ShowsBlocker (before rows : List Row) (m : Machine) (label : Bytes) :
   pub blocker : Bytes
   pub begins : rows ≡ first ∷ rest
   pub blocks : blocker_of m label ≡ Some blocker
-  pub from_waiter : first_word first.event ≡ bare label
-  pub to_blocker : awaited first ≡ bare blocker
+  pub from_waiter : first.told.task ≡ Some label
+  pub to_blocker : first.told.blocker ≡ Some blocker
   pub arrow : DrawsArrow before first
 
 -- if a line's command has to wait, its rows show the blocker that the region has after the command

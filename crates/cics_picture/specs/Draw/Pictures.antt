@@ -4,7 +4,7 @@ use Rattle.std.specs.Io.KnownBytes.{Appends, Consumes, IsAtEnd}
 use Rattle.cics_run.specs.Session.Lines.{all_lines}
 use Rattle.cics_run.specs.Stage.Stages.{step}
 use Rattle.cics_run.specs.Session.Running.{Played, play, has_fault, next, start, is_faulty, most_bytes}
-use Rattle.cics_run.specs.Session.Standing.{Ran, Keeps}
+use Rattle.cics_run.specs.Session.Standing.{Keeps, next_step}
 use Rattle.cics_run.specs.declared.session.session.Session.{Session}
 use Rattle.cics_run.specs.declared.stage.stage.Stage.{Stage}
 use Rattle.cics_run.specs.Session.Printing.{AppendsFront}
@@ -22,19 +22,22 @@ use Rattle.cics_history.specs.declared.ops.UnitState.{UnitState}
 use Rattle.cics_picture.specs.Draw.Titles.{title_of}
 use Rattle.cics_picture.specs.declared.bars.Look.{Look}
 use Rattle.cics_picture.specs.Draw.Standings.{standings_at, entries_at, outcomes_at, looks_at}
+use Rattle.cics_picture.specs.Draw.Recording.{recorded}
 use Rattle.cics_picture.specs.Draw.Reads.{shown_at, with_shown}
+use Rattle.cics_picture.specs.declared.draw.recording.Given.{Given}
 use Rattle.cics_picture.specs.declared.draw.picture.NoPicture.{NoPicture}
 use Rattle.cics_picture.specs.declared.draw.picture.NoPicture.TheVariants.{Stopped, TooManyEvents}
 
--- how the tasks stand after a line that ran and printed a text, and what its read shows
-abbrev pub standings_behind : ℕ → Stage → List ℕ → List ℕ → List Standing
-standings_behind before stage line text = with_shown (standings_at before stage) (shown_at stage line text)
+-- how the tasks stand after a line that ran, and what its read shows
+abbrev pub standings_behind : ℕ → Stage → List ℕ → Option Given → List Standing
+standings_behind before stage line given = with_shown (standings_at before stage) (shown_at stage line given)
 
--- a line, what its step printed, and how the tasks stand after it
+-- a line, what it led to, and how the tasks stand after it
 abbrev pub printed : ℕ → Stage → List ℕ → Printed
 printed number stage line =
-    let s = step number stage line in
-    record { number = number; line = line; text = s.text; standings = standings_behind (length (entries_at stage)) s.stage line s.text }
+    let s = step stage line in
+    let r = recorded number s in
+    record { number = number; line = line; told = r.told; standings = standings_behind (length (entries_at stage)) s.stage line r.given }
 
 -- the line that a session runs next, and what it prints
 abbrev pub next_printed : Session → List ℕ → Printed
@@ -65,6 +68,12 @@ outcomes_of script = outcomes_at (play (all_lines script)).stage
 -- the picture of a script
 abbrev pub picture_of : List ℕ → List ℕ
 picture_of script = sheet (drawing_of script) (looks_of script) (title_of script)
+
+-- A session ran a line more.
+pub record Ran (s : Session) (line : List ℕ) (t : Session) : Type 0 where
+  pub stage : t.stage ≡ (next_step s line).stage
+  pub number : t.number ≡ s.number + 1
+  pub fault : t.fault ≡ (next_step s line).fault
 
 -- A session ran a line, which it keeps if that is a fault.
 abbrev pub RunsLine : {E : Type 0} → Session → List ℕ → Session → Result Bool E → Type 0

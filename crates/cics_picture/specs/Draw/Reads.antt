@@ -1,5 +1,5 @@
 -- Reads that show what isn't committed: the number of the reader's task, and the unit that wrote.
-use Rattle.std.specs.Prelude.{ℕ, ◌-◌, ◌==◌, Bool, false, not, ◌&&◌, ◌||◌, if◌then◌else◌, Option, Some, None, option_map, unwrap_or, slice_get, slice_set, List, [], ◌++◌, length, take, Result, Ok}
+use Rattle.std.specs.Prelude.{ℕ, ◌==◌, Bool, false, not, ◌&&◌, ◌||◌, if◌then◌else◌, Option, Some, None, option_map, unwrap_or, slice_get, slice_set, List, [], Result, Ok}
 use Rattle.std.specs.List.{list_any, prefix_len}
 use Rattle.std.specs.Str.{bytes_eq}
 use Rattle.cics_names.specs.Keyed.{Bytes, is_same, value_at}
@@ -17,7 +17,6 @@ use Rattle.cics_history.specs.declared.ops.Entry.{Entry}
 use Rattle.cics_dispatch.specs.Machine.Machine.{RegionValue}
 use Rattle.cics_dispatch.specs.Notes.Notes.{is_unit}
 use Rattle.cics_dispatch.specs.Machine.Blockers.{unit_of, number_of}
-use Rattle.cics_script.specs.Tokens.{token_at}
 use Rattle.cics_script.specs.Lines as reading
 use Rattle.cics_script.specs.declared.faults.LineFault.{LineFault}
 use Rattle.cics_script.specs.declared.lines.Line.{Line}
@@ -27,48 +26,21 @@ use Rattle.cics_run.specs.declared.stage.stage.Stage.{Stage}
 use Rattle.cics_run.specs.declared.stage.stage.Stage.TheVariants.{Opening, Running}
 use Rattle.cics_picture.specs.declared.bars.Standing.{Standing}
 use Rattle.cics_picture.specs.Bars.{nobody}
-use Rattle.cics_picture.specs.Events.{first_word, behind_word}
-use lib.Chars.{codes}
-
--- whether a text is an answer of NORMAL or LENGERR: with these a read gives data
-abbrev pub has_data : List ℕ → Bool
-has_data told = let condition = first_word (behind_word told) in bytes_eq condition (codes "NORMAL") || bytes_eq condition (codes "LENGERR")
-
--- the key that a command READ names
-abbrev pub ridfld_of : Verb → Option Bytes
-ridfld_of (Read f k given n generic gteq update) = Some k
-ridfld_of verb = None
-
--- the key that a line with a READ names
-abbrev pub ridfld_in : Result Line LineFault → Option Bytes
-ridfld_in (Ok (Issue label c)) = ridfld_of c.verb
-ridfld_in read = None
-
--- the literal behind the word KEY of an answer
-abbrev pub key_literal : List ℕ → List ℕ
-key_literal told =
-    let behind = behind_word (behind_word (behind_word (behind_word told))) in take (length behind - length (token_at behind).1) behind
-
--- a line with a READ whose RIDFLD is that literal
-abbrev pub key_line : List ℕ → List ℕ
-key_line told = (codes "T EXEC CICS READ FILE('F') RIDFLD(" ++ key_literal told) ++ codes ")"
-
--- the key in an answer of READNEXT or READPREV
-abbrev pub key_told : List ℕ → Option Bytes
-key_told told = ridfld_in (reading.line (key_line told))
+use Rattle.cics_picture.specs.declared.draw.recording.Given.{Given}
 
 -- the record of the least key that isn't below this one, as the command that would delete it
 abbrev pub record_of : UnitsValue → Bytes → Option Bytes → Option Op
 record_of u f None = None
 record_of u f (Some k) = option_map (λ e. Delete f e.0) (first_from (unwrap_or (value_at f u.store.files) []) k false)
 
--- the record or the queue that a read shows, as the command that would delete it
-abbrev pub shown_by : UnitsValue → Verb → List ℕ → Option Op
-shown_by u (Read f k given n generic gteq false) told = record_of u f (Some k)
-shown_by u (ReadNext f n) told = record_of u f (key_told told)
-shown_by u (ReadPrev f n) told = record_of u f (key_told told)
-shown_by u (ReadqTs q n item) told = Some (TsDelete q)
-shown_by u verb told = None
+-- the record or the queue that a read shows, as the command that would delete it; a browse was
+-- answered the key of its record
+abbrev pub shown_by : UnitsValue → Verb → Given → Option Op
+shown_by u (Read f k own n generic gteq false) given = record_of u f (Some k)
+shown_by u (ReadNext f n) given = record_of u f given.key
+shown_by u (ReadPrev f n) given = record_of u f given.key
+shown_by u (ReadqTs q n item) given = Some (TsDelete q)
+shown_by u verb given = None
 
 -- a command wrote or deleted the record of a key. DELETE GENERIC of a shorter prefix doesn't count:
 -- no read shows what it deleted
@@ -108,20 +80,21 @@ both (Some number) None = None
 both (Some number) (Some unit) = Some (number, unit)
 
 -- the number of the reader's task, and the other open unit that last changed what the read shows
-abbrev pub shown_of : RegionValue → Bytes → Verb → List ℕ → Option (ℕ × ℕ)
-shown_of r label verb told =
+abbrev pub shown_of : RegionValue → Bytes → Verb → Given → Option (ℕ × ℕ)
+shown_of r label verb given =
     let u : UnitsValue = record { state = r.machine.units; store = r.store } in
-    both (number_of r.machine.tasks label) (changer u.state (unit_of r.machine label) (shown_by u verb told))
+    both (number_of r.machine.tasks label) (changer u.state (unit_of r.machine label) (shown_by u verb given))
 
 -- the same of a line, as the grammar reads it
-abbrev pub shown_in : RegionValue → Result Line LineFault → List ℕ → Option (ℕ × ℕ)
-shown_in r (Ok (Issue label c)) told = shown_of r label c.verb told
-shown_in r read told = None
+abbrev pub shown_in : RegionValue → Result Line LineFault → Given → Option (ℕ × ℕ)
+shown_in r (Ok (Issue label c)) given = shown_of r label c.verb given
+shown_in r read given = None
 
--- the same of a line that ran and printed a text
-abbrev pub shown_at : Stage → List ℕ → List ℕ → Option (ℕ × ℕ)
-shown_at (Opening o) line told = None
-shown_at (Running r) line told = if has_data told then shown_in r (reading.line line) told else None
+-- the same of a line that ran, if its command was given data
+abbrev pub shown_at : Stage → List ℕ → Option Given → Option (ℕ × ℕ)
+shown_at stage line None = None
+shown_at (Opening o) line (Some given) = None
+shown_at (Running r) line (Some given) = shown_in r (reading.line line) given
 
 -- the lane of the task that has a unit; if none has it, the number of lanes
 abbrev pub lane_with : ℕ → List Standing → ℕ

@@ -13,6 +13,7 @@ ghost use Rattle.cics_picture.specs.Draw.Pictures.{next_printed, printed_lines, 
 ghost use Rattle.cics_picture.specs.Draw.Pictures.{standings_behind};
 ghost use Rattle.cics_run.specs.declared.stage.stage.Stage.{Stage};
 ghost use Rattle.cics_picture.specs.Draw.Blocking.{NamesBlocker};
+ghost use Rattle.cics_picture.specs.Draw.Recording.{recorded_in, nothing_recorded, recorded};
 ghost use Rattle.cics_picture.specs.Draw.Pictures.{RunsLine, KeepsLast, looks_of, outcomes_of};
 ghost use Rattle.cics_history.specs.Headline.{outcome_of};
 ghost use Rattle.cics_history.specs.declared.ops.UnitState.TheVariants.{Committed, BackedOut};
@@ -20,14 +21,14 @@ ghost use Rattle.cics_picture.specs.Bars.{bar_text, filled, hollow};
 ghost use Rattle.cics_picture.specs.declared.bars.Bar.{Bar};
 
 use crate::draw::reads::{shown_at, with_shown};
+use crate::draw::recording::{Given, Recorder};
 use crate::draw::standings::{entries_at, looks_at, standings_at};
 use crate::draw::titles::title_of;
 use crate::{Drawing, Standing, Undrawn, push_sheet};
 use cics_names::{Items, NoMemory};
 use cics_run::session::Session;
+use cics_run::stage::keep_undefined;
 use cics_run::whole::next_line;
-use cics_script::advice::keep_undefined;
-use std::alloc::Global;
 
 /// The rows of a picture show what the run prints, in order: their events, each with its LF, are
 /// the journal.
@@ -53,20 +54,22 @@ pub fn waits_name_blockers()
         → NamesBlocker before number stage line }
 {}
 
-// Runs a line and returns whether it has a fault. What it printed is then pending. The session
-// keeps a line with a fault, for the message on standard error.
-fn run_line(session: &mut Session, line: &[u8]) -> Result<bool, NoMemory>
+// Runs a line and returns whether it has a fault. A recorder keeps what it leads to. The session
+// keeps a line with a fault, and an undefined name, for what is told on standard error.
+fn run_line(session: &mut Session, recorder: &mut Recorder, line: &[u8]) -> Result<bool, NoMemory>
     requires number { session.old.number + 1 < 2 ^ 64 }
     requires none { session.old.line.items ≡ [] }
+    requires nothing { recorded_in recorder.old ≡ nothing_recorded }
     ensures runs { RunsLine session.old line.now session.new result }
-    ensures text { OnOk result (session.new.pending.items ≡ (next_step session.old line.now).text) }
+    ensures recorded { OnOk result (recorded_in recorder.new
+        ≡ recorded (session.old.number + 1) (next_step session.old line.now)) }
 {
     session.number += 1;
-    session.pending.clear();
+    let alloc = *session.line.allocator();
     session.fault = session
         .stage
-        .run_line(session.number, line, &mut session.pending)?;
-    keep_undefined(&mut session.undefined, line, &session.pending, 0);
+        .run_line(alloc, session.number, line, recorder)?;
+    keep_undefined(&mut session.undefined, line, recorder.is_undefined);
     let is_fault = session.fault.is_some();
     if is_fault {
         session.line.extend_from_slice(line)?;
@@ -76,21 +79,21 @@ fn run_line(session: &mut Session, line: &[u8]) -> Result<bool, NoMemory>
 
 // Returns how the tasks stand after a line that a session has run, and what its read shows.
 fn standings_behind(
-    alloc: Global,
     before: usize,
     session: &Session,
     line: &[u8],
+    given: &Option<Given>,
 ) -> Result<Items<Standing>, NoMemory>
     ensures value { IfOk result (λ standings. standings
-        ≡ standings_behind before session.now.stage line.now session.now.pending.items) }
+        ≡ standings_behind before session.now.stage line.now given.now) }
     ensures few { IfOk result (λ standings. length standings ≤ most_lanes) }
 {
-    let standings = standings_at(alloc, before, &session.stage)?;
-    let shown = shown_at(&session.stage, line, &session.pending)?;
+    let standings = standings_at(*session.line.allocator(), before, &session.stage)?;
+    let shown = shown_at(&session.stage, line, given)?;
     Ok(with_shown(standings, shown))
 }
 
-// Runs a line, draws what it prints, and returns whether that is a fault.
+// Runs a line, draws what it leads to, and returns whether it has a fault.
 fn draw_line(session: &mut Session, drawing: &mut Drawing, line: &[u8]) -> Result<bool, Undrawn>
     requires number { session.old.number + 1 < 2 ^ 64 }
     requires none { session.old.line.items ≡ [] }
@@ -101,23 +104,14 @@ fn draw_line(session: &mut Session, drawing: &mut Drawing, line: &[u8]) -> Resul
         → most_rows < drawing.old.rows + length (rows_of (next_printed session.old line.now))) }
 {
     let before = entries_at(&session.stage).len();
-    let is_fault = match run_line(session, line) {
-        Ok(is_fault) => is_fault,
-        Err(_) => return Err(Undrawn::NoMemory),
-    };
-    let alloc = *session.pending.allocator();
-    let standings = match standings_behind(alloc, before, session, line) {
-        Ok(standings) => standings,
-        Err(_) => return Err(Undrawn::NoMemory),
-    };
-    match drawing.push_line(session.number, line, &session.pending, standings.as_slice()) {
-        Ok(()) => {}
-        Err(undrawn) => return Err(undrawn),
-    }
+    let mut recorder = Recorder::new(*session.line.allocator());
+    let is_fault = run_line(session, &mut recorder, line)?;
+    let standings = standings_behind(before, session, line, &recorder.given)?;
+    drawing.push_line(session.number, line, &recorder.told, standings.as_slice())?;
     Ok(is_fault)
 }
 
-// Runs the lines of a script up to the first fault, draws what they print, and returns whether
+// Runs the lines of a script up to the first fault, draws what they lead to, and returns whether
 // there was a fault.
 fn draw_lines(session: &mut Session, drawing: &mut Drawing, script: &[u8]) -> Result<bool, Undrawn>
     requires new { IsNew session.old }
@@ -155,16 +149,8 @@ pub fn draw_script(session: &mut Session, script: &[u8], out: &mut Vec<u8>) -> R
         → most_rows < (drawing_of script.now).rows) }
 {
     let mut drawing = Drawing::new(*out.allocator());
-    let is_faulty = match draw_lines(session, &mut drawing, script) {
-        Ok(is_faulty) => is_faulty,
-        Err(undrawn) => return Err(undrawn),
-    };
-    let looks = match looks_at(*out.allocator(), &session.stage) {
-        Ok(looks) => looks,
-        Err(_) => return Err(Undrawn::NoMemory),
-    };
-    match push_sheet(out, &mut drawing, looks.as_slice(), title_of(script)) {
-        Ok(()) => Ok(is_faulty),
-        Err(_) => Err(Undrawn::NoMemory),
-    }
+    let is_faulty = draw_lines(session, &mut drawing, script)?;
+    let looks = looks_at(*out.allocator(), &session.stage)?;
+    push_sheet(out, &mut drawing, looks.as_slice(), title_of(script))?;
+    Ok(is_faulty)
 }

@@ -66,7 +66,7 @@ pub fn run_picture<S: Source, K: Sink>(
     ensures whole { Pictures (S.remaining source.old) (S.remaining source.new)
         (K.contents sink.old) (K.contents sink.new) result }
 {
-    let alloc = *session.pending.allocator();
+    let alloc = *session.line.allocator();
     let mut script = Vec::new(alloc);
     match read_script(source, &mut script) {
         Ok(()) => {}

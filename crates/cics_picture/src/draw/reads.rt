@@ -6,87 +6,21 @@ ghost use Rattle.cics_dispatch.specs.Notes.Notes.{is_unit};
 ghost use Rattle.cics_history.specs.Borrowed.{as_op};
 ghost use Rattle.cics_history.specs.Execution.{is_ready_op};
 ghost use Rattle.cics_picture.specs.Lanes.{most_lanes};
-ghost use Rattle.cics_picture.specs.Draw.Reads.{has_data, ridfld_of, ridfld_in, key_literal};
-ghost use Rattle.cics_picture.specs.Draw.Reads.{key_line, key_told, shown_in};
-ghost use Rattle.cics_picture.specs.Draw.Reads.{record_of, shown_by, changes_record, writes_item, changes};
+ghost use Rattle.cics_picture.specs.Draw.Reads.{record_of, shown_by, shown_in, changes_record};
+ghost use Rattle.cics_picture.specs.Draw.Reads.{writes_item, changes};
 ghost use Rattle.cics_picture.specs.Draw.Reads.{changed, changer, shown_of, shown_at};
 ghost use Rattle.cics_picture.specs.Draw.Reads.{lane_with, with_shown};
 
-use crate::draw::standings::{is_same, unit_of};
-use crate::{Standing, behind_word, first_word};
+use crate::Standing;
+use crate::draw::recording::Given;
+use crate::draw::standings::unit_of;
+use crate::lanes::is_same;
 use cics_dispatch::Region;
 use cics_history::{Entry, Op, OpRef};
 use cics_names::{Condition, Items, Name8, NoMemory, Record, Verb};
 use cics_run::stage::Stage;
-use cics_script::spelling::push_str;
-use cics_script::{Line, LineFault, read_line, whole_token};
+use cics_script::{Line, LineFault, read_line};
 use cics_units::Units;
-use std::alloc::Global;
-
-// Returns whether an answer is NORMAL or LENGERR: with these a read gives data.
-fn has_data(told: &[u8]) -> bool
-    ensures { result ≡ has_data told.now }
-{
-    let condition = first_word(behind_word(told));
-    condition == "NORMAL".as_bytes() || condition == "LENGERR".as_bytes()
-}
-
-// Returns the literal behind the word KEY of an answer.
-fn key_literal(told: &[u8]) -> &[u8]
-    ensures { result.now ≡ key_literal told.now }
-{
-    let behind = behind_word(behind_word(behind_word(behind_word(told))));
-    if behind.is_empty() {
-        return behind;
-    }
-    match whole_token(behind) {
-        Some((literal, _)) => literal,
-        None => behind,
-    }
-}
-
-// Returns the key that a command READ names.
-fn ridfld_of(verb: &Verb) -> Result<Option<Record>, NoMemory>
-    ensures { IfOk result (λ key. key ≡ ridfld_of verb.now) }
-{
-    match verb {
-        Verb::Read { ridfld, .. } => Ok(Some(ridfld.copy()?)),
-        _ => Ok(None),
-    }
-}
-
-// Returns the key that a command READ on a line names.
-fn ridfld_in(line: &Line) -> Result<Option<Record>, NoMemory>
-    ensures { IfOk result (λ key. key ≡ ridfld_in (Ok line.now)) }
-{
-    match line {
-        Line::Issue(_, command) => ridfld_of(&command.verb),
-        _ => Ok(None),
-    }
-}
-
-// Returns a line with a command READ of the key that an answer tells.
-fn key_line(alloc: Global, told: &[u8]) -> Result<Vec<u8>, NoMemory>
-    ensures { IfOk result (λ line. line.items ≡ key_line told.now) }
-{
-    let mut line = Vec::new(alloc);
-    push_str(&mut line, "T EXEC CICS READ FILE('F') RIDFLD(")?;
-    line.extend_from_slice(key_literal(told))?;
-    push_str(&mut line, ")")?;
-    Ok(line)
-}
-
-// Returns the key that an answer of READNEXT or READPREV tells, read as RIDFLD of a command.
-fn key_told(alloc: Global, told: &[u8]) -> Result<Option<Record>, NoMemory>
-    ensures { IfOk result (λ key. key ≡ key_told told.now) }
-{
-    let line = key_line(alloc, told)?;
-    match read_line(alloc, &line) {
-        Ok(line) => ridfld_in(&line),
-        Err(LineFault::NoMemory) => Err(NoMemory),
-        Err(_) => Ok(None),
-    }
-}
 
 // Returns the record of the least key that isn't below this one, as the command that would delete
 // it.
@@ -107,8 +41,8 @@ fn record_of(units: &Units, file: &Name8, key: &Record) -> Result<Option<Op>, No
 }
 
 // Returns the record or the queue that a read shows, as the command that would delete it.
-fn shown_by(units: &Units, verb: &Verb, told: &[u8]) -> Result<Option<Op>, NoMemory>
-    ensures value { IfOk result (λ shown. shown ≡ shown_by units.now verb.now told.now) }
+fn shown_by(units: &Units, verb: &Verb, given: &Given) -> Result<Option<Op>, NoMemory>
+    ensures value { IfOk result (λ shown. shown ≡ shown_by units.now verb.now given.now) }
     ensures ready { IfOk result (λ shown. IfSome shown (λ op.
         IsTrue (is_ready_op units.now.state None op))) }
 {
@@ -119,12 +53,10 @@ fn shown_by(units: &Units, verb: &Verb, told: &[u8]) -> Result<Option<Op>, NoMem
             update: false,
             ..
         } => record_of(units, file, ridfld),
-        Verb::ReadNext { file, .. } | Verb::ReadPrev { file, .. } => {
-            match key_told(units.opening().allocator(), told)? {
-                Some(key) => record_of(units, file, &key),
-                None => Ok(None),
-            }
-        }
+        Verb::ReadNext { file, .. } | Verb::ReadPrev { file, .. } => match &given.key {
+            Some(key) => record_of(units, file, key),
+            None => Ok(None),
+        },
         Verb::ReadqTs { queue, .. } => Ok(Some(Op::TsDelete { queue: *queue })),
         _ => Ok(None),
     }
@@ -217,14 +149,14 @@ fn shown_of(
     region: &Region,
     label: &Name8,
     verb: &Verb,
-    told: &[u8],
+    given: &Given,
 ) -> Result<Option<(usize, u64)>, NoMemory>
-    ensures { IfOk result (λ shown. shown ≡ shown_of region.now label.now verb.now told.now) }
+    ensures { IfOk result (λ shown. shown ≡ shown_of region.now label.now verb.now given.now) }
 {
     let Some(number) = region.number(label) else {
         return Ok(None);
     };
-    let Some(shown) = shown_by(region.units(), verb, told)? else {
+    let Some(shown) = shown_by(region.units(), verb, given)? else {
         return Ok(None);
     };
     match changer(region.units(), unit_of(region, label), &shown) {
@@ -234,31 +166,35 @@ fn shown_of(
 }
 
 // Returns the same of a line that was read.
-fn shown_in(region: &Region, line: &Line, told: &[u8]) -> Result<Option<(usize, u64)>, NoMemory>
-    ensures { IfOk result (λ shown. shown ≡ shown_in region.now (Ok line.now) told.now) }
+fn shown_in(region: &Region, line: &Line, given: &Given) -> Result<Option<(usize, u64)>, NoMemory>
+    ensures { IfOk result (λ shown. shown ≡ shown_in region.now (Ok line.now) given.now) }
 {
     match line {
-        Line::Issue(label, command) => shown_of(region, label, &command.verb, told),
+        Line::Issue(label, command) => shown_of(region, label, &command.verb, given),
         _ => Ok(None),
     }
 }
 
 /// Returns the number of the task whose read shows what isn't committed, and the other open unit
-/// that last changed this. The line has run, and has printed `told`.
+/// that last changed this. The line has run, and `given` is what its command was given.
 ///
 /// Errors: `NoMemory`. Cost: O(bytes of the line + log records), and O(history) if another unit
 /// holds what is shown.
-pub fn shown_at(stage: &Stage, line: &[u8], told: &[u8]) -> Result<Option<(usize, u64)>, NoMemory>
-    ensures { IfOk result (λ shown. shown ≡ shown_at stage.now line.now told.now) }
+pub fn shown_at(
+    stage: &Stage,
+    line: &[u8],
+    given: &Option<Given>,
+) -> Result<Option<(usize, u64)>, NoMemory>
+    ensures { IfOk result (λ shown. shown ≡ shown_at stage.now line.now given.now) }
 {
+    let Some(given) = given else {
+        return Ok(None);
+    };
     let Stage::Running(region) = stage else {
         return Ok(None);
     };
-    if !has_data(told) {
-        return Ok(None);
-    }
     match read_line(region.units().opening().allocator(), line) {
-        Ok(line) => shown_in(region, &line, told),
+        Ok(line) => shown_in(region, &line, given),
         Err(LineFault::NoMemory) => Err(NoMemory),
         Err(_) => Ok(None),
     }

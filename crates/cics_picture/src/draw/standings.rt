@@ -2,7 +2,7 @@
 
 ghost use Rattle.std.specs.Prelude.{◌≡◌, ◌↔◌, ◌≤◌, ℕ, true, Some, length, IfOk};
 ghost use Rattle.std.specs.List.{list_any};
-ghost use Rattle.cics_names.specs.Keyed.{Bytes, is_same, is_key_in};
+ghost use Rattle.cics_names.specs.Keyed.{Bytes, is_key_in};
 ghost use Rattle.cics_dispatch.specs.Machine.Machine.{Machine};
 ghost use Rattle.cics_dispatch.specs.Machine.Blockers.{label_at, unit_of};
 ghost use Rattle.cics_history.specs.Borrowed.{as_op};
@@ -12,6 +12,7 @@ ghost use Rattle.cics_picture.specs.Draw.Standings.{is_change, stays, any_stays,
 ghost use Rattle.cics_picture.specs.Draw.Standings.{standings_at, outcomes_at, look_of, looks_at};
 ghost use Rattle.cics_picture.specs.Draw.Standings.{IsInDeadlock};
 
+use crate::lanes::is_same;
 use crate::{Look, MOST_LANES, NOBODY, Standing};
 use cics_dispatch::Region;
 use cics_dispatch::deadlocks::deadlocks;
@@ -29,13 +30,6 @@ pub fn deadlocks_are_marked()
         → ((standing_at m (shown_deadlocks m) number).is_deadlocked ≡ true)
         ↔ IsInDeadlock m label }
 {}
-
-/// Returns whether two names are the same.
-pub fn is_same(label: &Name8, other: &Name8) -> bool
-    ensures { result ≡ is_same label.now other.now }
-{
-    *label == *other
-}
 
 fn has_label(labels: &[Name8], label: &Name8) -> bool
     ensures { result ≡ is_key_in label.now labels.now }

@@ -12,19 +12,13 @@ ghost use Rattle.cics_picture.specs.Xml.Reading.{document_of};
 
 use crate::xml::names::{Key, Tag};
 use cics_names::NoMemory;
+use cics_script::spelling::{self, push_str};
 
 /// The text of every document is read back as that document. Each of its elements is closed, and no
 /// text or value ends before its end.
 pub fn documents_read_back()
     ensures { (d : Document) → document_of (document_text d) ≡ Some d }
 {}
-
-fn push_ascii(out: &mut Vec<u8>, text: &str) -> Result<(), NoMemory>
-    ensures { OnOk result (out.new.items ≡ out.old.items ++ text.now) }
-{
-    out.extend_from_slice(text.as_bytes())?;
-    Ok(())
-}
 
 fn is_special(byte: u8) -> bool
     ensures { result ≡ is_special byte }
@@ -64,7 +58,7 @@ fn push_character(out: &mut Vec<u8>, byte: u8) -> Result<(), NoMemory>
         out.push(byte)?;
         return Ok(());
     }
-    push_ascii(out, reference(byte))
+    push_str(out, reference(byte))
 }
 
 // Puts the characters that are shown for bytes.
@@ -88,8 +82,8 @@ pub fn push_text(out: &mut Vec<u8>, bytes: &[u8]) -> Result<(), NoMemory>
 pub fn push_start(out: &mut Vec<u8>, tag: Tag) -> Result<(), NoMemory>
     ensures { OnOk result (out.new.items ≡ out.old.items ++ (codes "<" ++ tag_name tag)) }
 {
-    push_ascii(out, "<")?;
-    push_ascii(out, tag.name())
+    push_str(out, "<")?;
+    push_str(out, tag.name())
 }
 
 /// Puts an attribute whose value is these bytes.
@@ -97,11 +91,11 @@ pub fn push_attribute(out: &mut Vec<u8>, key: Key, value: &[u8]) -> Result<(), N
     ensures { OnOk result
         (out.new.items ≡ out.old.items ++ attribute_text (attribute key (map shown value.now))) }
 {
-    push_ascii(out, " ")?;
-    push_ascii(out, key.name())?;
-    push_ascii(out, "=\"")?;
+    push_str(out, " ")?;
+    push_str(out, key.name())?;
+    push_str(out, "=\"")?;
     push_shown(out, value)?;
-    push_ascii(out, "\"")
+    push_str(out, "\"")
 }
 
 // Puts a number, as a part of a value.
@@ -109,7 +103,7 @@ pub fn push_attribute(out: &mut Vec<u8>, key: Key, value: &[u8]) -> Result<(), N
 fn push_digits(out: &mut Vec<u8>, number: u64) -> Result<(), NoMemory>
     ensures { OnOk result (out.new.items ≡ out.old.items ++ text_of (decimal number)) }
 {
-    push_decimal(out, number)
+    spelling::push_number(out, number)
 }
 
 /// Puts a number as the characters of a text.
@@ -119,36 +113,26 @@ pub fn push_number(out: &mut Vec<u8>, number: u64) -> Result<(), NoMemory>
     push_digits(out, number)
 }
 
-fn push_decimal(out: &mut Vec<u8>, number: u64) -> Result<(), NoMemory>
-    ensures { OnOk result (out.new.items ≡ out.old.items ++ decimal number) }
-{
-    if number >= 10 {
-        push_decimal(out, number / 10)?;
-    }
-    out.push(b'0' + (number % 10) as u8)?;
-    Ok(())
-}
-
 /// Puts an attribute whose value is a number.
 pub fn push_number_attribute(out: &mut Vec<u8>, key: Key, value: u64) -> Result<(), NoMemory>
     ensures { OnOk result (out.new.items ≡ out.old.items ++ attribute_text (number_of key value)) }
 {
-    push_ascii(out, " ")?;
-    push_ascii(out, key.name())?;
-    push_ascii(out, "=\"")?;
+    push_str(out, " ")?;
+    push_str(out, key.name())?;
+    push_str(out, "=\"")?;
     push_digits(out, value)?;
-    push_ascii(out, "\"")
+    push_str(out, "\"")
 }
 
 // Puts the text of that attribute.
 fn push_move_text(out: &mut Vec<u8>, x: u64, y: u64) -> Result<(), NoMemory>
     ensures { OnOk result (out.new.items ≡ out.old.items ++ move_text x y) }
 {
-    push_ascii(out, " transform=\"translate(")?;
+    push_str(out, " transform=\"translate(")?;
     push_digits(out, x)?;
-    push_ascii(out, " ")?;
+    push_str(out, " ")?;
     push_digits(out, y)?;
-    push_ascii(out, ")\"")?;
+    push_str(out, ")\"")?;
     Ok(())
 }
 
@@ -163,14 +147,14 @@ pub fn push_move(out: &mut Vec<u8>, x: u64, y: u64) -> Result<(), NoMemory>
 pub fn push_inside(out: &mut Vec<u8>) -> Result<(), NoMemory>
     ensures { OnOk result (out.new.items ≡ out.old.items ++ codes ">") }
 {
-    push_ascii(out, ">")
+    push_str(out, ">")
 }
 
 /// Puts an end tag.
 pub fn push_end(out: &mut Vec<u8>, tag: Tag) -> Result<(), NoMemory>
     ensures { OnOk result (out.new.items ≡ out.old.items ++ end_text tag) }
 {
-    push_ascii(out, "</")?;
-    push_ascii(out, tag.name())?;
-    push_ascii(out, ">")
+    push_str(out, "</")?;
+    push_str(out, tag.name())?;
+    push_str(out, ">")
 }

@@ -14,8 +14,8 @@ pub returns : goal.returns
 returns c =
     let x = text_of (decimal c.args.x) in
     let y = text_of (decimal c.args.y) in
-    c.in_ok-push_ascii-3.ensures
+    c.in_ok-push_str-3.ensures
     ∙ ap (λ o. o ++ codes ")\"")
     (c.in_ok-push_digits-2.ensures
-    ∙ ap (λ o. o ++ y) (c.in_ok-push_ascii-2.ensures ∙ ap (λ o. o ++ codes " ") (c.in_ok-push_digits.ensures ∙ ap (λ o. o ++ x) c.in_ok-push_ascii.ensures)))
+    ∙ ap (λ o. o ++ y) (c.in_ok-push_str-2.ensures ∙ ap (λ o. o ++ codes " ") (c.in_ok-push_digits.ensures ∙ ap (λ o. o ++ x) c.in_ok-push_str.ensures)))
     ∙ five c.args.out.now.items (codes " transform=\"translate(") x (codes " ") y (codes ")\"")

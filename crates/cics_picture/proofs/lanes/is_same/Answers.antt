@@ -1,6 +1,6 @@
 use Rattle.std.proofs.Common.{◌∙◌}
 use Rattle.cics_names.specs.KeyedLaws.{pointwise-is_same}
-use Rattle.cics_picture.proofs.draw.standings.is_same.Goals as goal
+use Rattle.cics_picture.proofs.lanes.is_same.Goals as goal
 
 -- bytes are compared one by one
 pub returns : goal.returns

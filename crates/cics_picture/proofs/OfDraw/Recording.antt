@@ -1,0 +1,31 @@
+-- What a recorder keeps of a line: a row for each event, and one for its fault.
+use Rattle.std.proofs.Common.{◌≡◌, ℕ, List, [], ◌∷◌, ◌++◌, map, refl, ap, sym, ◌∙◌, append_assoc, append-nil, Option, Some, None}
+use Rattle.cics_dispatch.specs.Machine.Events.{Happened}
+use Rattle.cics_run.specs.Stage.Seen.{after_events, after_fault}
+use Rattle.cics_run.specs.Stage.Stages.{Step}
+use Rattle.cics_run.specs.declared.stage.stage.Fault.{Fault}
+use Rattle.cics_picture.specs.declared.events.Told.{Told}
+use Rattle.cics_picture.specs.Draw.Recording.{told_of, fault_told, Recorded, recorder_sight, nothing_recorded, recorded}
+
+-- what the rows of events tell
+abbrev pub events_told : List Happened → List Told
+events_told events = map (λ h. told_of h.event) events
+
+-- what the row of a fault tells, if there is one
+abbrev pub faults_told : ℕ → Option Fault → List Told
+faults_told number None = []
+faults_told number (Some fault) = fault_told number fault ∷ []
+
+events-kept : (events : List Happened) (number : ℕ) (r : Recorded) → (after_events recorder_sight number r events).told ≡ r.told ++ events_told events
+events-kept [] number r = sym (append-nil r.told)
+events-kept (h ∷ events) number r =
+    events-kept events number (recorder_sight.with_event r number h) ∙ append_assoc r.told (told_of h.event ∷ []) (events_told events)
+
+fault-kept : (fault : Option Fault) (number : ℕ) (r : Recorded) → (after_fault recorder_sight number r fault).told ≡ r.told ++ faults_told number fault
+fault-kept None number r = sym (append-nil r.told)
+fault-kept (Some fault) number r = refl
+
+pub line-kept : (number : ℕ) (s : Step) → (recorded number s).told ≡ events_told s.events ++ faults_told number s.fault
+line-kept number s =
+    fault-kept s.fault number (after_events recorder_sight number nothing_recorded s.events)
+    ∙ ap (λ told. told ++ faults_told number s.fault) (events-kept s.events number nothing_recorded)
