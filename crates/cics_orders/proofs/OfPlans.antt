@@ -1,2 +1,3 @@
 pub mod Changed
-pub mod Rows
+pub mod ProperLaws
+mod Rows

@@ -1,2 +1,4 @@
 pub mod Adding
+pub mod Givers
+pub mod OrdersLaws
 pub mod SameParts

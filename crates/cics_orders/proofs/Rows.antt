@@ -6,9 +6,11 @@ use Rattle.cics_names.specs.Keyed.{Bytes}
 use Rattle.cics_dispatch.specs.Machine.Machine.{records_in}
 use Rattle.cics_dispatch.specs.declared.machine.outcomes.Outcome.{Outcome}
 use Rattle.cics_dispatch.specs.declared.machine.outcomes.Outcome.TheVariants.{Replied}
-use Rattle.cics_orders.specs.Space.Orders.{Order, orders, after}
+use Rattle.cics_orders.specs.Space.Orders.{Order, orders, after, is_serial_order, serial_orders}
 use Rattle.cics_orders.specs.Plans.Defining.{defined_by}
-use Rattle.cics_orders.specs.Giving.{lanes, initial_state, given, drain_step, drained_once, drained_within, drained, issuing, timing, shutting, attaching, with_task}
+use Rattle.cics_orders.specs.Giving.{lanes, initial_state, given, happening, with_task}
+use Rattle.cics_orders.specs.Turns.{breaks}
+use Rattle.cics_dispatch.specs.Machine.Events.{turn, drained_within}
 use Rattle.cics_orders.specs.declared.plans.plans.Plan.{Plan}
 use Rattle.cics_orders.specs.declared.lanes.Lane.{Lane}
 
@@ -33,7 +35,7 @@ deadlock = record {
 -- waits for the other.
 deadlock_orders : orders lanes 4 (initial_state deadlock) ≡
     (0 ∷ 0 ∷ 1 ∷ []) ∷ (0 ∷ 1 ∷ 0 ∷ 1 ∷ []) ∷ (0 ∷ 1 ∷ 1 ∷ 0 ∷ []) ∷ (1 ∷ 0 ∷ 0 ∷ 1 ∷ []) ∷ (1 ∷ 0 ∷ 1 ∷ 0 ∷ []) ∷ (1 ∷ 1 ∷ 0 ∷ []) ∷ []
-unfolding initial_state given drain_step drained_once drained_within drained issuing timing shutting attaching defined_by with_task code_of
+unfolding initial_state given happening turn drained_within defined_by with_task code_of breaks
 deadlock_orders = refl
 
 -- two tasks look at a record, and each then writes what it made of what it saw
@@ -84,14 +86,19 @@ seen (Some lane) = map content lane.told where
 -- Both saw the record as it was loaded, and the second wrote over what the first wrote: the order
 -- is not serial.
 lost : (records_in (after lanes (initial_state lost_update) between).machine a_file ≡ (k ∷ [], k ∷ 0xF2 ∷ []) ∷ [])
-    × ((after lanes (initial_state lost_update) between).is_serial ≡ false)
+    × (is_serial_order lanes breaks (initial_state lost_update) between ≡ false)
     × (seen (slice_get (after lanes (initial_state lost_update) between).lanes 0) ≡ Some (k ∷ 0xF0 ∷ []) ∷ Some (k ∷ 0xF0 ∷ []) ∷ None ∷ None ∷ [])
     × (seen (slice_get (after lanes (initial_state lost_update) between).lanes 1) ≡ Some (k ∷ 0xF0 ∷ []) ∷ Some (k ∷ 0xF1 ∷ []) ∷ None ∷ None ∷ [])
-unfolding initial_state given drain_step drained_once drained_within drained issuing timing shutting attaching defined_by with_task code_of
+unfolding initial_state given happening turn drained_within defined_by with_task code_of breaks
 lost = (refl, refl, refl, refl)
 
 -- There are as many orders as there are ways to put the lines of the second task between those of
 -- the first, except that it may have to wait.
 how_many : length (orders lanes 8 (initial_state lost_update)) ≡ 24
-unfolding initial_state given drain_step drained_once drained_within drained issuing timing shutting attaching defined_by with_task code_of
+unfolding initial_state given happening turn drained_within defined_by with_task code_of breaks
 how_many = refl
+
+-- Those of them are serial in which a task is done before the other begins.
+serial_ones : serial_orders lanes breaks 8 (initial_state lost_update) ≡ (0 ∷ 0 ∷ 0 ∷ 0 ∷ 1 ∷ 1 ∷ 1 ∷ 1 ∷ []) ∷ (1 ∷ 1 ∷ 1 ∷ 1 ∷ 0 ∷ 0 ∷ 0 ∷ 0 ∷ []) ∷ []
+unfolding initial_state given happening turn drained_within defined_by with_task code_of breaks
+serial_ones = refl

@@ -2,4 +2,3 @@ pub mod Firsts
 pub mod Defining
 pub mod Taking
 pub mod Proper
-pub mod ProperLaws

@@ -1,5 +1,6 @@
 pub mod Along
 pub mod Leads
+pub mod Open
 pub mod Parts
 pub mod Reporting
 pub mod PlainFaults

@@ -4,5 +4,3 @@ pub mod EndingLaws
 pub mod Groups
 pub mod Tallies
 pub mod States
-pub mod Givers
-pub mod OrdersLaws

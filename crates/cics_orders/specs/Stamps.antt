@@ -1,9 +1,9 @@
 -- The stamp of a state: bytes that tell how it goes on, and what its ending tells. It has neither
 -- the history of the region, nor the numbers of units, nor what the plan alone tells.
-use Rattle.std.specs.Prelude.{ℕ, ◌-◌, Bool, ◌&&◌, if◌then◌else◌, List, [], ◌∷◌, ◌++◌, map, length, Option, Some, None, slice_get}
+use Rattle.std.specs.Prelude.{ℕ, ◌-◌, Bool, if◌then◌else◌, List, [], ◌∷◌, ◌++◌, map, length, Option, Some, None, slice_get}
 use Rattle.cics_names.specs.Keyed.{Bytes}
 use Rattle.cics_names.specs.Conditions.{number_of}
-use Rattle.cics_names.specs.Stamps.{number_stamp, flag_stamp, text_stamp, option_stamp, list_stamp}
+use Rattle.cics_names.specs.Stamps.{number_stamp, text_stamp, option_stamp, list_stamp}
 use Rattle.cics_dispatch.specs.Machine.Stamps.{region_stamp}
 use Rattle.cics_dispatch.specs.declared.machine.outcomes.Number.{Number}
 use Rattle.cics_dispatch.specs.declared.machine.outcomes.Number.TheVariants.{Item, Numrec}
@@ -60,25 +60,16 @@ end_told (Some outcome) = if is_last outcome then outcome ∷ [] else []
 abbrev pub told_of : Bool → List Outcome → List Outcome
 told_of all told = if all then told else end_told (slice_get told (length told - 1))
 
--- What is seen of a lane. With `told` that is all that its task was told. It has whether the task is
--- within a turn only with `serial`.
-abbrev pub seen : Bool → Bool → Lane → Lane
-seen told serial lane = record lane { told = told_of told lane.told; is_in_turn = serial && lane.is_in_turn }
+-- what is seen of a lane: with `told` all that its task was told
+abbrev pub seen : Bool → Lane → Lane
+seen told lane = record lane { told = told_of told lane.told }
 
 -- a lane, but for its label and its lines
 abbrev pub lane_stamp : Lane → List ℕ
-lane_stamp lane =
-    number_stamp lane.given
-    ++ (flag_stamp lane.has_ended ++ (list_stamp outcome_stamp lane.told ++ flag_stamp lane.is_in_turn))
+lane_stamp lane = number_stamp lane.given ++ list_stamp outcome_stamp lane.told
 
 -- ---- States
 
--- `last` is seen only with `serial`
-abbrev pub last_seen : Bool → Option ℕ → Option ℕ
-last_seen serial last = if serial then last else None
-
--- a state: its lanes, `last`, whether its order is serial, and its region
-unfoldable pub state_stamp : Bool → Bool → State → List ℕ
-state_stamp told serial s =
-    list_stamp lane_stamp (map (seen told serial) s.lanes)
-    ++ (option_stamp number_stamp (last_seen serial s.last) ++ (flag_stamp (serial && s.is_serial) ++ region_stamp s.machine))
+-- a state: what is seen of its lanes, and its region
+unfoldable pub state_stamp : Bool → State → List ℕ
+state_stamp told s = list_stamp lane_stamp (map (seen told) s.lanes) ++ region_stamp s.machine

@@ -1,47 +1,64 @@
--- Which lanes must not give, if an order is to become a serial one.
-use Rattle.std.specs.Prelude.{ℕ, suc, ◌-◌, if◌then◌else◌, Bool, true, false, not, ◌&&◌, ◌||◌, List, [], ◌∷◌, length, drop, Option, Some, None, option_and_then, is_some, Result, Ok, slice_get}
+-- Turns. A task gives its lines in turns: a turn begins with a line, and ends with SYNCPOINT or with
+-- the task. In a serial order no other task gives a line within a turn, and no SHUTDOWN comes.
+use Rattle.std.specs.Prelude.{ℕ, zero, suc, Bool, true, false, not, ◌&&◌, ◌||◌, ◌==◌, List, Option, Some, None, is_some, Result, Ok, slice_get}
 use Rattle.std.specs.List.{list_any}
-use Rattle.cics_script.specs.Lines.{line}
+use Rattle.cics_names.specs.Keyed.{Bytes}
+use Rattle.cics_names.specs.declared.commands.Verb.{Verb}
+use Rattle.cics_names.specs.declared.commands.Verb.TheVariants.{Syncpoint, Rollback}
+use Rattle.cics_dispatch.specs.Machine.Machine.{Machine}
+use Rattle.cics_dispatch.specs.Machine.Blockers.{unit_of}
+use Rattle.cics_dispatch.specs.Machine.Events.{task_ended}
 use Rattle.cics_script.specs.declared.lines.Line.{Line}
-use Rattle.cics_script.specs.declared.lines.Line.TheVariants.{Shutdown}
+use Rattle.cics_script.specs.declared.lines.Line.TheVariants.{Issue, Shutdown}
 use Rattle.cics_script.specs.declared.faults.LineFault.{LineFault}
+use Rattle.cics_orders.specs.Space.Orders.{numbered_from}
 use Rattle.cics_orders.specs.Plans.Taking.{NumberedLine}
-use Rattle.cics_orders.specs.Plans.Proper.{is_proper}
-use Rattle.cics_orders.specs.Giving.{State, may_give, is_lane}
+use Rattle.cics_orders.specs.Giving.{State, said_at, next_said}
 use Rattle.cics_orders.specs.declared.lanes.Lane.{Lane}
 
--- a line that shuts the region down
-abbrev pub is_shutdown : Result Line LineFault → Bool
-is_shutdown (Ok Shutdown) = true
-is_shutdown _ = false
+-- SYNCPOINT, also with ROLLBACK
+abbrev pub is_syncpoint : Verb → Bool
+is_syncpoint Syncpoint = true
+is_syncpoint Rollback = true
+is_syncpoint _ = false
 
--- one of these lines shuts the region down
-abbrev pub has_shutdown : List NumberedLine → Bool
-has_shutdown lines = list_any (λ next. is_shutdown (line next.1)) lines
+-- a line that ends its task's turn
+abbrev pub ends_turn : Result Line LineFault → Bool
+ends_turn (Ok (Issue label command)) = is_syncpoint command.verb
+ends_turn _ = false
 
--- how many lines there are up to the last one that shuts the region down
-abbrev pub lines_to_shutdown : List NumberedLine → ℕ
-lines_to_shutdown [] = 0
-lines_to_shutdown (next ∷ lines) = if has_shutdown (next ∷ lines) then suc (lines_to_shutdown lines) else 0
+-- what the line says that was given last, if so many were
+abbrev pub last_said : List NumberedLine → ℕ → Option (Result Line LineFault)
+last_said lines zero = None
+last_said lines (suc n) = said_at lines n
 
--- a lane is within a turn and may give, and no shutdown is left when the clock's lane is this
-abbrev pub may_go_on : State → Option Lane → Option Lane → Bool
-may_go_on s (Some lane) (Some clock) = lane.is_in_turn && may_give s.machine lane && not (has_shutdown (drop clock.given s.plan.clock))
-may_go_on s _ _ = false
+-- such a line is there, and didn't end a turn
+abbrev pub goes_on : Option (Result Line LineFault) → Bool
+goes_on None = false
+goes_on (Some says) = not (ends_turn says)
 
--- The task that gave last is within a turn and may go on with it, and no shutdown is left. The
--- clock's lane is the last. Of a plan that is not proper this says nothing: there another lane may
--- end the task.
-abbrev pub turn_goes_on : State → Bool
-turn_goes_on s = is_proper s.plan && may_go_on s (option_and_then (slice_get s.lanes) s.last) (slice_get s.lanes (length s.lanes - 1))
+-- the task of a label has not ended, and it has an open unit or a line left
+abbrev pub is_unfinished : Machine → Lane → Option Bytes → Bool
+is_unfinished m lane None = false
+is_unfinished m lane (Some label) = not (task_ended m label) && (is_some (unit_of m label) || is_some (slice_get lane.lines lane.given))
 
--- a task's lane other than `last` breaks a serial order if it is within a turn, or if the turn of
--- `last` goes on
-abbrev pub lane_breaks : State → ℕ → Option Lane → Bool
-lane_breaks s l None = false
-lane_breaks s l (Some lane) = is_some lane.label && not (is_lane s.last l) && (lane.is_in_turn || turn_goes_on s)
+-- The task of a lane is within a turn: the last line that it gave didn't end its turn, it has not
+-- ended, and it has an open unit or a line left. The clock never is.
+abbrev pub is_in_turn : Machine → Lane → Bool
+is_in_turn m lane = goes_on (last_said lane.lines lane.given) && is_unfinished m lane lane.label
 
--- If this lane gives, the order doesn't become a serial one. Either it isn't serial then, or a task
--- is left within a turn and must still go on.
+-- the lanes whose tasks are within a turn
+abbrev pub turns : State → List ℕ
+turns s = numbered_from (is_in_turn s.machine) s.lanes 0
+
+-- A line that interrupts the turns of others: a command, or SHUTDOWN. The clock may be set at any
+-- time.
+abbrev pub interrupts : Option (Result Line LineFault) → Bool
+interrupts (Some (Ok (Issue label command))) = true
+interrupts (Some (Ok Shutdown)) = true
+interrupts _ = false
+
+-- a lane breaks a turn: its next line is a command or SHUTDOWN, and the task of another lane is
+-- within a turn
 unfoldable pub breaks : State → ℕ → Bool
-breaks s l = lane_breaks s l (slice_get s.lanes l)
+breaks s l = interrupts (next_said s.lanes l) && list_any (λ k. not (k == l)) (turns s)

@@ -1,14 +1,13 @@
 //! Lanes, and what their tasks are told.
 
 ghost use Rattle.std.specs.Prelude.{◌≡◌, ◌<◌, [], ◌∷◌, ◌++◌, None, IfOk, OnOk, length, map};
-ghost use Rattle.cics_orders.specs.Giving.{initial_lane, task_lane, is_of, is_last};
-ghost use Rattle.cics_orders.specs.GivenLanes.{frame};
+ghost use Rattle.cics_orders.specs.Giving.{initial_lane, frame, task_lane, is_of, is_last};
 ghost use Rattle.cics_orders.specs.Plans.Firsts.{first_index};
-ghost use Rattle.cics_orders.specs.Giving.{told_more, with_told, hearing, with_given, shut};
+ghost use Rattle.cics_orders.specs.Giving.{told_more, with_told, hearing, told_by, with_given};
 
 use crate::lines::Lines;
 use crate::plans::{TaskPlan, is_same};
-use cics_dispatch::Outcome;
+use cics_dispatch::{Event, Outcome};
 use cics_names::{Items, Name8, NoMemory};
 use std::alloc::Global;
 
@@ -23,10 +22,6 @@ pub struct Lane {
     pub given: usize,
     /// What its task was told, for each line that was answered.
     pub told: Items<Outcome>,
-    /// Whether its task has ended.
-    pub has_ended: bool,
-    /// Whether its task is within a turn: its last line didn't end its unit of work.
-    pub is_in_turn: bool,
 }
 
 /// Returns whether an outcome ends its task.
@@ -49,8 +44,6 @@ impl Lane {
             lines,
             given: 0,
             told: Items::new(alloc),
-            has_ended: false,
-            is_in_turn: false,
         }
     }
 
@@ -64,22 +57,20 @@ impl Lane {
         }
     }
 
-    /// Counts one more line as given, which may end its task's turn.
-    pub(crate) fn give(&mut self, ends_turn: bool)
+    /// Counts one more line as given.
+    pub(crate) fn give(&mut self)
         requires { self.old.given < length self.old.lines }
-        ensures { self.new ≡ with_given self.old ends_turn }
+        ensures { self.new ≡ with_given self.old }
     {
         // Not used: it shows the prover that the count can't overflow.
         let _left = self.lines.as_slice().len();
         self.given += 1;
-        self.is_in_turn = self.label.is_some() && !ends_turn;
     }
 
     // Tells its task an outcome.
     fn tell(&mut self, outcome: Outcome) -> Result<(), NoMemory>
         ensures { OnOk result (self.new ≡ told_more self.old outcome) }
     {
-        self.has_ended = is_last(&outcome);
         self.told.push(outcome)
     }
 }
@@ -125,8 +116,8 @@ fn index_of(lanes: &[Lane], label: &Name8) -> Option<usize>
     None
 }
 
-/// Tells the task of a label an outcome.
-pub(crate) fn tell(lanes: &mut Vec<Lane>, label: &Name8, outcome: Outcome) -> Result<(), NoMemory>
+// Tells the task of a label an outcome.
+fn tell(lanes: &mut Vec<Lane>, label: &Name8, outcome: Outcome) -> Result<(), NoMemory>
     ensures { OnOk result (lanes.new.items ≡ with_told lanes.old.items label.now outcome) }
 {
     match index_of(lanes.as_slice(), label) {
@@ -135,8 +126,8 @@ pub(crate) fn tell(lanes: &mut Vec<Lane>, label: &Name8, outcome: Outcome) -> Re
     }
 }
 
-/// Tells the task of a label an outcome, unless its command waits.
-pub(crate) fn hear(lanes: &mut Vec<Lane>, label: &Name8, outcome: Outcome) -> Result<(), NoMemory>
+// Tells the task of a label an outcome, unless its command waits.
+fn tell_answer(lanes: &mut Vec<Lane>, label: &Name8, outcome: Outcome) -> Result<(), NoMemory>
     ensures { OnOk result (lanes.new.items ≡ hearing lanes.old.items label.now outcome) }
 {
     match outcome {
@@ -145,11 +136,21 @@ pub(crate) fn hear(lanes: &mut Vec<Lane>, label: &Name8, outcome: Outcome) -> Re
     }
 }
 
-/// Ends each task: the region is shut down.
-pub(crate) fn shut_all(lanes: &mut Vec<Lane>)
-    ensures { lanes.new.items ≡ map shut lanes.old.items }
+/// Tells the task of an event its outcome, unless its command waits.
+pub(crate) fn hear(lanes: &mut Vec<Lane>, event: Event) -> Result<(), NoMemory>
+    ensures { OnOk result (lanes.new.items ≡ told_by lanes.old.items event) }
 {
-    for i in 0..lanes.len() {
-        lanes[i].has_ended = true;
+    match event {
+        Event::Issued(label, outcome) => tell_answer(lanes, &label, outcome),
+        Event::Woken(woken) => {
+            let label = woken.label;
+            tell_answer(lanes, &label, woken.outcome)
+        }
+        Event::Expired(expired) => {
+            let told = Outcome::Abended(expired.code, None);
+            tell_answer(lanes, &expired.label, told)
+        }
+        Event::Attached(_, _) | Event::ClockSet(_) | Event::ShutDown(_) | Event::Refused(_, _) =>
+            Ok(()),
     }
 }

@@ -2,12 +2,14 @@
 //!
 //! The contract of each function is a law, and its body is empty.
 
-ghost use Rattle.std.specs.Prelude.{◌≡◌, [], All};
+ghost use Rattle.std.specs.Prelude.{◌≡◌, [], All, filter};
 ghost use Rattle.cics_dispatch.specs.Machine.Waking.{IsAtRest};
 ghost use Rattle.cics_orders.specs.Space.Orders.{Order, after, orders};
+ghost use Rattle.cics_orders.specs.Space.Orders.{is_serial_order, serial_orders};
 ghost use Rattle.cics_orders.specs.declared.plans.plans.Plan.{Plan};
 ghost use Rattle.cics_orders.specs.Giving.{lanes, initial_state, line_count};
-ghost use Rattle.cics_orders.specs.Ended.{AcceptsReady, Agrees};
+ghost use Rattle.cics_orders.specs.Turns.{breaks};
+ghost use Rattle.cics_orders.specs.Accepts.{AcceptsReady};
 
 /// After each line of an order the region is at rest: no waiting command may resume, and no task
 /// has waited too long.
@@ -21,13 +23,15 @@ pub fn orders_end()
         (orders lanes (line_count p) (initial_state p)) }
 {}
 
-/// After every order the lanes and the region agree on which tasks have ended.
-pub fn lanes_tell_ended_tasks()
-    ensures { (p : Plan) (o : Order) → Agrees (after lanes (initial_state p) o) }
+/// The serial orders of a plan are those of a walk that leaves out each line that breaks a turn.
+pub fn serial_orders_are_walked()
+    ensures { (p : Plan) → filter (is_serial_order lanes breaks (initial_state p))
+        (orders lanes (line_count p) (initial_state p))
+        ≡ serial_orders lanes breaks (line_count p) (initial_state p) }
 {}
 
 /// After every order no command is refused of a task that may give a line. That is one that has not
-/// ended, by its lane, and has no waiting command.
+/// ended, and has no waiting command.
 pub fn lines_are_not_refused()
     ensures { (p : Plan) (o : Order) → AcceptsReady (after lanes (initial_state p) o) }
 {}

@@ -2,24 +2,22 @@
 #![tactic(auto)]
 
 pub mod endings;
-mod events;
-mod following;
 mod lanes;
 mod laws;
 mod lines;
 pub mod plans;
+mod playing;
 pub mod report;
 pub mod search;
-mod shutdowns;
 pub mod space;
 mod stamping;
 mod starting;
 pub mod survey;
+mod turns;
 mod walks;
 
-pub use following::{Tells, ToldPlan, explore_script};
 pub use lanes::Lane;
-pub use laws::{lanes_tell_ended_tasks, lines_are_not_refused, orders_end, orders_rest};
+pub use laws::{lines_are_not_refused, orders_end, orders_rest, serial_orders_are_walked};
 pub use lines::Lines;
-pub use stamping::Sight;
+pub use search::{ToldPlan, explore_script};
 pub use walks::Walker;

@@ -1,7 +1,8 @@
 //! The lines of a lane, each with what it says.
 
-ghost use Rattle.std.specs.Prelude.{◌≡◌, IfOk, map};
+ghost use Rattle.std.specs.Prelude.{◌≡◌, IfOk, map, option_copied};
 ghost use Rattle.cics_script.specs.Lines.{line};
+ghost use Rattle.cics_orders.specs.Giving.{said_at};
 
 use crate::plans::read;
 use cics_names::{Items, NoMemory, Record};
@@ -96,10 +97,20 @@ impl Lines {
         self.shared.as_ref().lines.as_slice()
     }
 
-    /// Returns what each line says.
-    pub(crate) fn says(&self) -> &[Result<Line, LineFault>]
+    // Returns what each line says.
+    fn says(&self) -> &[Result<Line, LineFault>]
         ensures { result.now ≡ map (λ next. line next.1) self.now }
     {
         self.shared.as_ref().says.as_slice()
+    }
+
+    /// Returns what the line of an index says, if there is one.
+    pub(crate) fn said_at(&self, index: usize) -> Option<&Result<Line, LineFault>>
+        ensures { option_copied result ≡ said_at self.now index }
+    {
+        match self.says().get(index) {
+            Some(says) => Some(says),
+            None => None,
+        }
     }
 }

@@ -3,6 +3,7 @@
 mod along;
 mod counts;
 mod laws;
+mod open;
 mod parts;
 mod report;
 mod scripts;

@@ -8,5 +8,5 @@ mod ahead;
 mod exploring;
 mod progress;
 
-pub use exploring::{Report, explore};
+pub use exploring::{Report, ToldPlan, explore_script};
 pub use progress::{Progress, Stand};

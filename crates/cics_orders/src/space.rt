@@ -1,18 +1,16 @@
-//! Lanes that give their lines, the orders in which they may, and what these lead to.
+//! The orders in which lanes may give their lines, and what these lead to.
 //!
 //! A *lane* has lines that it gives one after the other, such as the lines of a task. An *order*
 //! says for each line that is given which lane gives it. A *run* is an order with the ending that
 //! it leads to. An ending is told in *parts*, each a text. A *stamp* is bytes that tell how a state
 //! goes on.
 //!
-//! Read `walks`, which says what a caller implements, then `states`, `endings` and `groups`.
+//! Read `states`, `endings` and `groups`.
 
 mod endings;
 mod groups;
 mod states;
-mod walks;
 
 pub use endings::{Ending, Met, Parts, Tally, endings_of};
 pub use groups::{Join, add};
-pub use states::{Led, Reached, Stamp, go_to, look, with_lane};
-pub use walks::Walk;
+pub use states::{Led, Reached, Scope, Stamp, go_to, look, with_lane};

@@ -3,11 +3,11 @@
 ghost use Rattle.std.specs.Prelude.{◌≡◌, ◌++◌, map, OnOk};
 ghost use Rattle.cics_names.specs.Stamps.{number_stamp, text_stamp, option_stamp, list_stamp};
 ghost use Rattle.cics_orders.specs.Stamps.{count_stamp, reply_stamp, outcome_stamp, told_of};
-ghost use Rattle.cics_orders.specs.Stamps.{seen, last_seen, lane_stamp};
+ghost use Rattle.cics_orders.specs.Stamps.{seen, lane_stamp};
 
 use crate::lanes::{Lane, is_last};
 use cics_dispatch::{Number, Outcome, Reply};
-use cics_names::{NoMemory, Record, stamp_flag, stamp_number, stamp_text};
+use cics_names::{NoMemory, Record, stamp_number, stamp_text};
 
 // Appends the stamp of a record that may be missing.
 fn stamp_content(out: &mut Vec<u8>, content: &Option<Record>) -> Result<(), NoMemory>
@@ -130,58 +130,28 @@ fn stamp_outcomes(out: &mut Vec<u8>, outcomes: &[Outcome]) -> Result<(), NoMemor
     stamp_number(out, 0)
 }
 
-/// What a stamp tells of a state.
-#[derive(Clone, Copy)]
-pub struct Sight {
-    /// Whether it has all that tasks were told, else how they ended.
-    pub told: bool,
-    /// Whether it tells if a serial order stays so.
-    pub serial: bool,
-}
-
 impl Lane {
-    /// Appends its stamp, but for its label and its lines.
-    pub(crate) fn stamp(&self, sight: Sight, out: &mut Vec<u8>) -> Result<(), NoMemory>
+    // Appends its stamp, but for its label and its lines. With `told` it has all that its task was
+    // told, else how the task ended.
+    fn stamp(&self, told: bool, out: &mut Vec<u8>) -> Result<(), NoMemory>
         ensures { OnOk result (out.new.items
-            ≡ out.old.items ++ lane_stamp (seen sight.told sight.serial self.now)) }
+            ≡ out.old.items ++ lane_stamp (seen told self.now)) }
     {
         stamp_number(out, self.given as u64)?;
-        stamp_flag(out, self.has_ended)?;
-        stamp_outcomes(out, told_of(self.told.as_slice(), sight.told))?;
-        stamp_flag(out, sight.serial && self.is_in_turn)
+        stamp_outcomes(out, told_of(self.told.as_slice(), told))
     }
 }
 
 /// Appends the stamps of lanes.
 ///
 /// Errors: `NoMemory`.
-pub(crate) fn stamp_lanes(out: &mut Vec<u8>, lanes: &[Lane], sight: Sight) -> Result<(), NoMemory>
+pub(crate) fn stamp_lanes(out: &mut Vec<u8>, lanes: &[Lane], told: bool) -> Result<(), NoMemory>
     ensures { OnOk result (out.new.items ≡ out.old.items
-        ++ list_stamp lane_stamp (map (seen sight.told sight.serial) lanes.now)) }
+        ++ list_stamp lane_stamp (map (seen told) lanes.now)) }
 {
     for lane in lanes {
         stamp_number(out, 1)?;
-        lane.stamp(sight, out)?;
+        lane.stamp(told, out)?;
     }
     stamp_number(out, 0)
-}
-
-/// Appends the stamp of the number of the lane that gave last, if there is one and it is seen.
-///
-/// Errors: `NoMemory`.
-pub(crate) fn stamp_last(
-    out: &mut Vec<u8>,
-    last: Option<usize>,
-    is_seen: bool,
-) -> Result<(), NoMemory>
-    ensures { OnOk result (out.new.items
-        ≡ out.old.items ++ option_stamp number_stamp (last_seen is_seen last)) }
-{
-    match last {
-        Some(number) if is_seen => {
-            stamp_number(out, 1)?;
-            stamp_number(out, number as u64)
-        }
-        _ => stamp_number(out, 0),
-    }
 }

@@ -7,9 +7,8 @@ ghost use Rattle.std.specs.List.{fold};
 ghost use Rattle.cics_orders.specs.Plans.Defining.{defined_by};
 ghost use Rattle.cics_orders.specs.Giving.{defined_more, opened, with_task};
 
-use crate::events;
 use crate::plans::{TaskPlan, define, read};
-use cics_dispatch::Region;
+use cics_dispatch::{Region, Request};
 use cics_names::{NoMemory, Record};
 use cics_units::Opening;
 use std::alloc::Global;
@@ -55,7 +54,11 @@ pub(crate) fn opened(alloc: Global, lines: &[(u64, Record)]) -> Result<Opening, 
 fn attach(region: &mut Region, task: &TaskPlan) -> Result<(), NoMemory>
     ensures { OnOk result (region.new.machine ≡ with_task region.old.machine task.now) }
 {
-    events::attach(region, task)?;
+    region.play(Request::Attach {
+        label: task.label,
+        transaction: task.transaction,
+        dtimout: task.dtimout,
+    })?;
     Ok(())
 }
 

@@ -3,7 +3,6 @@
 mod laws;
 mod running;
 mod surveys;
-mod tellers;
 
 pub use crate::search::{Progress, Stand};
 pub use laws::ending_scripts_lead_there;

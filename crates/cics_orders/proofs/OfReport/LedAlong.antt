@@ -1,5 +1,5 @@
 -- The plain run of an order's lines goes the way of the order.
-use Rattle.std.proofs.Common.{◌≡◌, ℕ, zero, suc, ◌+◌, Bool, true, false, List, [], ◌∷◌, ◌++◌, map, length, replicate, get_or, Option, None, Some, Result, Ok, refl, ap, sym, ◌∙◌, arith, subst, append_assoc, append-nil}
+use Rattle.std.proofs.Common.{◌≡◌, ℕ, zero, suc, ◌+◌, Bool, true, false, ◌||◌, List, [], ◌∷◌, ◌++◌, map, length, replicate, get_or, Option, None, Some, Result, Ok, refl, ap, sym, ◌∙◌, arith, subst, append_assoc, append-nil}
 use Rattle.std.proofs.lemmas.Bool.{and_parts}
 use Rattle.std.proofs.lemmas.List.{map-append}
 use Rattle.std.specs.Prelude.{if◌then◌else◌, is_some, slice_get, slice_set}
@@ -12,28 +12,27 @@ use Rattle.cics_script.specs.declared.lines.Line.TheVariants as says
 use Rattle.cics_script.specs.declared.faults.LineFault.{LineFault}
 use Rattle.cics_run.specs.Session.Lines.{all_lines}
 use Rattle.cics_run.specs.Session.Running.{Played, next, stepped, start}
-use Rattle.cics_run.specs.Stage.Settling.{region_at}
-use Rattle.cics_run.specs.Stage.Stages.{region_of, initial_stage, silent, followed}
+use Rattle.cics_run.specs.Stage.Stages.{region_at, region_of, initial_stage, silent, followed}
 use Rattle.cics_orders.specs.Space.Orders.{Order, after, IsOneOf, IsWay}
-use Rattle.cics_orders.specs.Search.Regrouping.{Each}
-use Rattle.cics_orders.specs.Space.OrdersLaws.{after-append, way-append}
+use Rattle.cics_orders.proofs.OfSearch.Regrouping.{Each}
+use Rattle.cics_orders.proofs.OfSpace.OrdersLaws.{after-append, way-append}
 use Rattle.cics_orders.specs.Plans.Taking.{NumberedLine, initial_taken, taken_apart, planned}
 use Rattle.cics_orders.specs.Plans.Proper.{is_proper}
-use Rattle.cics_orders.specs.Plans.ProperLaws.{proper_parts, planned_proper}
+use Rattle.cics_orders.proofs.OfPlans.ProperLaws.{proper_parts, planned_proper}
 use Rattle.cics_orders.specs.declared.plans.plans.Plan.{Plan}
 use Rattle.cics_orders.specs.declared.plans.plans.Planned.{Planned}
 use Rattle.cics_orders.specs.declared.plans.plans.TaskPlan.{TaskPlan}
-use Rattle.cics_orders.specs.Giving.{State, is_of, after_line, drained, may_give, is_ready, givers, with_given, counted, ends_turn, given, lanes, opened, task_lane, initial_lane, initial_state}
-use Rattle.cics_orders.specs.OrderLaws.{May, numbers_may}
-use Rattle.cics_orders.specs.Gists.{Gist, Gave, gist, gave_at, stays_given}
-use Rattle.cics_orders.specs.GivenLanes.{frame, IsRight, AreApart, AreRight, none_at, apart_frames, right_frames, right_at, apart_initial, right_initial}
-use Rattle.cics_orders.specs.Ended.{ended_lane, AcceptsReady}
-use Rattle.cics_orders.specs.EndedLanes.{orders_accept}
-use Rattle.cics_orders.specs.Ways.{Holds, holds_along, label_of_lane, right_command, one_of}
+use Rattle.cics_orders.specs.Giving.{State, is_of, asked, after_asked, may_give, is_ready, givers, with_given, counted, given, lanes, opened, frame, task_lane, initial_lane, initial_state}
+use Rattle.cics_orders.proofs.OrderLaws.{May, numbers_may}
+use Rattle.cics_orders.proofs.Gists.{Gave, gist, gave_at, stays_given}
+use Rattle.cics_orders.proofs.GivenLanes.{IsRight, AreRight, right_frames, right_at, right_initial}
+use Rattle.cics_orders.specs.Accepts.{has_lane, AcceptsReady}
+use Rattle.cics_orders.proofs.Accepting.{orders_accept}
+use Rattle.cics_orders.proofs.Ways.{Holds, holds_along, label_of_lane, right_command, one_of}
 use Rattle.cics_orders.specs.declared.lanes.Lane.{Lane}
 use Rattle.cics_orders.specs.Report.Along.{Along, lines_of, lane_lines, with_next, given_more, initial_along}
 use Rattle.cics_orders.specs.Report.Reporting.{script_text}
-use Rattle.cics_orders.specs.Report.Leads.{machine_of, IsNotRefused, AcceptsLine, AcceptsLines, LeadsTo, ScriptsLeadThere}
+use Rattle.cics_orders.specs.Report.Leads.{machine_of, AcceptsLine, AcceptsLines, LeadsTo, ScriptsLeadThere}
 use Rattle.cics_orders.proofs.OfReport.ScriptLines.{run_lines, run_bytes, lines_again, all_texts}
 use Rattle.cics_orders.proofs.OfReport.Titles.{title, title_is, is_comment}
 use Rattle.cics_orders.proofs.OfReport.Opening.{bytes_of, planned_sound}
@@ -45,17 +44,17 @@ use Rattle.cics_orders.proofs.OfReport.Leading.{leads_more, right_runs, attaches
 abbrev counts : List Lane → List ℕ
 counts xs = map (λ x. x.given) xs
 
-counts_gist : (xs : List Lane) → map (λ (g : Gist). g.given) (map gist xs) ≡ counts xs
+counts_gist : (xs : List Lane) → counts (map gist xs) ≡ counts xs
 counts_gist [] = refl
 counts_gist (x ∷ xs) = ap (λ ns. x.given ∷ ns) (counts_gist xs)
 
 counts_same : (xs ys : List Lane) → map gist xs ≡ map gist ys → counts xs ≡ counts ys
-counts_same xs ys same = sym (counts_gist xs) ∙ ap (map (λ (g : Gist). g.given)) same ∙ counts_gist ys
+counts_same xs ys same = sym (counts_gist xs) ∙ ap counts same ∙ counts_gist ys
 
-counts_given : (xs : List Lane) (l : ℕ) (x : Lane) (ends : Bool) → counts (slice_set xs l (with_given x ends)) ≡ slice_set (counts xs) l (x.given + 1)
-counts_given [] l x ends = refl
-counts_given (y ∷ ys) zero x ends = refl
-counts_given (y ∷ ys) (suc l) x ends = ap (λ ns. y.given ∷ ns) (counts_given ys l x ends)
+counts_given : (xs : List Lane) (l : ℕ) (x : Lane) → counts (slice_set xs l (with_given x)) ≡ slice_set (counts xs) l (x.given + 1)
+counts_given [] l x = refl
+counts_given (y ∷ ys) zero x = refl
+counts_given (y ∷ ys) (suc l) x = ap (λ ns. y.given ∷ ns) (counts_given ys l x)
 
 count_at : (xs : List Lane) (l : ℕ) (x : Lane) → slice_get xs l ≡ Some x → get_or (counts xs) l 0 ≡ x.given
 count_at [] l x at = cc
@@ -84,31 +83,28 @@ lines_at clock (t ∷ ts) (suc l) x at = lines_at clock ts l x at
 
 -- ---- The lane of a label
 
--- a lane is the first of its label
-ended_at : (xs : List Lane) (l : ℕ) (x : Lane) (label : Bytes) → AreApart xs → slice_get xs l ≡ Some x → is_of x label ≡ true → ended_lane xs label ≡ Some x.has_ended
-ended_at [] l x label apart at own = cc
-ended_at (y ∷ ys) zero x label apart at own =
-    let same : y ≡ x = cc in
-    ap (λ z. if is_of z label then Some z.has_ended else ended_lane ys label) same ∙ ap (λ b. if b then Some x.has_ended else ended_lane ys label) own
-ended_at (y ∷ ys) (suc l) x label (first, apart) at own = by (ended_at ys l x label apart at own) (is_of y label) refl
+-- a lane is one of its label
+lane_there : (xs : List Lane) (l : ℕ) (x : Lane) (label : Bytes) → slice_get xs l ≡ Some x → is_of x label ≡ true → has_lane xs label ≡ true
+lane_there [] l x label at own = cc
+lane_there (y ∷ ys) zero x label at own = let same : y ≡ x = cc in ap (λ b. b || has_lane ys label) (ap (λ z. is_of z label) same ∙ own)
+lane_there (y ∷ ys) (suc l) x label at own = or_there (is_of y label) (has_lane ys label) (lane_there ys l x label at own)
   where
-    by : ended_lane ys label ≡ Some x.has_ended → (b : Bool) → is_of y label ≡ b → (if b then Some y.has_ended else ended_lane ys label) ≡ Some x.has_ended
-    by rest true is = let clash : true ≡ false = sym own ∙ none_at ys l x label (first label is) at in cc
-    by rest false is = rest
+    or_there : (a b : Bool) → b ≡ true → (a || b) ≡ true
+    or_there true b is = refl
+    or_there false b is = is
 
 -- a lane that is ready isn't refused its line
-accepted : (s : State) (l : ℕ) (x : Lane) → AcceptsReady s → AreApart s.lanes → slice_get s.lanes l ≡ Some x → is_ready s.machine x.has_ended x.label ≡ true →
+accepted : (s : State) (l : ℕ) (x : Lane) → AcceptsReady s → slice_get s.lanes l ≡ Some x → is_ready s.machine x.label ≡ true →
     (r : Result Line LineFault) → IsRight x.label r → AcceptsLine s.machine r
-accepted s l x accepts apart at ready (Ok (says.Issue label c)) right =
+accepted s l x accepts at ready (Ok (says.Issue label c)) right =
     let own : x.label ≡ Some label = right_command x.label label c right in
-    let answer = accepts label x.has_ended c (ended_at s.lanes l x label apart at (label_of_lane x.label x label own)) (ap (is_ready s.machine x.has_ended) (sym own) ∙ ready) in
-    subst IsNotRefused (sym answer.1) tt
-accepted s l x accepts apart at ready (Ok (says.Attach label transaction dtimout)) right = not_attach x.label right
+    accepts label c (lane_there s.lanes l x label at (label_of_lane x.label x label own)) (ap (is_ready s.machine) (sym own) ∙ ready)
+accepted s l x accepts at ready (Ok (says.Attach label transaction dtimout)) right = not_attach x.label right
   where
     not_attach : (l : Option Bytes) → IsRight l (Ok (says.Attach label transaction dtimout)) → AcceptsLine s.machine (Ok (says.Attach label transaction dtimout))
     not_attach None right = cc
     not_attach (Some k) right = cc
-accepted s l x accepts apart at ready _ right = tt
+accepted s l x accepts at ready _ right = tt
 
 -- ---- A way
 
@@ -120,7 +116,7 @@ record Led (q : Played) (s : State) (before : List Bytes) (a : Along) : Type 0 w
 module _ (q : Played) (p : Plan) (proper : is_proper p ≡ true) (before : List Bytes) where
   -- the line of a lane
   next_led : (s : State) → Holds p s → AcceptsReady s → (a : Along) → Led q s before a → (l : ℕ) (x : Lane) → slice_get s.lanes l ≡ Some x →
-      is_ready s.machine x.has_ended x.label ≡ true → (next : NumberedLine) → slice_get x.lines x.given ≡ Some next → Led q (given s l) before (given_more p a l)
+      is_ready s.machine x.label ≡ true → (next : NumberedLine) → slice_get x.lines x.given ≡ Some next → Led q (given s l) before (given_more p a l)
   unfolding given
   next_led s holds accepts a led l x at ready next is = record {
     counts = ap (λ (b : Along). b.0) along ∙ ap (λ ns. slice_set ns l (x.given + 1)) led.counts ∙ sym counts_now;
@@ -128,12 +124,12 @@ module _ (q : Played) (p : Plan) (proper : is_proper p ≡ true) (before : List 
   }
     where
       c : State
-      c = counted s l x (ends_turn (line next.1))
+      c = counted s l x
 
       gives : Gave s l x next
       gives = gave_at s l x next at is
 
-      after_it : given s l ≡ drained (after_line c (line next.1))
+      after_it : given s l ≡ after_asked c (asked (line next.1))
       after_it = gives.is
 
       lines_same : lane_lines p l ≡ x.lines
@@ -148,20 +144,17 @@ module _ (q : Played) (p : Plan) (proper : is_proper p ≡ true) (before : List 
           ∙ ap (λ n. (slice_set a.0 l (n + 1), a.1 ++ next ∷ [])) count_same
 
       counts_now : counts (given s l).lanes ≡ slice_set (counts s.lanes) l (x.given + 1)
-      counts_now = counts_same (given s l).lanes c.lanes (stays_given s l x next gives).gists ∙ counts_given s.lanes l x (ends_turn (line next.1))
+      counts_now = counts_same (given s l).lanes c.lanes (stays_given s l x next gives).gists ∙ counts_given s.lanes l x
 
       right : IsRight x.label (line next.1)
       right = right_at s.lanes l x (right_frames s.lanes (subst AreRight (sym holds.frames) (right_initial p proper))) at x.given next is
 
-      apart : AreApart s.lanes
-      apart = apart_frames s.lanes (subst AreApart (sym holds.frames) (apart_initial p proper))
-
       one : LeadsTo q (given s l).machine ((before ++ bytes_of a.1) ++ next.1 ∷ [])
       one =
           subst (λ (t : State). LeadsTo q t.machine ((before ++ bytes_of a.1) ++ next.1 ∷ [])) (sym after_it)
-          (leads_more q s.machine (drained (after_line c (line next.1))).machine (before ++ bytes_of a.1) next.1 led.leads
-          (accepted s l x accepts apart at ready (line next.1) right)
-          (λ k stage at. right_runs k stage c x.label (line next.1) right at))
+          (leads_more q s.machine (after_asked c (asked (line next.1))).machine (before ++ bytes_of a.1) next.1 led.leads
+          (accepted s l x accepts at ready (line next.1) right)
+          (λ stage at. right_runs stage c x.label (line next.1) right at))
 
       leads_now : LeadsTo q (given s l).machine (before ++ bytes_of (a.1 ++ next ∷ []))
       leads_now =
@@ -172,10 +165,10 @@ module _ (q : Played) (p : Plan) (proper : is_proper p ≡ true) (before : List 
   lane_led : (s : State) → Holds p s → AcceptsReady s → (a : Along) → Led q s before a → (l : ℕ) → IsOneOf l (givers s 0) → Led q (given s l) before (given_more p a l)
   lane_led s holds accepts a led l one =
       let may = one_of (May (may_give s.machine) s.lanes) (givers s 0) l (numbers_may (may_give s.machine) s.lanes 0 s.lanes refl) one in
-      let both = and_parts (is_some (slice_get may.one.lines may.one.given)) (is_ready s.machine may.one.has_ended may.one.label) may.does in
+      let both = and_parts (is_some (slice_get may.one.lines may.one.given)) (is_ready s.machine may.one.label) may.does in
       by may.one may.at both.1 (slice_get may.one.lines may.one.given) refl both.0
     where
-      by : (x : Lane) → slice_get s.lanes l ≡ Some x → is_ready s.machine x.has_ended x.label ≡ true → (o : Option NumberedLine) → slice_get x.lines x.given ≡ o → is_some o ≡ true →
+      by : (x : Lane) → slice_get s.lanes l ≡ Some x → is_ready s.machine x.label ≡ true → (o : Option NumberedLine) → slice_get x.lines x.given ≡ o → is_some o ≡ true →
           Led q (given s l) before (given_more p a l)
       by x at ready None is there = cc
       by x at ready (Some next) is there = next_led s holds accepts a led l x at ready next is
@@ -240,7 +233,7 @@ scripts_lead script p r k e is way titled =
     lines = title r k e ∷ run_lines p.plan e.order
 
     behind : q ≡ stepped start (title r k e) (silent initial_stage)
-    behind = ap (λ says. stepped start (title r k e) (followed 1 initial_stage says)) comment
+    behind = ap (λ says. stepped start (title r k e) (followed initial_stage says)) comment
 
     led : LeadsTo q m (run_lines p.plan e.order)
     led = run_leads q (ap (λ (q : Played). q.fault) behind) (ap (λ (q : Played). q.stage) behind) script p e.order is way

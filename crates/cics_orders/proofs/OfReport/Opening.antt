@@ -27,8 +27,8 @@ use Rattle.cics_orders.specs.declared.plans.plans.TaskPlan.{TaskPlan}
 use Rattle.cics_orders.specs.declared.plans.plans.ScriptFault.{ScriptFault}
 use Rattle.cics_orders.specs.declared.plans.plans.ScriptFault.TheVariants as fault
 use Rattle.cics_orders.specs.Giving.{opened}
-use Rattle.cics_orders.specs.Search.Regrouping.{Each}
-use Rattle.cics_orders.specs.Search.Ways.{each_append}
+use Rattle.cics_orders.proofs.OfSearch.Regrouping.{Each}
+use Rattle.cics_orders.proofs.OfSearch.Ways.{each_append}
 use Rattle.cics_orders.specs.Report.Leads.{machine_of, AcceptsLine, AcceptsLines}
 
 -- the bytes of lines that have numbers
@@ -38,8 +38,8 @@ bytes_of lines = map (λ next. next.1) lines
 -- ---- One line more
 
 -- a run that has no fault runs a line
-pub goes : (p : Played) (b : Bytes) → p.fault ≡ None → next p b ≡ stepped p b (stages.step (p.number + 1) p.stage b)
-goes p b none = ap (λ g. if is_some g then p else stepped p b (stages.step (p.number + 1) p.stage b)) none
+pub goes : (p : Played) (b : Bytes) → p.fault ≡ None → next p b ≡ stepped p b (stages.step p.stage b)
+goes p b none = ap (λ g. if is_some g then p else stepped p b (stages.step p.stage b)) none
 
 -- a run with a line more
 pub played_more : (q : Played) (lines : List Bytes) (b : Bytes) → fold next q (lines ++ b ∷ []) ≡ next (fold next q lines) b
@@ -60,7 +60,7 @@ pub record Defines (q : Played) (o : OpeningState) (lines : List Bytes) : Type 0
 
 -- a definition is accepted by a run
 abbrev IsTaken : OpeningState → Result Line LineFault → Type 0
-IsTaken o r = (n : ℕ) → stages.followed n (Opening o) r ≡ stages.silent (Opening (defined_by o r))
+IsTaken o r = stages.followed (Opening o) r ≡ stages.silent (Opening (defined_by o r))
 
 -- a definition more
 defines_more : (q : Played) (o : OpeningState) (lines : List Bytes) (b : Bytes) (r : Result Line LineFault) → line b ≡ r → Defines q o lines → ((m : Machine) → AcceptsLine m r) → IsTaken o r →
@@ -71,14 +71,11 @@ defines_more q o lines b r is defines accepts taken = record {
   stage = ap (λ q. q.stage) more;
 }
   where
-    n : ℕ
-    n = (fold next q lines).number + 1
-
     more : fold next q (lines ++ b ∷ []) ≡ stepped (fold next q lines) b (stages.silent (Opening (defined_by o r)))
     more =
         played_more q lines b ∙ goes (fold next q lines) b defines.fault
-        ∙ ap (λ g. stepped (fold next q lines) b (stages.followed n g (line b))) defines.stage
-        ∙ ap (λ r. stepped (fold next q lines) b (stages.followed n (Opening o) r)) is ∙ ap (stepped (fold next q lines) b) (taken n)
+        ∙ ap (λ g. stepped (fold next q lines) b (stages.followed g (line b))) defines.stage
+        ∙ ap (λ r. stepped (fold next q lines) b (stages.followed (Opening o) r)) is ∙ ap (stepped (fold next q lines) b) taken
 
 -- ---- A line of a script
 
@@ -151,15 +148,15 @@ module _ (q : Played) (t : Taken) (next : NumberedLine) (sound : Sound q t.openi
   more (Ok (says.Clock seconds)) is = record { opening = sound.opening; defines = sound.defines; attaches = sound.attaches }
   more (Ok says.Shutdown) is = record { opening = sound.opening; defines = sound.defines; attaches = sound.attaches }
   more (Ok (says.DefineFile name d)) is =
-      define (says.DefineFile name d) is (λ m. tt) (λ none n. ap (λ f. stages.defined n t.opening f (with_file t.opening name d)) none)
+      define (says.DefineFile name d) is (λ m. tt) (λ none. ap (λ f. stages.defined t.opening f (with_file t.opening name d)) none)
   more (Ok (says.DefineTsPrefix prefix)) is =
-      define (says.DefineTsPrefix prefix) is (λ m. tt) (λ none n. ap (λ f. stages.defined n t.opening f (with_prefix t.opening prefix)) none)
+      define (says.DefineTsPrefix prefix) is (λ m. tt) (λ none. ap (λ f. stages.defined t.opening f (with_prefix t.opening prefix)) none)
   more (Ok (says.DefineTd name recovery)) is =
-      define (says.DefineTd name recovery) is (λ m. tt) (λ none n. ap (λ f. stages.defined n t.opening f (with_queue t.opening name recovery)) none)
+      define (says.DefineTd name recovery) is (λ m. tt) (λ none. ap (λ f. stages.defined t.opening f (with_queue t.opening name recovery)) none)
   more (Ok (says.LoadFile name content)) is =
-      define (says.LoadFile name content) is (λ m. tt) (λ none n. ap (λ f. stages.defined n t.opening f (with_record t.opening name content)) none)
+      define (says.LoadFile name content) is (λ m. tt) (λ none. ap (λ f. stages.defined t.opening f (with_record t.opening name content)) none)
   more (Ok (says.LoadTd name content)) is =
-      define (says.LoadTd name content) is (λ m. tt) (λ none n. ap (λ f. stages.defined n t.opening f (with_td_record t.opening name content)) none)
+      define (says.LoadTd name content) is (λ m. tt) (λ none. ap (λ f. stages.defined t.opening f (with_td_record t.opening name content)) none)
   more (Err f) is = sound
 
 -- ---- A whole script

@@ -9,16 +9,13 @@ use Rattle.cics_history.specs.Openings.{with_file, with_record, with_prefix, wit
 use Rattle.cics_units.specs.Opening.Faults.{file_fault, load_fault, load_td_fault, fault_if}
 use Rattle.cics_units.specs.declared.opening.opening.DefineFault.{DefineFault}
 use Rattle.cics_dispatch.specs.Machine.Machine.{Machine, RegionValue}
-use Rattle.cics_dispatch.specs.Machine.Steps as steps
-use Rattle.cics_dispatch.specs.Machine.Waking.{clock_set}
-use Rattle.cics_dispatch.specs.Machine.Shutdown.{unless_down, shut_down}
-use Rattle.cics_dispatch.specs.declared.machine.outcomes.Refused.{Refused}
+use Rattle.cics_dispatch.specs.declared.machine.events.Request.{Request}
+use Rattle.cics_dispatch.specs.declared.machine.events.Request.TheVariants as request
 use Rattle.cics_dispatch.specs.declared.machine.outcomes.Refused.TheVariants.{NoTask, DuplicateLabel}
 use Rattle.cics_script.specs.Lines.{line}
 use Rattle.cics_script.specs.declared.lines.Line.{Line}
 use Rattle.cics_script.specs.declared.lines.Line.TheVariants as says
 use Rattle.cics_script.specs.declared.faults.LineFault.{LineFault}
-use Rattle.cics_run.specs.Stage.Journal.{attached_line, outcome_line, refused_line, clock_line, clock_refused_line, shutdown_line, shutdown_refused_line}
 use Rattle.cics_run.specs.Session.Running.{Played, next, stepped, start}
 use Rattle.cics_run.specs.Stage.Stages as stages
 use Rattle.cics_run.specs.declared.stage.stage.Fault.{Fault}
@@ -43,15 +40,11 @@ Agree (Some f) t s = s.fault ≡ Some (as_fault f)
 
 -- ---- Events have no fault
 
-ran : {X : Type 0} (t : Taken) → t.is_opening ≡ false → (m : Machine) (told : X → List ℕ) (refusal : Refused → List ℕ) (r : Result X Refused) (n : Machine) →
-    Agree None t (stages.answered m told refusal r n)
-ran t is m told refusal (Ok x) n = (refl, is)
-ran t is m told refusal (Err e) n = (refl, is)
+ran : (t : Taken) → t.is_opening ≡ false → (stage : Stage) (q : Request) → Agree None t (stages.requested stage q)
+ran t is stage q = (refl, is)
 
-on_attach : (t : Taken) (task : TaskPlan) (m : Machine) → Agree None (attached t task) (stages.task_attached m task.label task.transaction task.dtimout)
-on_attach t task m =
-    let s = unless_down m (steps.attached m task.label task.dtimout) in
-    ran (attached t task) (by (has_task t.plan.tasks task.label)) m (λ _. attached_line task.label task.transaction) (refused_line task.label) s.outcome s.machine
+on_attach : (t : Taken) (task : TaskPlan) (stage : Stage) → Agree None (attached t task) (stages.requested stage (request.Attach task.label task.transaction task.dtimout))
+on_attach t task stage = ran (attached t task) (by (has_task t.plan.tasks task.label)) stage (request.Attach task.label task.transaction task.dtimout)
   where
     by : (b : Bool) →
         (if b then with_refused t task.attach.0 task.label DuplicateLabel
@@ -59,10 +52,8 @@ on_attach t task m =
     by true = refl
     by false = refl
 
-on_issue : (t : Taken) (l : NumberedLine) (m : Machine) (label : Bytes) (command : Command) → Agree None (issued t l label) (stages.command_issued m label command)
-on_issue t l m label command =
-    let s = unless_down m (steps.issued m label command) in
-    ran (issued t l label) (by (has_task t.plan.tasks label)) m (outcome_line label) (refused_line label) s.outcome s.machine
+on_issue : (t : Taken) (l : NumberedLine) (stage : Stage) (label : Bytes) (command : Command) → Agree None (issued t l label) (stages.requested stage (request.Issue label command))
+on_issue t l stage label command = ran (issued t l label) (by (has_task t.plan.tasks label)) stage (request.Issue label command)
   where
     by : (b : Bool) →
         (if b then record t { is_opening = false; plan = record (t.plan) { tasks = line_added t.plan.tasks label l } }
@@ -70,25 +61,20 @@ on_issue t l m label command =
     by true = refl
     by false = refl
 
-on_clock : (t : Taken) (l : NumberedLine) (m : Machine) (seconds : ℕ) → Agree None (timed t l) (stages.clock_moved m seconds)
-on_clock t l m seconds =
-    let s = unless_down m (clock_set m seconds) in ran (timed t l) refl m (λ _. clock_line seconds) clock_refused_line s.outcome s.machine
-
-on_shutdown : (t : Taken) (l : NumberedLine) (m : Machine) → Agree None (timed t l) (stages.region_shut m)
-on_shutdown t l m =
-    let s = unless_down m (shut_down m) in ran (timed t l) refl m shutdown_line shutdown_refused_line s.outcome s.machine
+on_clock : (t : Taken) (l : NumberedLine) (stage : Stage) (q : Request) → Agree None (timed t l) (stages.requested stage q)
+on_clock t l stage q = ran (timed t l) refl stage q
 
 -- ---- A line more
 
 -- a definition has the same fault, or is accepted alike
 defines : (n : ℕ) (b : Bytes) (t : Taken) → t.is_opening ≡ true → (f : Option DefineFault) (o : OpeningState) →
-    Agree (accepted t (n, b) f o).fault (accepted t (n, b) f o).taken (stages.defined n t.opening f o)
+    Agree (accepted t (n, b) f o).fault (accepted t (n, b) f o).taken (stages.defined t.opening f o)
 defines n b t is None o = (refl, (is, refl))
 defines n b t is (Some f) o = refl
 
 module _ (n : ℕ) (b : Bytes) (t : Taken) where
   abbrev After : Bool → Stage → Result Line LineFault → Type 0
-  After is stage r = let step = taken_more (record t { is_opening = is }) (n, b) r in Agree step.fault step.taken (stages.followed n stage r)
+  After is stage r = let step = taken_more (record t { is_opening = is }) (n, b) r in Agree step.fault step.taken (stages.followed stage r)
 
   opening : (r : Result Line LineFault) → After true (Opening t.opening) r
   unfolding defined_by
@@ -104,10 +90,10 @@ module _ (n : ℕ) (b : Bytes) (t : Taken) where
       defines n b (record t { is_opening = true }) refl (load_td_fault (value_at name t.opening.queues) content) (with_td_record t.opening name content)
   opening (Ok (says.Attach label transaction dtimout)) =
       on_attach (record t { is_opening = true }) (record { label = label; transaction = transaction; dtimout = dtimout; attach = (n, b); lines = [] })
-      (stages.region_of (Opening t.opening)).machine
-  opening (Ok (says.Clock seconds)) = on_clock (record t { is_opening = true }) (n, b) (stages.region_of (Opening t.opening)).machine seconds
-  opening (Ok (says.Issue label command)) = on_issue (record t { is_opening = true }) (n, b) (stages.region_of (Opening t.opening)).machine label command
-  opening (Ok says.Shutdown) = on_shutdown (record t { is_opening = true }) (n, b) (stages.region_of (Opening t.opening)).machine
+      (Opening t.opening)
+  opening (Ok (says.Clock seconds)) = on_clock (record t { is_opening = true }) (n, b) (Opening t.opening) (request.Clock seconds)
+  opening (Ok (says.Issue label command)) = on_issue (record t { is_opening = true }) (n, b) (Opening t.opening) label command
+  opening (Ok says.Shutdown) = on_clock (record t { is_opening = true }) (n, b) (Opening t.opening) request.Shutdown
   opening (Err f) = refl
 
   running : (x : RegionValue) (r : Result Line LineFault) → After false (Running x) r
@@ -119,10 +105,10 @@ module _ (n : ℕ) (b : Bytes) (t : Taken) where
   running x (Ok (says.LoadFile name content)) = refl
   running x (Ok (says.LoadTd name content)) = refl
   running x (Ok (says.Attach label transaction dtimout)) =
-      on_attach (record t { is_opening = false }) (record { label = label; transaction = transaction; dtimout = dtimout; attach = (n, b); lines = [] }) x.machine
-  running x (Ok (says.Clock seconds)) = on_clock (record t { is_opening = false }) (n, b) x.machine seconds
-  running x (Ok (says.Issue label command)) = on_issue (record t { is_opening = false }) (n, b) x.machine label command
-  running x (Ok says.Shutdown) = on_shutdown (record t { is_opening = false }) (n, b) x.machine
+      on_attach (record t { is_opening = false }) (record { label = label; transaction = transaction; dtimout = dtimout; attach = (n, b); lines = [] }) (Running x)
+  running x (Ok (says.Clock seconds)) = on_clock (record t { is_opening = false }) (n, b) (Running x) (request.Clock seconds)
+  running x (Ok (says.Issue label command)) = on_issue (record t { is_opening = false }) (n, b) (Running x) label command
+  running x (Ok says.Shutdown) = on_clock (record t { is_opening = false }) (n, b) (Running x) request.Shutdown
   running x (Err f) = refl
 
   one : (stage : Stage) → Stands t stage → (r : Result Line LineFault) → After t.is_opening stage r
@@ -135,7 +121,7 @@ module _ (n : ℕ) (b : Bytes) (t : Taken) where
 pub stays : (lines : List Bytes) (p : Played) (f : Fault) → p.fault ≡ Some f → fold next p lines ≡ p
 stays [] p f is = refl
 stays (b ∷ lines) p f is =
-    let same : next p b ≡ p = ap (λ g. if is_some g then p else stepped p b (stages.step (p.number + 1) p.stage b)) is in
+    let same : next p b ≡ p = ap (λ g. if is_some g then p else stepped p b (stages.step p.stage b)) is in
     ap (λ q. fold next q lines) same ∙ stays lines p f is
 
 -- the lines behind one that has no fault, and none behind one that has
@@ -151,7 +137,7 @@ both : (lines : List Bytes) (t : Taken) (p : Played) → p.fault ≡ None → St
 unfolding taken_apart
 both [] t p none stands = none
 both (b ∷ lines) t p none stands =
-    let s = stages.step (p.number + 1) p.stage b in
+    let s = stages.step p.stage b in
     let taken = taken_more t (p.number + 1, b) (line b) in
     let goes : next p b ≡ stepped p b s = ap (λ g. if is_some g then p else stepped p b s) none in
     subst (λ q. HasFaultOf (fold next q lines) (taken_apart t (p.number + 1) (b ∷ lines))) (sym goes)

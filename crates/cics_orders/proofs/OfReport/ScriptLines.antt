@@ -22,7 +22,7 @@ use Rattle.cics_orders.specs.Space.Orders.{Order}
 use Rattle.cics_orders.specs.Plans.Taking.{NumberedLine}
 use Rattle.cics_orders.specs.declared.plans.plans.Plan.{Plan}
 use Rattle.cics_orders.specs.declared.plans.plans.TaskPlan.{TaskPlan}
-use Rattle.cics_orders.specs.Search.Regrouping.{Each}
+use Rattle.cics_orders.proofs.OfSearch.Regrouping.{Each}
 use Rattle.cics_orders.specs.Report.Along.{lines_along}
 use Rattle.cics_orders.specs.Report.Reporting.{script_line, attach_line, run_text}
 use Rattle.cics_orders.proofs.OfReport.Opening.{bytes_of, goes}
@@ -118,7 +118,7 @@ all_texts (b ∷ lines) p none =
     let here = none_before (b ∷ lines) p none in
     (by (line b) refl (sym (ap (λ (q : Played). q.fault) (goes p b here)) ∙ none_before lines (next p b) none), all_texts lines (next p b) none)
   where
-    by : (r : Result Line LineFault) → line b ≡ r → (stages.followed (p.number + 1) p.stage r).fault ≡ None → IsText b
+    by : (r : Result Line LineFault) → line b ≡ r → (stages.followed p.stage r).fault ≡ None → IsText b
     by (Ok says) is none = text_of b says is
     by (Err f) is none = cc
 

@@ -7,14 +7,14 @@ use Rattle.std.specs.Str.{bytes_eq}
 use Rattle.std.proofs.lemmas.List.{length_push, map_more, take-map}
 use Rattle.std.proofs.lemmas.Slice.Eq.{bytes_eq-Decides}
 use Rattle.cics_names.specs.Keyed.{Bytes}
-use Rattle.cics_orders.specs.Space.Orders.{Order, Lanes, IsOneOf, IsWay, AreStampedAlike, after}
+use Rattle.cics_orders.specs.Space.Orders.{is_none_left, Order, Lanes, IsOneOf, IsWay, AreStampedAlike, after}
 use Rattle.cics_orders.specs.Space.Endings.{Parts}
-use Rattle.cics_orders.specs.Space.States.{lanes_of, is_none_left, reached}
+use Rattle.cics_orders.specs.Space.States.{lanes_of, reached}
 use Rattle.cics_orders.specs.Search.Ahead.{all_reached, AreFirst, IsKnown, IsMet}
 use Rattle.cics_orders.specs.declared.space.states.Reached.{Reached}
-use Rattle.cics_orders.specs.Search.Regrouping.{Each}
-use Rattle.cics_orders.specs.Space.OrdersLaws.{after-append, way-append}
-use Rattle.cics_orders.specs.Search.Ways.{each_lane, each_at}
+use Rattle.cics_orders.proofs.OfSearch.Regrouping.{Each}
+use Rattle.cics_orders.proofs.OfSpace.OrdersLaws.{after-append, way-append}
+use Rattle.cics_orders.proofs.OfSearch.Ways.{each_lane, each_at}
 use Rattle.cics_orders.proofs.OfSearch.Leveling.{same_lanes}
 
 -- one more of what these lanes lead to
@@ -31,18 +31,18 @@ pub put_more : {X : Type 0} (c : Bool) (x y : X) (xs us : List X) (old taken new
 put_more true x y xs us old taken new put one found more takes puts = puts ∙ ap Some (more ∙ (λ i. found i ++ one i ∷ []))
 put_more false x y xs us old taken new put one found more takes puts = puts ∙ takes
 
-module _ {S : Type 0} (lanes : Lanes S) (breaks : S → ℕ → Bool) (stamp : Bool → S → Bytes) (ending : S → Parts) (b : Bool) (s : S)
-    (tell : (o p : Order) → IsWay lanes s o → IsWay lanes s p → stamp b (after lanes s o) ≡ stamp b (after lanes s p) →
-    AreStampedAlike lanes ending breaks (stamp b) b (after lanes s o) (after lanes s p)) where
+module _ {S : Type 0} (lanes : Lanes S) (breaks : S → ℕ → Bool) (stamp : S → Bytes) (ending : S → Parts) (b : Bool) (s : S)
+    (tell : (o p : Order) → IsWay lanes s o → IsWay lanes s p → stamp (after lanes s o) ≡ stamp (after lanes s p) →
+    AreStampedAlike lanes ending breaks stamp (after lanes s o) (after lanes s p)) where
   -- the same is noted of states of one stamp
-  same_reached : (o p : Order) → IsWay lanes s o → IsWay lanes s p → stamp b (after lanes s o) ≡ stamp b (after lanes s p) →
+  same_reached : (o p : Order) → IsWay lanes s o → IsWay lanes s p → stamp (after lanes s o) ≡ stamp (after lanes s p) →
       reached lanes breaks stamp b (after lanes s o) ≡ reached lanes breaks stamp b (after lanes s p)
   same_reached o p first second one =
       let alike = tell o p first second one in
       λ i. record { stamp = one i; lanes = same_lanes lanes breaks stamp ending b s tell (after lanes s o) (after lanes s p) alike i; has_ended = is_none_left (alike.givers i) }
 
   -- and of those that their lanes lead to
-  same_all : (o p : Order) → IsWay lanes s o → IsWay lanes s p → stamp b (after lanes s o) ≡ stamp b (after lanes s p) →
+  same_all : (o p : Order) → IsWay lanes s o → IsWay lanes s p → stamp (after lanes s o) ≡ stamp (after lanes s p) →
       all_reached lanes breaks stamp b (after lanes s o) ≡ all_reached lanes breaks stamp b (after lanes s p)
   same_all o p first second one =
       by (lanes_of lanes breaks b x) (each_lane lanes breaks b x)
@@ -54,15 +54,15 @@ module _ {S : Type 0} (lanes : Lanes S) (breaks : S → ℕ → Bool) (stamp : B
       y : S
       y = after lanes s p
 
-      alike : AreStampedAlike lanes ending breaks (stamp b) b (after lanes s o) (after lanes s p)
+      alike : AreStampedAlike lanes ending breaks stamp (after lanes s o) (after lanes s p)
       alike = tell o p first second one
 
       by : (ls : List ℕ) → Each (λ l. IsOneOf l (lanes.givers (after lanes s o) 0)) ls →
           map (λ l. reached lanes breaks stamp b (lanes.given (after lanes s o) l)) ls ≡ map (λ l. reached lanes breaks stamp b (lanes.given (after lanes s p) l)) ls
       by [] may = refl
       by (l ∷ ls) may =
-          let there : stamp b (after lanes s (o ++ l ∷ [])) ≡ stamp b (after lanes s (p ++ l ∷ []))
-          = ap (stamp b) (after-append lanes s o l) ∙ alike.next l may.0 ∙ sym (ap (stamp b) (after-append lanes s p l)) in
+          let there : stamp (after lanes s (o ++ l ∷ [])) ≡ stamp (after lanes s (p ++ l ∷ []))
+          = ap stamp (after-append lanes s o l) ∙ alike.next l may.0 ∙ sym (ap stamp (after-append lanes s p l)) in
           let same = same_reached (o ++ l ∷ []) (p ++ l ∷ []) (way-append lanes s o l first may.0)
           (way-append lanes s p l second (subst (IsOneOf l) alike.givers may.0)) there in
           λ i. (ap (reached lanes breaks stamp b) (sym (after-append lanes s o l)) ∙ same ∙ ap (reached lanes breaks stamp b) (after-append lanes s p l)) i ∷ by ls may.1 i
@@ -80,9 +80,9 @@ module _ {S : Type 0} (lanes : Lanes S) (breaks : S → ℕ → Bool) (stamp : B
   -- ---- What is known of one stamp
 
   -- a lane more is known of a state's stamp
-  pub first_more : (o : Order) (rs : List Reached) → IsWay lanes s o → AreFirst lanes breaks stamp b s (stamp b (after lanes s o)) rs →
+  pub first_more : (o : Order) (rs : List Reached) → IsWay lanes s o → AreFirst lanes breaks stamp b s (stamp (after lanes s o)) rs →
       length rs < length (lanes_of lanes breaks b (after lanes s o)) →
-      AreFirst lanes breaks stamp b s (stamp b (after lanes s o))
+      AreFirst lanes breaks stamp b s (stamp (after lanes s o))
       (rs ++ reached lanes breaks stamp b (lanes.given (after lanes s o) (get_or (lanes_of lanes breaks b (after lanes s o)) (length rs) 0)) ∷ [])
   first_more o rs way are short p way_too one =
       let ls = lanes_of lanes breaks b (after lanes s o) in
@@ -129,11 +129,11 @@ module _ {S : Type 0} (lanes : Lanes S) (breaks : S → ℕ → Bool) (stamp : B
   known_more o here there rs lane old new way at short next is known found puts =
       let x = after lanes s o in
       let ls : here.lanes ≡ lanes_of lanes breaks b x = ap (λ r. r.lanes) at in
-      let k : here.stamp ≡ stamp b x = ap (λ r. r.stamp) at in
+      let k : here.stamp ≡ stamp x = ap (λ r. r.stamp) at in
       let so_far = subst (λ (j : Bytes). AreFirst lanes breaks stamp b s j rs) k (known_first old here.stamp rs known found) in
       let more = first_more o rs way so_far (subst (λ (ks : List ℕ). length rs < length ks) ls short) in
       let last : there ≡ reached lanes breaks stamp b (lanes.given x (get_or (lanes_of lanes breaks b x) (length rs) 0))
       = is ∙ ap (λ l. reached lanes breaks stamp b (lanes.given x l)) (next ∙ ap (λ ks. get_or ks (length rs) 0) ls) in
       known_put old new here.stamp (Some (rs ++ there ∷ [])) known puts
       (subst (λ (j : Bytes). AreFirst lanes breaks stamp b s j (rs ++ there ∷ [])) (sym k)
-      (subst (λ (r : Reached). AreFirst lanes breaks stamp b s (stamp b x) (rs ++ r ∷ [])) (sym last) more))
+      (subst (λ (r : Reached). AreFirst lanes breaks stamp b s (stamp x) (rs ++ r ∷ [])) (sym last) more))

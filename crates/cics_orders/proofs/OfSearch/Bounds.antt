@@ -1,11 +1,11 @@
 -- What a report says of orders if only some are followed.
 use Rattle.std.proofs.Common.{◌≡◌, ◌≤◌, ℕ, Bool, List, [], ◌∷◌, ◌++◌, map, length, not, All, inl, inr, refl, ap, sym, arith, subst}
 use Rattle.std.specs.List.{count_by, filter}
-use Rattle.cics_orders.specs.Space.Orders.{Order, Lanes, after, orders, AreAmong}
-use Rattle.cics_orders.specs.Space.Endings.{Parts, Run, Reported, are_same, firsts, run_to, reported_of_both, report_of_both}
+use Rattle.cics_orders.specs.Space.Orders.{Order, Lanes, orders, AreAmong}
+use Rattle.cics_orders.specs.Space.Endings.{Parts, Run, Reported, are_same, firsts, run_of, reported_of_both, report_of_both}
 use Rattle.cics_orders.specs.Search.Reports.{runs, serial_of, IsShown, IsBounded}
-use Rattle.cics_orders.specs.Search.Regrouping.{Each}
-use Rattle.cics_orders.specs.Search.Ways.{each_append, each_at, each_filter, each_mapped, each_on, filter_map_both}
+use Rattle.cics_orders.proofs.OfSearch.Regrouping.{Each}
+use Rattle.cics_orders.proofs.OfSearch.Ways.{each_append, each_at, each_filter, each_mapped, each_on, filter_map_both}
 use Rattle.cics_orders.proofs.OfSearch.Sublists.{among_none, among_trans, among_filter}
 use Rattle.cics_orders.proofs.OfSearch.Tallying.{count_first, count_filter, count_fewer}
 
@@ -46,19 +46,19 @@ pub some_reported : (rs ss : List Run) (es : List Reported) → es ≡ report_of
 some_reported [] ss es is any = absurd (omega (arith, any))
 some_reported (r ∷ rs) ss es is any = subst (λ (ts : List Reported). 1 ≤ length ts) (sym is) (omega arith)
 
-module _ {S : Type 0} (lanes : Lanes S) (ending : S → Parts) (serial : S → Bool) (s : S) (n : ℕ) (os ps : List Order)
-    (among : AreAmong os (orders lanes n s)) (serially : AreAmong ps (serial_of lanes serial s (orders lanes n s))) where
+module _ {S : Type 0} (lanes : Lanes S) (ending : S → Parts) (breaks : S → ℕ → Bool) (s : S) (n : ℕ) (os ps : List Order)
+    (among : AreAmong os (orders lanes n s)) (serially : AreAmong ps (serial_of lanes breaks s (orders lanes n s))) where
   abbrev of_order : Order → Run
-  of_order = λ o. run_to ending serial o (after lanes s o)
+  of_order = run_of lanes ending breaks s
 
   abbrev all : List Run
-  all = runs lanes ending serial s (orders lanes n s)
+  all = runs lanes ending breaks s (orders lanes n s)
 
   abbrev rs : List Run
-  rs = runs lanes ending serial s os
+  rs = runs lanes ending breaks s os
 
   abbrev ss : List Run
-  ss = runs lanes ending serial s ps
+  ss = runs lanes ending breaks s ps
 
   some : AreAmong rs all
   some = among_mapped of_order os (orders lanes n s) among
@@ -66,7 +66,7 @@ module _ {S : Type 0} (lanes : Lanes S) (ending : S → Parts) (serial : S → B
   serial_ones : AreAmong ss (filter (λ r. r.is_serial) all)
   serial_ones =
       subst (AreAmong ss) (sym (filter_map_both of_order (λ r. r.is_serial) (orders lanes n s)))
-      (among_mapped of_order ps (serial_of lanes serial s (orders lanes n s)) serially)
+      (among_mapped of_order ps (serial_of lanes breaks s (orders lanes n s)) serially)
 
   bounded : (r : Run) → IsBounded all (reported_of_both rs ss r)
   bounded r =

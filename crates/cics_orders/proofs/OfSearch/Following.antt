@@ -14,7 +14,7 @@ use Rattle.cics_orders.specs.Space.Groups.{added, added_all}
 use Rattle.cics_orders.specs.Space.States.{led_joined}
 use Rattle.cics_orders.specs.Search.Levels.{led_on, live, spread, IsNext}
 use Rattle.cics_orders.specs.declared.space.states.Led.{Led}
-use Rattle.cics_orders.specs.Search.Regrouping.{added_all-append}
+use Rattle.cics_orders.proofs.OfSearch.Regrouping.{added_all-append}
 
 -- no order changes the initial state
 pub initial_after : {S : Type 0} (lanes : Lanes S) (initial : S → S) → ((s : S) (l : ℕ) → initial (lanes.given s l) ≡ initial s) →
@@ -121,7 +121,7 @@ part_less w v u es before left some e at cut part = record {
   whole = λ is. absurd (true≢false (sym is ∙ cut));
 }
 
-module _ {S : Type 0} (lanes : Lanes S) (breaks : S → ℕ → Bool) (stamp : Bool → S → Bytes) (b : Bool) (s : S) where
+module _ {S : Type 0} (lanes : Lanes S) (breaks : S → ℕ → Bool) (stamp : S → Bytes) (b : Bool) (s : S) where
   pub spread_more : (some next now : List (Bytes × Led)) (e : Bytes × Led) → now ≡ added_all bytes_eq led_joined [] (flat_map (spread lanes breaks stamp b s) some) →
       next ≡ added_all bytes_eq led_joined now (spread lanes breaks stamp b s e) →
       next ≡ added_all bytes_eq led_joined [] (flat_map (spread lanes breaks stamp b s) (some ++ e ∷ []))

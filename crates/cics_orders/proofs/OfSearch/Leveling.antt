@@ -6,16 +6,16 @@ use Rattle.std.proofs.lemmas.List.{map-append}
 use Rattle.std.proofs.lemmas.Bool.{true≢false}
 use Rattle.std.proofs.lemmas.Slice.Eq.{bytes_eq-Decides}
 use Rattle.cics_names.specs.Keyed.{Bytes}
-use Rattle.cics_orders.specs.Space.Orders.{Order, Lanes, IsOneOf, IsWay, AreStampedAlike, after, AreAmong}
+use Rattle.cics_orders.specs.Space.Orders.{is_none_left, Order, Lanes, IsOneOf, IsWay, AreStampedAlike, after, AreAmong}
 use Rattle.cics_orders.specs.Space.Endings.{Parts, kept_number}
 use Rattle.cics_orders.specs.Space.Groups.{added, added_all}
 use Rattle.cics_orders.specs.Search.Levels.{followed, entry, spread, level, live, IsEntry, IsLevel, IsNext, state_count}
-use Rattle.cics_orders.specs.Space.States.{lanes_of, is_none_left, led_joined}
+use Rattle.cics_orders.specs.Space.States.{lanes_of, led_joined}
 use Rattle.cics_orders.specs.declared.space.states.Led.{Led}
-use Rattle.cics_orders.specs.Search.Regrouping.{AreLaws, Each, Leads, keys, merged, each_added_all, regrouped}
+use Rattle.cics_orders.proofs.OfSearch.Regrouping.{AreLaws, Each, Leads, keys, merged, each_added_all, regrouped}
 use Rattle.cics_orders.proofs.OfSearch.Sublists.{among_all, among_trans, among_flat_map, among_filter, some_groups}
-use Rattle.cics_orders.specs.Search.Ways.{each_among, each_on, longer, grows, each_own, each_lane, are_ways, filter_map_both}
-use Rattle.cics_orders.specs.Space.OrdersLaws.{after-append}
+use Rattle.cics_orders.proofs.OfSearch.Ways.{each_among, each_on, longer, grows, each_own, each_lane, are_ways, filter_map_both}
+use Rattle.cics_orders.proofs.OfSpace.OrdersLaws.{after-append}
 
 pub kept_sums : (l m n : ℕ) → kept_number (kept_number (l + m) + n) ≡ kept_number (l + kept_number (m + n))
 kept_sums l m n = omega arith
@@ -30,9 +30,9 @@ led_laws = record {
   swap = λ x y z. λ i. record x { count = kept_swap x.count y.count z.count i };
 }
 
-module _ {S : Type 0} (lanes : Lanes S) (breaks : S → ℕ → Bool) (stamp : Bool → S → Bytes) (ending : S → Parts) (b : Bool) (s : S)
-    (tell : (o p : Order) → IsWay lanes s o → IsWay lanes s p → stamp b (after lanes s o) ≡ stamp b (after lanes s p) →
-    AreStampedAlike lanes ending breaks (stamp b) b (after lanes s o) (after lanes s p)) where
+module _ {S : Type 0} (lanes : Lanes S) (breaks : S → ℕ → Bool) (stamp : S → Bytes) (ending : S → Parts) (b : Bool) (s : S)
+    (tell : (o p : Order) → IsWay lanes s o → IsWay lanes s p → stamp (after lanes s o) ≡ stamp (after lanes s p) →
+    AreStampedAlike lanes ending breaks stamp (after lanes s o) (after lanes s p)) where
   abbrev entry_of : Order → Bytes × Led
   entry_of o = entry lanes breaks stamp b o 1 (after lanes s o)
 
@@ -43,7 +43,7 @@ module _ {S : Type 0} (lanes : Lanes S) (breaks : S → ℕ → Bool) (stamp : B
   -- ---- Entries of one stamp
 
   pub same_there : (g e : Bytes × Led) → IsEntry lanes breaks stamp b s g → IsEntry lanes breaks stamp b s e → g.0 ≡ e.0 →
-      AreStampedAlike lanes ending breaks (stamp b) b (after lanes s g.1.first) (after lanes s e.1.first)
+      AreStampedAlike lanes ending breaks stamp (after lanes s g.1.first) (after lanes s e.1.first)
   same_there g e first second one = tell g.1.first e.1.first first.way second.way (sym first.stamped ∙ one ∙ second.stamped)
 
   same_filtered : (p q : ℕ → Bool) (P : ℕ → Type 0) (ls : List ℕ) → ((l : ℕ) → P l → p l ≡ q l) → Each P ls → filter (λ l. not (p l)) ls ≡ filter (λ l. not (q l)) ls
@@ -54,18 +54,18 @@ module _ {S : Type 0} (lanes : Lanes S) (breaks : S → ℕ → Bool) (stamp : B
       by rest true is = rw (same l all.0, is) rest
       by rest false is = rw (same l all.0, is) (ap (λ ks. l ∷ ks) rest)
 
-  pub same_lanes : (x y : S) → AreStampedAlike lanes ending breaks (stamp b) b x y → lanes_of lanes breaks b x ≡ lanes_of lanes breaks b y
-  same_lanes x y alike = by b refl
+  pub same_lanes : (x y : S) → AreStampedAlike lanes ending breaks stamp x y → lanes_of lanes breaks b x ≡ lanes_of lanes breaks b y
+  same_lanes x y alike = by b
     where
-      by : (c : Bool) → b ≡ c →
+      by : (c : Bool) →
           (if c then filter (λ l. not (breaks x l)) (lanes.givers x 0) else lanes.givers x 0)
           ≡ (if c then filter (λ l. not (breaks y l)) (lanes.givers y 0) else lanes.givers y 0)
-      by true is =
-          same_filtered (breaks x) (breaks y) (λ l. IsOneOf l (lanes.givers x 0)) (lanes.givers x 0) (alike.broken is) (each_own (lanes.givers x 0))
+      by true =
+          same_filtered (breaks x) (breaks y) (λ l. IsOneOf l (lanes.givers x 0)) (lanes.givers x 0) alike.broken (each_own (lanes.givers x 0))
           ∙ ap (filter (λ l. not (breaks y l))) alike.givers
-      by false is = alike.givers
+      by false = alike.givers
 
-  same_keys : (x y : S) (o p : Order) (m n : ℕ) (ls : List ℕ) → Each (λ l. stamp b (lanes.given x l) ≡ stamp b (lanes.given y l)) ls →
+  same_keys : (x y : S) (o p : Order) (m n : ℕ) (ls : List ℕ) → Each (λ l. stamp (lanes.given x l) ≡ stamp (lanes.given y l)) ls →
       keys (map (λ l. entry lanes breaks stamp b (o ++ l ∷ []) m (lanes.given x l)) ls) ≡ keys (map (λ l. entry lanes breaks stamp b (p ++ l ∷ []) n (lanes.given y l)) ls)
   same_keys x y o p m n [] all = refl
   same_keys x y o p m n (l ∷ ls) all = λ i. all.0 i ∷ same_keys x y o p m n ls all.1 i
@@ -86,7 +86,7 @@ module _ {S : Type 0} (lanes : Lanes S) (breaks : S → ℕ → Bool) (stamp : B
           let y = after lanes s e.1.first in
           let alike = same_there g e first second one in
           let both : e.1.lanes ≡ g.1.lanes = second.lanes_there ∙ sym (same_lanes x y alike) ∙ sym first.lanes_there in
-          let all = each_on (λ l. IsOneOf l (lanes.givers x 0)) (λ l. stamp b (lanes.given x l) ≡ stamp b (lanes.given y l)) g.1.lanes alike.next
+          let all = each_on (λ l. IsOneOf l (lanes.givers x 0)) (λ l. stamp (lanes.given x l) ≡ stamp (lanes.given y l)) g.1.lanes alike.next
           (subst (Each (λ l. IsOneOf l (lanes.givers x 0))) (sym first.lanes_there) (each_lane lanes breaks b x)) in
           rw (p, q) (same_keys x y g.1.first e.1.first g.1.count e.1.count g.1.lanes all
           ∙ ap (λ ls. keys (map (λ l. entry lanes breaks stamp b (e.1.first ++ l ∷ []) e.1.count (lanes.given y l)) ls)) (sym both))
@@ -215,13 +215,13 @@ module _ {S : Type 0} (lanes : Lanes S) (breaks : S → ℕ → Bool) (stamp : B
       by true at = of_some is.orders (among_all is.orders) ((on.whole at).1 ∙ is.groups) (λ _. is.whole (on.whole at).0) is.some
       by false at =
           let found = some_groups bytes_eq led_joined led_laws (map (λ o. entry lanes breaks stamp b o 1 (after lanes s o)) is.orders) on.some (subst (AreAmong on.some) is.groups on.among) in
-          let os = filter (λ o. found.0 (stamp b (after lanes s o))) is.orders in
+          let os = filter (λ o. found.0 (stamp (after lanes s o))) is.orders in
           let groups : on.some ≡ level lanes breaks stamp b s os = found.1 ∙ ap (added_all bytes_eq led_joined []) (filter_map_both (λ o. entry lanes breaks stamp b o 1 (after lanes s o)) (λ e. found.0 e.0) is.orders) in
-          of_some os (among_filter (λ o. found.0 (stamp b (after lanes s o))) is.orders) groups (λ so. absurd (true≢false (sym so ∙ at)))
+          of_some os (among_filter (λ o. found.0 (stamp (after lanes s o))) is.orders) groups (λ so. absurd (true≢false (sym so ∙ at)))
           (λ plain. some_orders os (subst (λ (ts : List (Bytes × Led)). 1 ≤ length ts) groups (on.kept (subst (λ (ts : List (Bytes × Led)). 1 ≤ length ts) (sym is.groups) (some_states is.orders (is.some plain))))))
 
 -- as long as the levels have no more states in which a lane may give than the limit, the search is whole
-pub level_met : {S : Type 0} (lanes : Lanes S) (breaks : S → ℕ → Bool) (stamp : Bool → S → Bytes) (b : Bool) (s : S) (n limit met more : ℕ) (w v : Bool) (es next : List (Bytes × Led)) →
+pub level_met : {S : Type 0} (lanes : Lanes S) (breaks : S → ℕ → Bool) (stamp : S → Bytes) (b : Bool) (s : S) (n limit met more : ℕ) (w v : Bool) (es next : List (Bytes × Led)) →
     IsLevel lanes breaks stamp b s n w es → IsNext lanes breaks stamp b s w v es next →
     (w ≡ true → met ≤ state_count lanes breaks stamp b s n) → (state_count lanes breaks stamp b s n ≤ limit → w ≡ true) →
     more ≤ met + live es → (met + live es ≤ limit → v ≡ w) →

@@ -1,7 +1,7 @@
 -- Worked example: two lanes add one to a number, each by a line that reads it and a line that writes it.
-use Rattle.std.specs.Prelude.{◌≡◌, ℕ, suc, Bool, true, not, ◌==◌, if◌then◌else◌, [], ◌∷◌, ◌++◌, Option, Some, None, refl}
-use Rattle.std.specs.List.{count_by}
-use Rattle.cics_orders.specs.Space.Orders.{Order, Lanes, numbered_from, orders}
+use Rattle.std.specs.Prelude.{◌≡◌, ℕ, suc, Bool, not, ◌&&◌, ◌==◌, if◌then◌else◌, [], ◌∷◌, ◌++◌, Option, Some, None, refl}
+use Rattle.std.specs.List.{count_by, list_any}
+use Rattle.cics_orders.specs.Space.Orders.{Order, Lanes, numbered_from, orders, serial_orders}
 use Rattle.cics_orders.specs.Space.Endings.{Parts, report}
 use Rattle.cics_orders.specs.Search.Reports.{runs}
 
@@ -26,10 +26,9 @@ number read n (l ∷ o) = number (λ k. if k == l then Some n else read k) (writ
 abbrev ending : Order → Parts
 ending o = (number (λ l. None) 0 o ∷ []) ∷ []
 
--- an order is serial if the lane that began gives its second line next
-abbrev serial : Order → Bool
-serial (k ∷ l ∷ o) = k == l
-serial o = true
+-- a lane breaks a turn if another one has given a line, and has one left
+abbrev breaks : Order → ℕ → Bool
+breaks o l = list_any (λ k. not (k == l) && count_by (λ j. j == k) o == 1) (0 ∷ 1 ∷ [])
 
 -- the six orders, by their lanes
 all_orders : orders two 4 [] ≡
@@ -37,8 +36,12 @@ all_orders : orders two 4 [] ≡
     ∷ (1 ∷ 0 ∷ 0 ∷ 1 ∷ []) ∷ (1 ∷ 0 ∷ 1 ∷ 0 ∷ []) ∷ (1 ∷ 1 ∷ 0 ∷ 0 ∷ []) ∷ []
 all_orders = refl
 
+-- two of them are serial
+serial_ones : serial_orders two breaks 4 [] ≡ (0 ∷ 0 ∷ 1 ∷ 1 ∷ []) ∷ (1 ∷ 1 ∷ 0 ∷ 0 ∷ []) ∷ []
+serial_ones = refl
+
 -- the serial orders end with two; in the others both lanes read the number before either writes, and it ends with one
-all_endings : report (runs two ending serial [] (orders two 4 [])) ≡
+all_endings : report (runs two ending breaks [] (orders two 4 [])) ≡
     record { order = 0 ∷ 0 ∷ 1 ∷ 1 ∷ []; ending = (2 ∷ []) ∷ []; orders = 2; serial = 2 }
     ∷ record { order = 0 ∷ 1 ∷ 0 ∷ 1 ∷ []; ending = (1 ∷ []) ∷ []; orders = 4; serial = 0 } ∷ []
 all_endings = refl

@@ -4,7 +4,7 @@ use Rattle.std.specs.List.{flat_map, filter}
 use Rattle.std.proofs.lemmas.Bool.{true≢false}
 use Rattle.cics_orders.specs.Space.Groups.{added, added_all}
 use Rattle.cics_orders.specs.Space.Orders.{AreAmong}
-use Rattle.cics_orders.specs.Search.Regrouping.{AreLaws, has, or_parts}
+use Rattle.cics_orders.proofs.OfSearch.Regrouping.{AreLaws, has, or_parts}
 
 pub among_all : {X : Type 0} (xs : List X) → AreAmong xs xs
 among_all [] = refl

@@ -10,8 +10,8 @@ use Rattle.cics_orders.specs.Space.Groups.{added, added_all}
 use Rattle.cics_orders.specs.Space.Tallies.{tally_joined, ending_of}
 use Rattle.cics_orders.specs.declared.space.endings.Tally.{Tally}
 use Rattle.cics_orders.proofs.OfSpace.SameParts.{same_decides, same_refl}
-use Rattle.cics_orders.specs.Search.Regrouping.{Each}
-use Rattle.cics_orders.specs.Search.Ways.{each_filter}
+use Rattle.cics_orders.proofs.OfSearch.Regrouping.{Each}
+use Rattle.cics_orders.proofs.OfSearch.Ways.{each_filter}
 
 -- ---- Runs that lead to the same
 

@@ -2,15 +2,16 @@
 use Rattle.std.proofs.Common.{◌≡◌, ◌<◌, ◌≤◌, ℕ, zero, suc, ◌-◌, ◌^◌, ◌==◌, Bool, true, false, not, List, [], ◌∷◌, ◌++◌, filter, length, None, Some, option_map, refl, ap, sym, ◌∙◌, arith, subst}
 use Rattle.std.proofs.lemmas.Option.{slice_get_within}
 use Rattle.std.specs.Prelude.{if◌then◌else◌, slice_get}
-use Rattle.cics_orders.specs.Space.Orders.{Order, after, IsWay, orders}
-use Rattle.cics_orders.specs.Space.Endings.{Run, Reported, are_same, firsts, run_to, reported_of_both}
+use Rattle.cics_orders.specs.Space.Orders.{Order, after, IsWay, orders, is_serial_order}
+use Rattle.cics_orders.specs.Space.Endings.{Run, Reported, are_same, firsts, run_of, reported_of_both}
 use Rattle.cics_orders.specs.Search.Reports.{runs}
 use Rattle.cics_orders.specs.declared.search.exploring.Report.{Report}
-use Rattle.cics_orders.specs.Search.Regrouping.{Each}
-use Rattle.cics_orders.specs.Search.Ways.{each_append, each_mapped, each_on, each_filter, each_among, are_ways, all_followed}
+use Rattle.cics_orders.proofs.OfSearch.Regrouping.{Each}
+use Rattle.cics_orders.proofs.OfSearch.Ways.{each_append, each_mapped, each_on, each_filter, each_among, are_ways, all_followed}
 use Rattle.cics_orders.specs.declared.plans.plans.Plan.{Plan}
 use Rattle.cics_orders.specs.Giving.{State, lanes, initial_state, line_count}
-use Rattle.cics_orders.specs.Endings.Telling.{is_deadlocked}
+use Rattle.cics_orders.specs.Turns.{breaks}
+use Rattle.cics_orders.specs.Endings.Telling.{is_deadlocked, parts_at}
 use Rattle.cics_orders.specs.Report.Parts.{mark_in}
 use Rattle.cics_orders.specs.Report.Reporting.{ending_at, script_text}
 use Rattle.cics_run.specs.Session.Lines.{all_lines}
@@ -18,7 +19,7 @@ use Rattle.cics_run.specs.Session.Running.{start}
 use Rattle.cics_run.specs.declared.session.running.Orders.{Orders}
 use Rattle.cics_orders.specs.Report.Leads.{IsTitled, LeadsTo}
 use Rattle.cics_orders.proofs.OfReport.LedAlong.{scripts_lead}
-use Rattle.cics_orders.specs.Survey.Surveys.{parts_at, IsReportOf}
+use Rattle.cics_orders.specs.Survey.Surveys.{IsReportOf}
 use Rattle.cics_orders.specs.Survey.Leads.{EndingScriptsLeadThere}
 
 module _ (p : Plan) (w : Orders) where
@@ -41,10 +42,10 @@ module _ (p : Plan) (w : Orders) where
       subst (Each (IsWay lanes (initial_state p))) (all_followed lanes (λ s l. false) (line_count p) (initial_state p))
       (are_ways lanes (λ s l. false) false (line_count p) (initial_state p))
 
-  are_runs : (os : List Order) → Each (IsWay lanes (initial_state p)) os → Each IsRun (runs lanes (parts_at w.told) (λ s. s.is_serial) (initial_state p) os)
+  are_runs : (os : List Order) → Each (IsWay lanes (initial_state p)) os → Each IsRun (runs lanes (parts_at w.told) breaks (initial_state p) os)
   are_runs os ways =
-      each_mapped IsRun (λ o. run_to (parts_at w.told) (λ s. s.is_serial) o (comes_to o)) os
-      (each_on (IsWay lanes (initial_state p)) (λ o. IsRun (run_to (parts_at w.told) (λ s. s.is_serial) o (comes_to o))) os (λ o way. (way, refl)) ways)
+      each_mapped IsRun (run_of lanes (parts_at w.told) breaks (initial_state p)) os
+      (each_on (IsWay lanes (initial_state p)) (λ o. IsRun (run_of lanes (parts_at w.told) breaks (initial_state p) o)) os (λ o way. (way, refl)) ways)
 
   are_firsts : (rs : List Run) → Each IsRun rs → Each IsRun (firsts rs)
   are_firsts [] all = tt
@@ -58,12 +59,12 @@ module _ (p : Plan) (w : Orders) where
   are_endings : (r : Report) → IsReportOf p w r → Each IsEnding r.endings
   are_endings r is =
       let all = orders lanes (line_count p) (initial_state p) in
-      let rs = runs lanes (parts_at w.told) (λ s. s.is_serial) (initial_state p) is.report.followed in
-      let ss = runs lanes (parts_at w.told) (λ s. s.is_serial) (initial_state p) is.report.serially in
-      let serial_ways = each_filter (IsWay lanes (initial_state p)) (λ o. (comes_to o).is_serial) all all_ways in
+      let rs = runs lanes (parts_at w.told) breaks (initial_state p) is.report.followed in
+      let ss = runs lanes (parts_at w.told) breaks (initial_state p) is.report.serially in
+      let serial_ways = each_filter (IsWay lanes (initial_state p)) (is_serial_order lanes breaks (initial_state p)) all all_ways in
       let found = each_append IsRun rs ss
       (are_runs is.report.followed (each_among (IsWay lanes (initial_state p)) is.report.followed all is.report.among all_ways))
-      (are_runs is.report.serially (each_among (IsWay lanes (initial_state p)) is.report.serially (filter (λ o. (comes_to o).is_serial) all) is.report.serially_among serial_ways)) in
+      (are_runs is.report.serially (each_among (IsWay lanes (initial_state p)) is.report.serially (filter (is_serial_order lanes breaks (initial_state p)) all) is.report.serially_among serial_ways)) in
       subst (Each IsEnding) (sym is.report.endings)
       (each_mapped IsEnding (reported_of_both rs ss) (firsts (rs ++ ss))
       (each_on IsRun (λ x. IsEnding (reported_of_both rs ss x)) (firsts (rs ++ ss)) (joins rs ss) (are_firsts (rs ++ ss) found)))

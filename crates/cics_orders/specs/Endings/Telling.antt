@@ -7,6 +7,7 @@ use Rattle.cics_names.specs.declared.commands.Command.{Command}
 use Rattle.cics_history.specs.Holding.{store_of}
 use Rattle.cics_units.specs.Replay.Listings.{listing_of}
 use Rattle.cics_dispatch.specs.Machine.Machine.{Machine}
+use Rattle.cics_dispatch.specs.Machine.Events.{task_ended}
 use Rattle.cics_dispatch.specs.Machine.Blockers.{waiting_command, blocker_of, unit_of}
 use Rattle.cics_dispatch.specs.declared.machine.outcomes.Outcome.{Outcome}
 use Rattle.cics_dispatch.specs.declared.machine.outcomes.Outcome.TheVariants.{Abended, Ended}
@@ -16,6 +17,7 @@ use Rattle.cics_run.specs.Stage.Journal.{outcome_line}
 use Rattle.cics_run.specs.Listing.Listings.{file_text, storage_text, transient_text}
 use Rattle.cics_orders.specs.Space.Endings.{Parts}
 use Rattle.cics_orders.specs.Plans.Taking.{NumberedLine}
+use Rattle.cics_orders.specs.Giving.{State}
 use Rattle.cics_orders.specs.Report.Parts.{mark}
 use Rattle.cics_orders.specs.declared.lanes.Lane.{Lane}
 
@@ -51,7 +53,7 @@ stand_text m label last None = if is_some (unit_of m label) then codes " OPEN" e
 -- what a task does
 abbrev pub state_text : Machine → Bytes → Lane → List ℕ
 state_text m label lane =
-    if lane.has_ended
+    if task_ended m label
     then end_text (slice_get lane.told (length lane.told - 1))
     else stand_text m label (slice_get lane.lines (lane.given - 1)) (waiting_command m label)
 
@@ -83,3 +85,7 @@ is_deadlocked m = nat_lt 0 (length (deadlocks m))
 -- the parts of an ending, behind its mark
 abbrev pub parts_of : Machine → Bool → List Lane → Parts
 parts_of m with_told lanes = mark (is_deadlocked m) ∷ (blocks m ++ flat_map (lane_parts m with_told) lanes)
+
+-- the parts of the ending of a state
+abbrev pub parts_at : Bool → State → Parts
+parts_at with_told s = parts_of s.machine with_told s.lanes

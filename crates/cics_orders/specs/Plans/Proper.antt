@@ -1,6 +1,6 @@
 -- Which plans are those of scripts: no two tasks have the same label, and each lane has lines of its
 -- own.
-use Rattle.std.specs.Prelude.{Bool, true, false, not, ◌&&◌, List, [], ◌∷◌, Result, Ok}
+use Rattle.std.specs.Prelude.{Bool, true, false, not, ◌&&◌, if◌then◌else◌, List, [], ◌∷◌, Result, Ok}
 use Rattle.std.specs.List.{list_all}
 use Rattle.cics_names.specs.Keyed.{Bytes, is_same}
 use Rattle.cics_script.specs.Lines.{line}
@@ -36,3 +36,7 @@ are_distinct (task ∷ tasks) = not (has_task tasks task.label) && are_distinct 
 -- proofs/Proper).
 abbrev pub is_proper : Plan → Bool
 is_proper p = are_distinct p.tasks && list_all has_own_lines p.tasks && list_all (λ next. is_timing (line next.1)) p.clock
+
+-- a plan if it is proper, else one without a line
+abbrev pub proper : Plan → Plan
+proper p = if is_proper p then p else record { definitions = []; tasks = []; clock = [] }

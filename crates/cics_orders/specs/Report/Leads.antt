@@ -1,15 +1,15 @@
 -- The script of an order leads where the order does.
-use Rattle.std.specs.Prelude.{◌≡◌, ◌<◌, ◌^◌, ℕ, Bool, List, [], ◌∷◌, length, None, Result, Ok, Err}
+use Rattle.std.specs.Prelude.{◌≡◌, ◌<◌, ◌^◌, ℕ, Bool, List, [], ◌∷◌, length, None, Result, Ok}
 use Rattle.std.specs.List.{fold}
 use Rattle.cics_names.specs.Keyed.{Bytes}
 use Rattle.cics_dispatch.specs.Machine.Machine.{Machine}
-use Rattle.cics_dispatch.specs.declared.machine.outcomes.Refused.{Refused}
+use Rattle.cics_dispatch.specs.Machine.Events.{played}
+use Rattle.cics_dispatch.specs.declared.machine.events.Request.TheVariants as request
 use Rattle.cics_script.specs.Lines.{line}
 use Rattle.cics_script.specs.declared.lines.Line.{Line}
 use Rattle.cics_script.specs.declared.lines.Line.TheVariants.{Attach, Issue}
 use Rattle.cics_script.specs.declared.faults.LineFault.{LineFault}
-use Rattle.cics_run.specs.Stage.Settling.{region_at}
-use Rattle.cics_run.specs.Stage.Stages.{region_of}
+use Rattle.cics_run.specs.Stage.Stages.{region_at, region_of}
 use Rattle.cics_run.specs.Session.Lines.{all_lines}
 use Rattle.cics_run.specs.Session.Running.{Played, next, start}
 use Rattle.cics_orders.specs.Space.Orders.{after, IsWay}
@@ -17,7 +17,8 @@ use Rattle.cics_orders.specs.Space.Endings.{Reported}
 use Rattle.cics_orders.specs.declared.search.exploring.Report.{Report}
 use Rattle.cics_orders.specs.Plans.Taking.{initial_taken, taken_apart, planned}
 use Rattle.cics_orders.specs.declared.plans.plans.Planned.{Planned}
-use Rattle.cics_orders.specs.Giving.{issuing, attaching, lanes, initial_state}
+use Rattle.cics_orders.specs.Accepts.{IsNotRefused}
+use Rattle.cics_orders.specs.Giving.{lanes, initial_state}
 use Rattle.cics_orders.specs.Report.Parts.{mark, mark_in}
 use Rattle.cics_orders.specs.Report.Reporting.{script_text}
 
@@ -25,16 +26,11 @@ use Rattle.cics_orders.specs.Report.Reporting.{script_text}
 abbrev pub machine_of : Played → Machine
 machine_of p = (region_of p.stage).machine
 
--- an event is not refused
-abbrev pub IsNotRefused : {X : Type 0} → Result X Refused → Type 0
-IsNotRefused (Ok x) = Unit {0}
-IsNotRefused (Err e) = ⊥
-
 -- A machine refuses no line of a task: neither its ATTACH nor a command. Of other lines nothing is
 -- said: a CLOCK may go back, and behind a SHUTDOWN the lines of the clock are refused.
 abbrev pub AcceptsLine : Machine → Result Line LineFault → Type 0
-AcceptsLine m (Ok (Attach label transaction dtimout)) = IsNotRefused (attaching m label dtimout).outcome
-AcceptsLine m (Ok (Issue label command)) = IsNotRefused (issuing m label command).outcome
+AcceptsLine m (Ok (Attach label transaction dtimout)) = IsNotRefused (played m (request.Attach label transaction dtimout)).event
+AcceptsLine m (Ok (Issue label command)) = IsNotRefused (played m (request.Issue label command)).event
 AcceptsLine m _ = Unit {0}
 
 -- a run goes on with these lines, and refuses no line of a task

@@ -7,8 +7,9 @@ use Rattle.cics_script.specs.Lines.{line}
 use Rattle.cics_script.specs.declared.lines.Line.{Line}
 use Rattle.cics_script.specs.declared.lines.Line.TheVariants.{Issue, Clock, Shutdown}
 use Rattle.cics_script.specs.declared.faults.LineFault.{LineFault}
-use Rattle.cics_run.specs.Stage.Journal.{refused_line}
-use Rattle.cics_run.specs.Stage.Stages.{fault_line}
+use Rattle.cics_dispatch.specs.declared.machine.events.Event.TheVariants.{Refused}
+use Rattle.cics_dispatch.specs.declared.machine.events.Subject.TheVariants as subject
+use Rattle.cics_run.specs.Stage.Journal.{event_line, fault_line}
 use Rattle.cics_run.specs.declared.stage.stage.Fault.{Fault}
 use Rattle.cics_run.specs.declared.stage.stage.Fault.TheVariants as faults
 use Rattle.cics_orders.specs.Space.Orders.{Order}
@@ -22,6 +23,7 @@ use Rattle.cics_orders.specs.declared.plans.plans.RefusedLine.{RefusedLine}
 use Rattle.cics_orders.specs.declared.plans.plans.ScriptFault.{ScriptFault}
 use Rattle.cics_orders.specs.declared.plans.plans.ScriptFault.TheVariants as fault
 use Rattle.cics_orders.specs.Report.Along.{lines_along}
+use Rattle.cics_orders.specs.Report.Open.{open_text}
 use Rattle.cics_orders.specs.Report.Parts.{mark_in, told_in, shared, own_text}
 
 -- ---- What a plain run prints too
@@ -37,7 +39,7 @@ fault_text number f = fault_line number (as_fault f)
 
 -- a line that is refused in every order: its number in front of its line of the journal
 abbrev pub refused_text : RefusedLine → List ℕ
-refused_text r = codes "LINE " ++ (decimal r.number ++ (codes " " ++ refused_line r.label r.refusal))
+refused_text r = codes "LINE " ++ (decimal r.number ++ (codes " " ++ event_line (Refused (subject.Task r.label) r.refusal)))
 
 -- ---- Numbers
 
@@ -119,8 +121,9 @@ every_text parts = if length parts == 0 then [] else codes "EVERY ENDING\n" ++ f
 abbrev pub report_text : Planned → ℕ → Report → List ℕ
 report_text planned limit r =
     flat_map refused_text planned.refused
+    ++ (flat_map open_text planned.plan.tasks
     ++ (limit_text r limit
-    ++ (totals_text r ++ (every_text (shared r.endings) ++ endings_text planned.plan r (shared r.endings) 1 r.endings)))
+    ++ (totals_text r ++ (every_text (shared r.endings) ++ endings_text planned.plan r (shared r.endings) 1 r.endings))))
 
 -- ---- An order as a script
 

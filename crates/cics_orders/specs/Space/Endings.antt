@@ -4,7 +4,7 @@ use Rattle.std.specs.List.{count_by}
 use Rattle.std.specs.Str.{bytes_eq}
 use Rattle.std.specs.Cmp.Lexicographic.{pointwise}
 use Rattle.cics_names.specs.Keyed.{Bytes}
-use Rattle.cics_orders.specs.Space.Orders.{Order}
+use Rattle.cics_orders.specs.Space.Orders.{Order, Lanes, after, is_serial_order}
 
 -- an ending is told in parts, each a text
 abbrev pub Parts : Type 0
@@ -54,9 +54,9 @@ reported rs r = record {
 abbrev pub report : List Run → List Reported
 report rs = map (reported rs) (firsts rs)
 
--- the run of an order, from the state after it
-abbrev pub run_to : {S : Type 0} → (S → Parts) → (S → Bool) → Order → S → Run
-run_to ending serial o s = record { order = o; ending = ending s; is_serial = serial s }
+-- the run of an order from a state
+abbrev pub run_of : {S : Type 0} → Lanes S → (S → Parts) → (S → ℕ → Bool) → S → Order → Run
+run_of lanes ending breaks s o = record { order = o; ending = ending (after lanes s o); is_serial = is_serial_order lanes breaks s o }
 
 -- The ending of a run as it is reported, if serial runs are counted by themselves. A serial run may
 -- be among the others too. So the number of runs is the greater of the two counts.

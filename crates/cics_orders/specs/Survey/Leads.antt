@@ -13,7 +13,8 @@ use Rattle.cics_orders.specs.declared.plans.plans.Planned.{Planned}
 use Rattle.cics_orders.specs.Giving.{lanes, initial_state}
 use Rattle.cics_orders.specs.Report.Reporting.{ending_at, script_at}
 use Rattle.cics_orders.specs.Report.Leads.{LeadsTo}
-use Rattle.cics_orders.specs.Survey.Surveys.{parts_at, IsReportOf}
+use Rattle.cics_orders.specs.Endings.Telling.{parts_at}
+use Rattle.cics_orders.specs.Survey.Surveys.{IsReportOf}
 
 -- A text is a script of an ending. The ending tells the state after its order. The plain run has no
 -- fault, refuses no line of a task, and comes to the region of that state.

@@ -1,6 +1,5 @@
 -- What is returned of the orders of a script.
 use Rattle.std.specs.Prelude.{◌≡◌, ◌≤◌, ℕ, Bool, true, false, Result, Ok, Err}
-use Rattle.cics_orders.specs.Space.Endings.{Parts}
 use Rattle.cics_run.specs.declared.session.running.Orders.{Orders}
 use Rattle.cics_orders.specs.Search.Levels.{state_count}
 use Rattle.cics_orders.specs.Search.Reports.{IsReport}
@@ -8,20 +7,16 @@ use Rattle.cics_orders.specs.declared.search.exploring.Report.{Report}
 use Rattle.cics_orders.specs.declared.plans.plans.Plan.{Plan}
 use Rattle.cics_orders.specs.declared.plans.plans.Planned.{Planned}
 use Rattle.cics_orders.specs.declared.plans.plans.ScriptFault.{ScriptFault}
-use Rattle.cics_orders.specs.Giving.{State, lanes, initial_state, line_count}
+use Rattle.cics_orders.specs.Giving.{lanes, initial_state, line_count}
 use Rattle.cics_orders.specs.Stamps.{state_stamp}
 use Rattle.cics_orders.specs.Turns.{breaks}
-use Rattle.cics_orders.specs.Endings.Telling.{parts_of}
+use Rattle.cics_orders.specs.Endings.Telling.{parts_at}
 use Rattle.cics_orders.specs.declared.survey.surveys.Survey.{Survey}
-
--- the parts of the ending of a state
-abbrev pub parts_at : Bool → State → Parts
-parts_at with_told s = parts_of s.machine with_told s.lanes
 
 -- A report on the orders of a plan. It has all of them if at most as many states as the limit have
 -- a lane that may give. It has all serial ones if this holds of the states of their search.
 pub record IsReportOf (p : Plan) (w : Orders) (r : Report) : Type 0 where
-  pub report : IsReport lanes (parts_at w.told) (λ s. s.is_serial) (line_count p) (initial_state p) r
+  pub report : IsReport lanes (parts_at w.told) breaks (line_count p) (initial_state p) r
   pub within : state_count lanes breaks (state_stamp w.told) false (initial_state p) (line_count p) ≤ w.limit → r.is_whole ≡ true
   pub serial_within : state_count lanes breaks (state_stamp w.told) true (initial_state p) (line_count p) ≤ w.limit → r.has_all_serial ≡ true
 

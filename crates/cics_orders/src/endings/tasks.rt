@@ -80,7 +80,7 @@ fn push_state(
     ensures { OnOk result (out.new.items
         ≡ out.old.items ++ state_text region.now.machine label.now lane.now) }
 {
-    if lane.has_ended {
+    if region.has_ended(label) {
         push_end(out, lane.told.as_slice())
     } else {
         push_stand(out, region, label, lane)

@@ -9,11 +9,13 @@ ghost use Rattle.cics_orders.specs.Report.Reporting.{every_text, report_text};
 use crate::plans::{Plan, Planned, RefusedLine, ScriptFault, read};
 use crate::report::along::lines_along;
 use crate::report::counts::{push_heading, push_limit, push_totals};
+use crate::report::open::push_open_tasks;
 use crate::report::parts::{push_own, push_parts, shared, told_in};
 use crate::search::Report;
 use crate::space::Ending;
+use cics_dispatch::{Event, Subject};
 use cics_names::{NoMemory, Record};
-use cics_run::stage::journal::{push_define_fault, push_line_fault, push_refused};
+use cics_run::stage::{Fault, journal};
 use cics_script::spelling::{push_bare, push_number, push_str};
 use cics_script::{Line, LineFault};
 
@@ -23,10 +25,11 @@ use cics_script::{Line, LineFault};
 pub fn push_fault(out: &mut Vec<u8>, number: u64, fault: ScriptFault) -> Result<(), NoMemory>
     ensures { OnOk result (out.new.items ≡ out.old.items ++ fault_text number fault) }
 {
-    match fault {
-        ScriptFault::Line(fault) => push_line_fault(out, number, fault),
-        ScriptFault::Definition(fault) => push_define_fault(out, number, fault),
-    }
+    let fault = match fault {
+        ScriptFault::Line(fault) => Fault::Line(fault),
+        ScriptFault::Definition(fault) => Fault::Definition(fault),
+    };
+    journal::push_fault(out, number, fault)
 }
 
 // Appends a line that is refused in every order.
@@ -36,7 +39,10 @@ fn push_refused_line(out: &mut Vec<u8>, line: &RefusedLine) -> Result<(), NoMemo
     push_str(out, "LINE ")?;
     push_number(out, line.number)?;
     push_str(out, " ")?;
-    push_refused(out, line.label, line.refusal)
+    journal::push_event(
+        out,
+        &Event::Refused(Subject::Task(line.label), line.refusal),
+    )
 }
 
 fn push_refused_lines(out: &mut Vec<u8>, lines: &[RefusedLine]) -> Result<(), NoMemory>
@@ -163,6 +169,7 @@ pub fn push_report(
 {
     let all = shared(*out.allocator(), report.endings.as_slice())?;
     push_refused_lines(out, planned.refused.as_slice())?;
+    push_open_tasks(out, planned.plan.tasks.as_slice())?;
     push_limit(out, report, limit)?;
     push_totals(out, report)?;
     push_every(out, all.as_slice())?;

@@ -8,12 +8,16 @@ ghost use Rattle.std.specs.Prelude.{None, Some, IfSome, IfOk, OnOk, slice_get};
 ghost use Rattle.std.specs.Option.{unwrap_or};
 ghost use Rattle.std.specs.Str.{bytes_eq};
 ghost use Rattle.indexmap.specs.IndexMap.{get, UpdatesBy};
+ghost use Rattle.cics_orders.specs.Giving.{lanes, initial_of};
+ghost use Rattle.cics_orders.specs.Stamps.{state_stamp};
+ghost use Rattle.cics_orders.specs.Turns.{breaks};
 ghost use Rattle.cics_orders.specs.Space.Orders.{after};
 ghost use Rattle.cics_orders.specs.Space.States.{reached};
 ghost use Rattle.cics_orders.specs.Search.Levels.{IsEntry};
 ghost use Rattle.cics_orders.specs.Search.Ahead.{all_reached, IsMet, IsKnown};
 
-use crate::space::{Led, Reached, Stamp, Walk, go_to, look};
+use crate::space::{Led, Reached, Scope, Stamp, go_to, look};
+use crate::walks::Walker;
 use cics_names::{Items, NoMemory};
 use indexmap::IndexMap;
 use std::alloc::Global;
@@ -70,19 +74,15 @@ fn note(known: &mut Known, stamp: Stamp, there: &Reached) -> Result<(), NoMemory
 
 // Goes on from the state of a walk, at each state along its first lane that isn't known yet. Notes
 // what it comes to.
-fn go_on<W: Walk>(
-    walk: &mut W,
-    known: &mut Known,
-    from: &Reached,
-    is_serial: bool,
-) -> Result<(), NoMemory>
-    requires met { IsMet W.lanes (W.initial walk.old) walk.old }
-    requires from { from.now ≡ reached W.lanes W.breaks W.stamp is_serial walk.old }
-    requires known { IsKnown W.lanes W.breaks W.stamp is_serial (W.initial walk.old)
-        known.old.entries }
-    ensures known { OnOk result (IsKnown W.lanes W.breaks W.stamp is_serial (W.initial walk.old)
-        known.new.entries) }
-    ensures initial { OnOk result (W.initial walk.new ≡ W.initial walk.old) }
+fn go_on(walk: &mut Walker, known: &mut Known, from: &Reached, scope: Scope) -> Result<(), NoMemory>
+    requires met { IsMet lanes (initial_of walk.old) walk.old }
+    requires from { from.now ≡ reached lanes breaks (state_stamp scope.told) scope.is_serial
+        walk.old }
+    requires known { IsKnown lanes breaks (state_stamp scope.told) scope.is_serial (initial_of
+        walk.old) known.old.entries }
+    ensures known { OnOk result (IsKnown lanes breaks (state_stamp scope.told) scope.is_serial
+        (initial_of walk.old) known.new.entries) }
+    ensures initial { OnOk result (initial_of walk.new ≡ initial_of walk.old) }
 {
     let alloc = *known.allocator();
     let mut here = from.copy(alloc)?;
@@ -91,7 +91,7 @@ fn go_on<W: Walk>(
             return Ok(());
         };
         walk.give(lane)?;
-        let there = look(alloc, walk, is_serial)?;
+        let there = look(alloc, walk, scope)?;
         note(known, here.into_stamp(), &there)?;
         here = there;
     }
@@ -102,20 +102,21 @@ fn go_on<W: Walk>(
 /// notes what the walk comes to behind these states.
 ///
 /// Errors: `NoMemory`.
-pub(crate) fn lead_on<W: Walk>(
-    walk: &mut W,
+pub(crate) fn lead_on(
+    walk: &mut Walker,
     known: &mut Known,
     entry: &(Stamp, Led),
-    is_serial: bool,
+    scope: Scope,
 ) -> Result<Items<Reached>, NoMemory>
-    requires entry { IsEntry W.lanes W.breaks W.stamp is_serial (W.initial walk.old) entry.now }
-    requires known { IsKnown W.lanes W.breaks W.stamp is_serial (W.initial walk.old)
-        known.old.entries }
-    ensures states { IfOk result (λ states. states ≡ all_reached W.lanes W.breaks W.stamp
-        is_serial (after W.lanes (W.initial walk.old) entry.now.1.first)) }
-    ensures known { OnOk result (IsKnown W.lanes W.breaks W.stamp is_serial
-        (W.initial walk.old) known.new.entries) }
-    ensures initial { OnOk result (W.initial walk.new ≡ W.initial walk.old) }
+    requires entry { IsEntry lanes breaks (state_stamp scope.told) scope.is_serial (initial_of
+        walk.old) entry.now }
+    requires known { IsKnown lanes breaks (state_stamp scope.told) scope.is_serial (initial_of
+        walk.old) known.old.entries }
+    ensures states { IfOk result (λ states. states ≡ all_reached lanes breaks (state_stamp
+        scope.told) scope.is_serial (after lanes (initial_of walk.old) entry.now.1.first)) }
+    ensures known { OnOk result (IsKnown lanes breaks (state_stamp scope.told) scope.is_serial
+        (initial_of walk.old) known.new.entries) }
+    ensures initial { OnOk result (initial_of walk.new ≡ initial_of walk.old) }
 {
     let alloc = *known.allocator();
     let lanes = entry.1.lanes.as_slice();
@@ -123,8 +124,8 @@ pub(crate) fn lead_on<W: Walk>(
     for i in states.len()..lanes.len() {
         go_to(walk, entry.1.first.as_slice())?;
         walk.give(lanes[i])?;
-        let there = look(alloc, walk, is_serial)?;
-        go_on(walk, known, &there, is_serial)?;
+        let there = look(alloc, walk, scope)?;
+        go_on(walk, known, &there, scope)?;
         states.push(there)?;
     }
     Ok(states)

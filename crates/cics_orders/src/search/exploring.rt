@@ -16,12 +16,19 @@ ghost use Rattle.cics_orders.specs.Search.Ahead.{IsKnown};
 ghost use Rattle.cics_orders.specs.Search.Levels.{live, spread, tallied, IsEntry};
 ghost use Rattle.cics_orders.specs.Search.Levels.{IsLevel, IsNext, state_count};
 ghost use Rattle.cics_orders.specs.Search.Reports.{IsReport};
+ghost use Rattle.cics_orders.specs.Plans.Proper.{is_proper};
+ghost use Rattle.cics_orders.specs.Giving.{lanes, initial_state, initial_of, line_count};
+ghost use Rattle.cics_orders.specs.Stamps.{state_stamp};
+ghost use Rattle.cics_orders.specs.Turns.{breaks};
+ghost use Rattle.cics_orders.specs.Endings.Telling.{parts_at};
 
+use crate::plans::Plan;
 use crate::search::ahead::{Known, lead_on};
 use crate::search::progress::{Progress, Stand};
 use crate::space::{
-    Ending, Led, Met, Parts, Reached, Stamp, Tally, Walk, add, endings_of, go_to, look, with_lane,
+    Ending, Led, Met, Parts, Reached, Scope, Stamp, Tally, add, endings_of, go_to, look, with_lane,
 };
+use crate::walks::Walker;
 use cics_names::{Items, NoMemory};
 use indexmap::IndexMap;
 use std::alloc::Global;
@@ -45,8 +52,7 @@ type Level = IndexMap<Stamp, Led>;
 #[derive(Drop)]
 struct Search {
     alloc: Global,
-    // Whether it follows serial orders alone.
-    is_serial: bool,
+    scope: Scope,
     // If its levels so far have more states than this in which a lane may give, it follows only
     // some of each level from there on.
     limit: u64,
@@ -121,8 +127,8 @@ fn add_led(level: &mut Level, led: &Led, lane: usize, reached: Reached) -> Resul
 
 impl Search {
     // Returns a search that has met no state yet. Orders have so many lines at most.
-    fn new(alloc: Global, is_serial: bool, limit: u64, lines: usize) -> Search
-        ensures serial { result.is_serial ≡ is_serial }
+    fn new(alloc: Global, scope: Scope, limit: u64, lines: usize) -> Search
+        ensures scope { result.scope ≡ scope }
         ensures limit { result.limit ≡ limit }
         ensures share { 1 ≤ result.share }
         ensures met { result.met ≡ 0 }
@@ -130,13 +136,13 @@ impl Search {
     {
         Search {
             alloc,
-            is_serial,
+            scope,
             limit,
             share: (limit / (lines as u64).saturating_add(1)).max(1),
             met: 0,
             is_whole: true,
             stand: Stand {
-                is_serial,
+                is_serial: scope.is_serial,
                 level: 0,
                 levels: lines,
                 states: 0,
@@ -152,7 +158,7 @@ impl Search {
         ensures stays { self.new.share ≡ self.old.share }
         ensures met { self.new.met ≤ self.old.met + count }
         ensures limit { self.new.limit ≡ self.old.limit }
-        ensures serial { self.new.is_serial ≡ self.old.is_serial }
+        ensures scope { self.new.scope ≡ self.old.scope }
         ensures whole { self.new.is_whole ≡ self.old.is_whole }
     {
         self.met = self.met.saturating_add(count as u64);
@@ -164,28 +170,28 @@ impl Search {
     }
 
     // Follows an entry of a level: adds what it leads to to the next level. An ended state stays.
-    fn follow<W: Walk>(
+    fn follow(
         &self,
-        walk: &mut W,
+        walk: &mut Walker,
         known: &mut Known,
         entry: (Stamp, Led),
         next: &mut Level,
     ) -> Result<(), NoMemory>
-        requires entry { IsEntry W.lanes W.breaks W.stamp self.now.is_serial (W.initial walk.old)
-            entry }
-        requires known { IsKnown W.lanes W.breaks W.stamp self.now.is_serial (W.initial walk.old)
-            known.old.entries }
-        ensures known { OnOk result (IsKnown W.lanes W.breaks W.stamp self.now.is_serial
-            (W.initial walk.old) known.new.entries) }
+        requires entry { IsEntry lanes breaks (state_stamp self.now.scope.told)
+            self.now.scope.is_serial (initial_of walk.old) entry }
+        requires known { IsKnown lanes breaks (state_stamp self.now.scope.told)
+            self.now.scope.is_serial (initial_of walk.old) known.old.entries }
+        ensures known { OnOk result (IsKnown lanes breaks (state_stamp self.now.scope.told)
+            self.now.scope.is_serial (initial_of walk.old) known.new.entries) }
         ensures next { OnOk result (next.new.entries ≡ added_all bytes_eq led_joined
-            next.old.entries (spread W.lanes W.breaks W.stamp self.now.is_serial
-            (W.initial walk.old) entry)) }
-        ensures initial { OnOk result (W.initial walk.new ≡ W.initial walk.old) }
+            next.old.entries (spread lanes breaks (state_stamp self.now.scope.told)
+            self.now.scope.is_serial (initial_of walk.old) entry)) }
+        ensures initial { OnOk result (initial_of walk.new ≡ initial_of walk.old) }
     {
         if entry.1.has_ended {
             return add(next, entry.0, entry.1);
         }
-        let states = lead_on(walk, known, &entry, self.is_serial)?;
+        let states = lead_on(walk, known, &entry, self.scope)?;
         let led = &entry.1;
         let mut at = 0usize;
         for reached in states.into_vec() {
@@ -196,24 +202,25 @@ impl Search {
     }
 
     // Follows the states of a level, or some of them. Returns the next level.
-    fn next<W: Walk, P: Progress>(
+    fn next<P: Progress>(
         &mut self,
-        walk: &mut W,
+        walk: &mut Walker,
         known: &mut Known,
         level: Level,
         progress: &mut P,
     ) -> Result<Level, NoMemory>
-        requires level { (n : ℕ) × IsLevel W.lanes W.breaks W.stamp self.old.is_serial
-            (W.initial walk.old) n self.old.is_whole level.entries }
+        requires level { (n : ℕ) × IsLevel lanes breaks (state_stamp self.old.scope.told)
+            self.old.scope.is_serial (initial_of walk.old) n self.old.is_whole level.entries }
         requires share { 1 ≤ self.old.share }
-        requires known { IsKnown W.lanes W.breaks W.stamp self.old.is_serial (W.initial walk.old)
-            known.old.entries }
-        ensures known { OnOk result (IsKnown W.lanes W.breaks W.stamp self.old.is_serial
-            (W.initial walk.old) known.new.entries) }
-        ensures next { IfOk result (λ next. IsNext W.lanes W.breaks W.stamp self.old.is_serial
-            (W.initial walk.old) self.old.is_whole self.new.is_whole level.entries next.entries) }
-        ensures initial { OnOk result (W.initial walk.new ≡ W.initial walk.old) }
-        ensures serial { OnOk result (self.new.is_serial ≡ self.old.is_serial) }
+        requires known { IsKnown lanes breaks (state_stamp self.old.scope.told)
+            self.old.scope.is_serial (initial_of walk.old) known.old.entries }
+        ensures known { OnOk result (IsKnown lanes breaks (state_stamp self.old.scope.told)
+            self.old.scope.is_serial (initial_of walk.old) known.new.entries) }
+        ensures next { IfOk result (λ next. IsNext lanes breaks (state_stamp self.old.scope.told)
+            self.old.scope.is_serial (initial_of walk.old) self.old.is_whole self.new.is_whole
+            level.entries next.entries) }
+        ensures initial { OnOk result (initial_of walk.new ≡ initial_of walk.old) }
+        ensures scope { OnOk result (self.new.scope ≡ self.old.scope) }
         ensures limit { OnOk result (self.new.limit ≡ self.old.limit) }
         ensures share { OnOk result (self.new.share ≡ self.old.share) }
         ensures met { OnOk result (self.new.met ≤ self.old.met + live level.entries) }
@@ -240,13 +247,13 @@ impl Search {
     }
 
     // Returns the level before the first line.
-    fn initial_level<W: Walk>(&self, walk: &mut W) -> Result<Level, NoMemory>
-        ensures level { IfOk result (λ level. IsLevel W.lanes W.breaks W.stamp self.now.is_serial
-            (W.initial walk.old) 0 true level.entries) }
-        ensures initial { OnOk result (W.initial walk.new ≡ W.initial walk.old) }
+    fn initial_level(&self, walk: &mut Walker) -> Result<Level, NoMemory>
+        ensures level { IfOk result (λ level. IsLevel lanes breaks (state_stamp self.now.scope.told)
+            self.now.scope.is_serial (initial_of walk.old) 0 true level.entries) }
+        ensures initial { OnOk result (initial_of walk.new ≡ initial_of walk.old) }
     {
         walk.restart()?;
-        let here = look(self.alloc, walk, self.is_serial)?;
+        let here = look(self.alloc, walk, self.scope)?;
         let (stamp, led) = here.into_entry(Items::new(self.alloc), 1);
         let mut level = IndexMap::new(self.alloc);
         add(&mut level, stamp, led)?;
@@ -255,21 +262,22 @@ impl Search {
 
     // Follows orders from the initial state of a walk. Returns the level of the states after so
     // many lines.
-    fn run<W: Walk, P: Progress>(
+    fn run<P: Progress>(
         &mut self,
-        walk: &mut W,
+        walk: &mut Walker,
         lines: usize,
         progress: &mut P,
     ) -> Result<Level, NoMemory>
         requires share { 1 ≤ self.old.share }
         requires met { self.old.met ≡ 0 }
         requires whole { self.old.is_whole ≡ true }
-        ensures level { IfOk result (λ level. IsLevel W.lanes W.breaks W.stamp self.old.is_serial
-            (W.initial walk.old) lines self.new.is_whole level.entries) }
-        ensures initial { OnOk result (W.initial walk.new ≡ W.initial walk.old) }
-        ensures serial { OnOk result (self.new.is_serial ≡ self.old.is_serial) }
-        ensures within { OnOk result (state_count W.lanes W.breaks W.stamp self.old.is_serial
-            (W.initial walk.old) lines ≤ self.old.limit → self.new.is_whole ≡ true) }
+        ensures level { IfOk result (λ level. IsLevel lanes breaks (state_stamp self.old.scope.told)
+            self.old.scope.is_serial (initial_of walk.old) lines self.new.is_whole level.entries) }
+        ensures initial { OnOk result (initial_of walk.new ≡ initial_of walk.old) }
+        ensures scope { OnOk result (self.new.scope ≡ self.old.scope) }
+        ensures within { OnOk result (state_count lanes breaks (state_stamp self.old.scope.told)
+            self.old.scope.is_serial (initial_of walk.old) lines ≤ self.old.limit →
+            self.new.is_whole ≡ true) }
     {
         let mut level = self.initial_level(walk)?;
         let mut known = IndexMap::new(self.alloc);
@@ -280,25 +288,25 @@ impl Search {
     }
 
     // Counts the orders of a level for the endings that they lead to.
-    fn tally<W: Walk>(&self, walk: &mut W, level: Level, met: &mut Met) -> Result<(), NoMemory>
-        ensures met { OnOk result (met.new.entries ≡ added_all are_same tally_joined
-            met.old.entries (map (tallied W.lanes W.ending self.now.is_serial (W.initial walk.old))
-            level.entries)) }
-        ensures initial { OnOk result (W.initial walk.new ≡ W.initial walk.old) }
+    fn tally(&self, walk: &mut Walker, level: Level, met: &mut Met) -> Result<(), NoMemory>
+        ensures met { OnOk result (met.new.entries ≡ added_all are_same tally_joined met.old.entries
+            (map (tallied lanes (parts_at self.now.scope.told) self.now.scope.is_serial (initial_of
+            walk.old)) level.entries)) }
+        ensures initial { OnOk result (initial_of walk.new ≡ initial_of walk.old) }
     {
         for (_, led) in level {
             go_to(walk, led.first.as_slice())?;
-            let parts = Parts::new(walk.parts()?);
-            add(met, parts, Tally::new(led, self.is_serial))?;
+            let parts = Parts::new(walk.parts(self.scope.told)?);
+            add(met, parts, Tally::new(led, self.scope.is_serial))?;
         }
         Ok(())
     }
 
     // Follows orders of at most so many lines from the initial state of a walk, and counts them for
     // the endings to which they lead. Returns whether it left out no state.
-    fn count_orders<W: Walk, P: Progress>(
+    fn count_orders<P: Progress>(
         mut self,
-        walk: &mut W,
+        walk: &mut Walker,
         lines: usize,
         met: &mut Met,
         progress: &mut P,
@@ -306,13 +314,14 @@ impl Search {
         requires share { 1 ≤ self.share }
         requires met { self.met ≡ 0 }
         requires whole { self.is_whole ≡ true }
-        ensures told { IfOk result (λ is_whole. (es : List (List ℕ × Led)) ×
-            IsLevel W.lanes W.breaks W.stamp self.is_serial (W.initial walk.old) lines is_whole es ×
-            (met.new.entries ≡ added_all are_same tally_joined met.old.entries
-            (map (tallied W.lanes W.ending self.is_serial (W.initial walk.old)) es))) }
-        ensures initial { OnOk result (W.initial walk.new ≡ W.initial walk.old) }
-        ensures within { IfOk result (λ is_whole. state_count W.lanes W.breaks W.stamp
-            self.is_serial (W.initial walk.old) lines ≤ self.limit → is_whole ≡ true) }
+        ensures told { IfOk result (λ is_whole. (es : List (List ℕ × Led)) × IsLevel lanes breaks
+            (state_stamp self.scope.told) self.scope.is_serial (initial_of walk.old) lines is_whole
+            es × (met.new.entries ≡ added_all are_same tally_joined met.old.entries (map (tallied
+            lanes (parts_at self.scope.told) self.scope.is_serial (initial_of walk.old)) es))) }
+        ensures initial { OnOk result (initial_of walk.new ≡ initial_of walk.old) }
+        ensures within { IfOk result (λ is_whole. state_count lanes breaks (state_stamp
+            self.scope.told) self.scope.is_serial (initial_of walk.old) lines ≤ self.limit →
+            is_whole ≡ true) }
     {
         let level = self.run(walk, lines, progress)?;
         self.tally(walk, level, met)?;
@@ -320,11 +329,62 @@ impl Search {
     }
 }
 
-/// Follows the orders from the initial state of a walk. Returns the endings that they lead to.
+// Follows the orders from the initial state of a walker. `wanted` says whether endings have all that
+// tasks were told, and how many states are followed.
+fn explore<P: Progress>(
+    alloc: Global,
+    walk: &mut Walker,
+    wanted: (bool, u64),
+    progress: &mut P,
+) -> Result<Report, NoMemory>
+    ensures report { IfOk result (λ report. IsReport lanes (parts_at wanted.0) breaks
+        (line_count (initial_of walk.old).plan) (initial_of walk.old) report) }
+    ensures within { IfOk result (λ report. state_count lanes breaks (state_stamp wanted.0) false
+        (initial_of walk.old) (line_count (initial_of walk.old).plan) ≤ wanted.1 →
+        report.is_whole ≡ true) }
+    ensures serial_within { IfOk result (λ report. state_count lanes breaks (state_stamp wanted.0)
+        true (initial_of walk.old) (line_count (initial_of walk.old).plan) ≤ wanted.1 →
+        report.has_all_serial ≡ true) }
+{
+    let (told, limit) = wanted;
+    walk.restart()?;
+    let lines = walk.line_count();
+    let mut met = IndexMap::new(alloc);
+    let every = Scope {
+        is_serial: false,
+        told,
+    };
+    let all = Search::new(alloc, every, limit, lines);
+    let is_whole = all.count_orders(walk, lines, &mut met, progress)?;
+    let serially = Scope {
+        is_serial: true,
+        told,
+    };
+    let serial = Search::new(alloc, serially, limit, lines);
+    let has_all_serial = serial.count_orders(walk, lines, &mut met, progress)?;
+    Ok(Report {
+        endings: endings_of(alloc, met)?,
+        is_whole,
+        has_all_serial,
+    })
+}
+
+/// A plan, and whether its endings have all that tasks were told.
+#[derive(Drop)]
+pub struct ToldPlan {
+    /// The plan whose orders are followed.
+    pub plan: Plan,
+    /// Whether endings are told apart by what tasks were told, and not only by how each ended.
+    pub told: bool,
+}
+
+/// Follows every order of a plan's lines. Returns the endings that they lead to.
 ///
 /// States of one stamp are followed once, by the first order that leads there, and the number of
 /// orders is kept. Each ending stands once, with the first order that leads to it, and how many
-/// orders and serial orders do. Serial orders are followed by themselves.
+/// orders and serial orders do. Serial orders are followed by themselves. If all orders and all
+/// serial orders were followed, the endings are those of all orders, in the order of their first
+/// orders.
 ///
 /// Once the levels have more than `limit` states in which a lane may give, each level is thinned
 /// out. If that leaves out a state, the report isn't whole: its endings are those of some orders,
@@ -332,35 +392,27 @@ impl Search {
 ///
 /// Tells `progress` how far the search is, after each state that is followed or taken over.
 ///
-/// Errors: `NoMemory`.
+/// Errors: `NoMemory`, also if a definition of the plan has a fault.
 ///
 /// Cost: at most O(states * lanes * lines) lines that are given, O(states * lanes) restarts, and as
 /// many stamps. A state that a walk reached ahead takes no restart. A state in which no lane may
 /// give is hashed again for each later level.
-pub fn explore<W: Walk, P: Progress>(
+pub fn explore_script<P: Progress>(
     alloc: Global,
-    walk: &mut W,
+    told: ToldPlan,
     limit: u64,
     progress: &mut P,
 ) -> Result<Report, NoMemory>
-    ensures report { IfOk result (λ report. IsReport W.lanes W.ending W.serial
-        (W.most (W.initial walk.old)) (W.initial walk.old) report) }
-    ensures within { IfOk result (λ report. state_count W.lanes W.breaks W.stamp false
-        (W.initial walk.old) (W.most (W.initial walk.old)) ≤ limit → report.is_whole ≡ true) }
-    ensures serial_within { IfOk result (λ report. state_count W.lanes W.breaks W.stamp true
-        (W.initial walk.old) (W.most (W.initial walk.old)) ≤ limit →
+    requires { is_proper told.plan ≡ true }
+    ensures report { IfOk result (λ report. IsReport lanes (parts_at told.told) breaks
+        (line_count told.plan) (initial_state told.plan) report) }
+    ensures within { IfOk result (λ report. state_count lanes breaks (state_stamp told.told) false
+        (initial_state told.plan) (line_count told.plan) ≤ limit → report.is_whole ≡ true) }
+    ensures serial_within { IfOk result (λ report. state_count lanes breaks (state_stamp told.told)
+        true (initial_state told.plan) (line_count told.plan) ≤ limit →
         report.has_all_serial ≡ true) }
 {
-    walk.restart()?;
-    let lines = walk.line_count();
-    let mut met = IndexMap::new(alloc);
-    let all = Search::new(alloc, false, limit, lines);
-    let is_whole = all.count_orders(walk, lines, &mut met, progress)?;
-    let serial = Search::new(alloc, true, limit, lines);
-    let has_all_serial = serial.count_orders(walk, lines, &mut met, progress)?;
-    Ok(Report {
-        endings: endings_of(alloc, met)?,
-        is_whole,
-        has_all_serial,
-    })
+    let with_told = told.told;
+    let mut walk = Walker::new(alloc, told.plan)?;
+    explore(alloc, &mut walk, (with_told, limit), progress)
 }

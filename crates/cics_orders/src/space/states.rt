@@ -2,12 +2,15 @@
 //!
 //! No state is kept. It is made again from the initial one, by the first order that leads to it.
 
-ghost use Rattle.std.specs.Prelude.{◌≡◌, [], ◌∷◌, ◌++◌, List, IfOk, OnOk};
+ghost use Rattle.std.specs.Prelude.{◌≡◌, ◌&&◌, [], ◌∷◌, ◌++◌, if◌then◌else◌, List, IfOk, OnOk};
 ghost use Rattle.cics_orders.specs.Space.Orders.{after};
 ghost use Rattle.cics_orders.specs.Space.States.{led_joined, lanes_of, reached};
+ghost use Rattle.cics_orders.specs.Giving.{lanes, initial_of};
+ghost use Rattle.cics_orders.specs.Stamps.{state_stamp};
+ghost use Rattle.cics_orders.specs.Turns.{breaks};
 
 use crate::space::groups::Join;
-use crate::space::walks::Walk;
+use crate::walks::Walker;
 use cics_names::{Items, NoMemory};
 use std::alloc::Global;
 use std::hash::{Hash, Hasher};
@@ -164,9 +167,18 @@ impl Join for Led {
     }
 }
 
+/// Which orders are followed, and what tells states apart.
+#[derive(Clone, Copy)]
+pub struct Scope {
+    /// Whether only serial orders are followed.
+    pub is_serial: bool,
+    /// Whether all that tasks were told tells states apart, and not only how they ended.
+    pub told: bool,
+}
+
 /// Goes to the state after an order from the initial state. Errors: `NoMemory`.
-pub fn go_to<W: Walk>(walk: &mut W, order: &[usize]) -> Result<(), NoMemory>
-    ensures { OnOk result (walk.new ≡ after W.lanes (W.initial walk.old) order.now) }
+pub fn go_to(walk: &mut Walker, order: &[usize]) -> Result<(), NoMemory>
+    ensures { OnOk result (walk.new ≡ after lanes (initial_of walk.old) order.now) }
 {
     walk.restart()?;
     for i in 0..order.len() {
@@ -175,30 +187,44 @@ pub fn go_to<W: Walk>(walk: &mut W, order: &[usize]) -> Result<(), NoMemory>
     Ok(())
 }
 
-// Returns the lanes that are followed: those that may give, or if `is_serial` only those that don't
-// break a serial order.
-fn lanes_of<W: Walk>(alloc: Global, walk: &W, is_serial: bool) -> Result<Items<usize>, NoMemory>
-    ensures { IfOk result (λ lanes. lanes ≡ lanes_of W.lanes W.breaks is_serial walk.now) }
+// Adds a lane that may give to those that are followed, unless `is_serial` and it breaks a turn.
+fn add_lane(
+    lanes: &mut Items<usize>,
+    walk: &Walker,
+    lane: usize,
+    is_serial: bool,
+) -> Result<(), NoMemory>
+    ensures { OnOk result (lanes.new ≡ lanes.old
+        ++ (if is_serial && breaks walk.now lane then [] else lane ∷ [])) }
+{
+    if !is_serial || !walk.breaks_turn(lane) {
+        lanes.push(lane)?;
+    }
+    Ok(())
+}
+
+// Returns the lanes that are followed: those that may give, or if `is_serial` only those that break
+// no turn.
+fn lanes_of(alloc: Global, walk: &Walker, is_serial: bool) -> Result<Items<usize>, NoMemory>
+    ensures { IfOk result (λ ls. ls ≡ lanes_of lanes breaks is_serial walk.now) }
 {
     let mut lanes = Items::new(alloc);
     let mut giver = walk.first_giver();
     while let Some(lane) = giver {
-        if !is_serial || !walk.breaks_serial(lane) {
-            lanes.push(lane)?;
-        }
+        add_lane(&mut lanes, walk, lane, is_serial)?;
         giver = walk.giver_after(lane);
     }
     Ok(lanes)
 }
 
-/// Returns what is noted of the state of a walk. Errors: `NoMemory`.
-pub fn look<W: Walk>(alloc: Global, walk: &W, is_serial: bool) -> Result<Reached, NoMemory>
-    ensures { IfOk result (λ state.
-        state ≡ reached W.lanes W.breaks W.stamp is_serial walk.now) }
+/// Returns what is noted of the state of a walker. Errors: `NoMemory`.
+pub fn look(alloc: Global, walk: &Walker, scope: Scope) -> Result<Reached, NoMemory>
+    ensures { IfOk result (λ state. state
+        ≡ reached lanes breaks (state_stamp scope.told) scope.is_serial walk.now) }
 {
     let mut bytes = Vec::new(alloc);
-    walk.stamp(is_serial, &mut bytes)?;
-    let lanes = lanes_of(alloc, walk, is_serial)?;
+    walk.stamp(scope.told, &mut bytes)?;
+    let lanes = lanes_of(alloc, walk, scope.is_serial)?;
     let has_ended = walk.first_giver().is_none();
     Ok(Reached {
         stamp: Stamp { bytes },

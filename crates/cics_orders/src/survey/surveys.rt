@@ -6,9 +6,7 @@ ghost use Rattle.cics_orders.specs.Plans.Taking.{initial_taken, taken_apart, pla
 ghost use Rattle.cics_orders.specs.Survey.Surveys.{IsReportOf, IsSurvey};
 
 use crate::plans::{Plan, Planned, ScriptFault, plan_of};
-use crate::search::{Progress, Report};
-use crate::survey::tellers::{States, WithAnswers};
-use crate::{ToldPlan, explore_script};
+use crate::search::{Progress, Report, ToldPlan, explore_script};
 use cics_names::{NoMemory, Record};
 use cics_run::session::Orders;
 use std::alloc::Global;
@@ -30,13 +28,11 @@ fn follow<P: Progress>(
     requires { is_proper plan ≡ true }
     ensures { IfOk result (IsReportOf plan wanted) }
 {
-    if wanted.told {
-        let teller = WithAnswers { alloc };
-        explore_script(alloc, ToldPlan { plan, teller }, wanted.limit, progress)
-    } else {
-        let teller = States { alloc };
-        explore_script(alloc, ToldPlan { plan, teller }, wanted.limit, progress)
-    }
+    let told = ToldPlan {
+        plan,
+        told: wanted.told,
+    };
+    explore_script(alloc, told, wanted.limit, progress)
 }
 
 /// Takes a script apart, and follows the orders of its lines within the limit `wanted.limit`, as

@@ -1,5 +1,5 @@
 use Rattle.std.proofs.Common.{◌≡◌, ◌++◌, map, drop}
-use Rattle.cics_orders.specs.GivenLanes.{frame}
+use Rattle.cics_orders.specs.Giving.{frame}
 use Rattle.cics_orders.proofs.lanes.fresh_lanes.Given as goal
 
 -- the lanes so far, and those of the lanes that are left, are all

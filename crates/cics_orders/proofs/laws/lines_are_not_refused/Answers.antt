@@ -1,4 +1,4 @@
-use Rattle.cics_orders.specs.EndedLanes.{orders_accept}
+use Rattle.cics_orders.proofs.Accepting.{orders_accept}
 use Rattle.cics_orders.proofs.laws.lines_are_not_refused.Goals as goal
 
 pub returns : goal.returns

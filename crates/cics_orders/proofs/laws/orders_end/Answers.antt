@@ -1,5 +1,5 @@
 use Rattle.cics_orders.specs.Giving.{initial_state}
-use Rattle.cics_orders.specs.OrderLaws.{most_ends}
+use Rattle.cics_orders.proofs.OrderLaws.{most_ends}
 use Rattle.cics_orders.proofs.laws.orders_end.Goals as goal
 
 pub returns : goal.returns

@@ -1,5 +1,5 @@
 use Rattle.std.proofs.Common.{◌∙◌, sym}
-use Rattle.cics_orders.specs.Plans.ProperLaws.{planned_proper}
+use Rattle.cics_orders.proofs.OfPlans.ProperLaws.{planned_proper}
 use Rattle.cics_orders.proofs.survey.surveys.survey_script.Goals as goal
 
 -- a script is taken apart into a proper plan

@@ -1,74 +1,45 @@
-use Rattle.std.proofs.Common.{◌≡◌, ◌∙◌, None, Some, ap, sym, refl, length, map}
-use Rattle.std.specs.Prelude.{slice_get}
-use Rattle.std.proofs.lemmas.Bool.{ltb-true}
-use Rattle.std.proofs.lemmas.Option.{slice_get_read, slice_get_past}
+use Rattle.std.proofs.Common.{◌≡◌, ◌∙◌, None, Some, ap, sym, option_copied}
 use Rattle.std.proofs.lemmas.Result.{on_ok_weaker}
-use Rattle.cics_script.specs.Lines.{line}
-use Rattle.cics_orders.specs.Plans.Taking.{NumberedLine}
-use Rattle.cics_orders.specs.Giving.{after_line, counted, drained}
-use Rattle.cics_orders.proofs.Steps.{next_says, gives_none, gives, said_next, no_lane_says}
+use Rattle.cics_orders.specs.Giving.{State, asked, next_said, happening, left_by, after_asked, counted}
+use Rattle.cics_orders.proofs.Steps.{gives_none, gives}
 use Rattle.cics_orders.proofs.walks.Walker.give.Goals as goal
 
--- there is no such lane
+-- no line is left
 pub returns-in_default : goal.returns-in_default
 returns-in_default c =
-    let s = c.args.self.now in
     let l = c.args.number in
-    let lanes = c.deref.result.now in
-    let same : lanes ≡ s.lanes = c.deref.ensures.value ∙ ap (λ s. s.lanes) c.self.view_is in
-    let none : slice_get s.lanes l ≡ None = ap (λ xs. slice_get xs l) (sym same) ∙ slice_get_past lanes l c.in_default.ensures.lookup.3 in
-    sym (gives_none s l (no_lane_says s.lanes l none))
-
--- no line is left
-pub returns-in_default-get : goal.returns-in_default-get
-returns-in_default-get c =
-    let s = c.args.self.now in
-    let l = c.args.number in
-    let lanes = c.deref.result.now in
-    let lane = c.in-Some.lane.now in
-    let said = c.says.result.now in
-    let same : lanes ≡ s.lanes = c.deref.ensures.value ∙ ap (λ s. s.lanes) c.self.view_is in
-    let at : slice_get s.lanes l ≡ Some lane
-    = ap (λ xs. slice_get xs l) (sym same) ∙ slice_get_read lanes (length lanes) l lane refl (ltb-true l (length lanes) (sym c.in-Some.ensures.lookup.0)) c.in-Some.ensures.lookup.1 in
-    let all : said ≡ map (λ (n : NumberedLine). line n.1) lane.lines = c.says.ensures ∙ ap (map (λ (n : NumberedLine). line n.1)) c.in_ok-lines.ensures in
-    sym (gives_none s l (said_next s.lanes l lane said at all ∙ slice_get_past said lane.given c.in_default-get.ensures.lookup.3))
+    sym (gives_none c.args.self.now l
+    (ap (λ (s : State). next_said s.lanes l) (sym c.self.view_is) ∙ ap (λ xs. next_said xs l) (sym c.as_slice.ensures.value) ∙ sym c.next_said.ensures ∙ ap option_copied c.in_default.is))
 
 -- the lane has a line left
 pub count-requires : goal.count-requires
 count-requires c =
-    let s = c.args.self.now in
     let l = c.args.number in
-    let lanes = c.deref.result.now in
-    let lane = c.in-Some.lane.now in
-    let said = c.says.result.now in
-    let says = c.in-Some-get.says.now in
-    let same : lanes ≡ s.lanes = c.deref.ensures.value ∙ ap (λ s. s.lanes) c.self.view_is in
-    let at : slice_get s.lanes l ≡ Some lane
-    = ap (λ xs. slice_get xs l) (sym same) ∙ slice_get_read lanes (length lanes) l lane refl (ltb-true l (length lanes) (sym c.in-Some.ensures.lookup.0)) c.in-Some.ensures.lookup.1 in
-    let all : said ≡ map (λ (n : NumberedLine). line n.1) lane.lines = c.says.ensures ∙ ap (map (λ (n : NumberedLine). line n.1)) c.in_ok-lines.ensures in
-    let is : next_says s.lanes l ≡ Some says
-    = said_next s.lanes l lane said at all
-    ∙ slice_get_read said (length said) lane.given says refl (ltb-true lane.given (length said) (sym c.in-Some-get.ensures.lookup.0)) c.in-Some-get.ensures.lookup.1 in
-    let found = gives s l says is in
+    let is : next_said c.args.self.now.lanes l ≡ Some c.in-Some.says.now
+    = ap (λ (s : State). next_said s.lanes l) (sym c.self.view_is) ∙ ap (λ xs. next_said xs l) (sym c.as_slice.ensures.value) ∙ sym c.next_said.ensures ∙ ap option_copied c.in-Some.is in
+    let found = gives c.args.self.now l c.in-Some.says.now is in
     (found.0, found.1, found.2)
 
--- it is given
-pub returns : goal.returns
-returns c =
-    let s = c.args.self.now in
+-- what it asks is asked
+pub returns-in-Some-request : goal.returns-in-Some-request
+returns-in-Some-request c =
     let l = c.args.number in
-    let lanes = c.deref.result.now in
-    let lane = c.in-Some.lane.now in
-    let said = c.says.result.now in
-    let says = c.in-Some-get.says.now in
-    let same : lanes ≡ s.lanes = c.deref.ensures.value ∙ ap (λ s. s.lanes) c.self.view_is in
-    let at : slice_get s.lanes l ≡ Some lane
-    = ap (λ xs. slice_get xs l) (sym same) ∙ slice_get_read lanes (length lanes) l lane refl (ltb-true l (length lanes) (sym c.in-Some.ensures.lookup.0)) c.in-Some.ensures.lookup.1 in
-    let all : said ≡ map (λ (n : NumberedLine). line n.1) lane.lines = c.says.ensures ∙ ap (map (λ (n : NumberedLine). line n.1)) c.in_ok-lines.ensures in
-    let is : next_says s.lanes l ≡ Some says
-    = said_next s.lanes l lane said at all
-    ∙ slice_get_read said (length said) lane.given says refl (ltb-true lane.given (length said) (sym c.in-Some-get.ensures.lookup.0)) c.in-Some-get.ensures.lookup.1 in
-    let (lane, at, short, run) = gives s l says is in
-    on_ok_weaker c.drain.result
-    (λ is. is ∙ ap drained (c.in_ok-follow.ensures ∙ ap (λ t. after_line t says) (c.count.ensures lane at ∙ ap (counted s l lane) c.ends_turn.ensures)) ∙ sym run)
-    c.drain.ensures.drained
+    let s = c.args.self.now in
+    let is : next_said s.lanes l ≡ Some c.in-Some.says.now
+    = ap (λ (s : State). next_said s.lanes l) (sym c.self.view_is) ∙ ap (λ xs. next_said xs l) (sym c.as_slice.ensures.value) ∙ sym c.next_said.ensures ∙ ap option_copied c.in-Some.is in
+    let (lane, at, short, run) = gives s l c.in-Some.says.now is in
+    let r = c.in-Some-request.request in
+    on_ok_weaker c.ask.result
+    (λ went.
+    went ∙ ap (λ (t : State). left_by t (happening t.machine r)) (c.count.ensures lane at)
+    ∙ ap (after_asked (counted s l lane)) (sym c.in-Some-request.is ∙ c.in_ok-request.ensures) ∙ sym run) c.ask.ensures
+
+-- it asks nothing
+pub returns-in-None : goal.returns-in-None
+returns-in-None c =
+    let l = c.args.number in
+    let s = c.args.self.now in
+    let is : next_said s.lanes l ≡ Some c.in-Some.says.now
+    = ap (λ (s : State). next_said s.lanes l) (sym c.self.view_is) ∙ ap (λ xs. next_said xs l) (sym c.as_slice.ensures.value) ∙ sym c.next_said.ensures ∙ ap option_copied c.in-Some.is in
+    let (lane, at, short, run) = gives s l c.in-Some.says.now is in
+    c.count.ensures lane at ∙ ap (after_asked (counted s l lane)) (sym c.in-None.is ∙ c.in_ok-request.ensures) ∙ sym run

@@ -5,15 +5,17 @@ use Rattle.cics_orders.specs.Space.Orders.{after}
 use Rattle.cics_orders.specs.Space.Groups.{added_all}
 use Rattle.cics_orders.specs.Space.States.{reached, led_joined}
 use Rattle.cics_orders.specs.Search.Levels.{entry}
+use Rattle.cics_orders.specs.Giving.{lanes, initial_of}
+use Rattle.cics_orders.specs.Stamps.{state_stamp}
+use Rattle.cics_orders.specs.Turns.{breaks}
 use Rattle.cics_orders.proofs.search.exploring.Search.follow.Given as goal
 
 -- the states that the lanes so far lead to are added
 abbrev pub invariant-loop-reached : goal.invariant-loop-reached
-invariant-loop-reached g l =
-    let w = g.W.Walk in
-    let x = after w.lanes (w.initial l.fn.walk) l.fn.entry.1.first in
+invariant-loop-reached l =
+    let x = after lanes (initial_of l.fn.walk) l.fn.entry.1.first in
     record {
-      left : into_iter_items l.reached-iterator ≡ map (λ k. reached w.lanes w.breaks w.stamp l.self.is_serial (w.lanes.given x k)) (drop l.at l.fn.entry.1.lanes);
+      left : into_iter_items l.reached-iterator ≡ map (λ k. reached lanes breaks (state_stamp l.self.scope.told) l.self.scope.is_serial (lanes.given x k)) (drop l.at l.fn.entry.1.lanes);
       next : l.next.entries ≡ added_all bytes_eq led_joined l.fn.next.entries
-          (map (λ k. entry w.lanes w.breaks w.stamp l.self.is_serial (l.fn.entry.1.first ++ k ∷ []) l.fn.entry.1.count (w.lanes.given x k)) (take l.at l.fn.entry.1.lanes));
+          (map (λ k. entry lanes breaks (state_stamp l.self.scope.told) l.self.scope.is_serial (l.fn.entry.1.first ++ k ∷ []) l.fn.entry.1.count (lanes.given x k)) (take l.at l.fn.entry.1.lanes));
     }

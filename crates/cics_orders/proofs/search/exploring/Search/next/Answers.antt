@@ -10,24 +10,30 @@ use Rattle.cics_orders.specs.Search.Levels.{live, spread, IsEntry}
 use Rattle.cics_orders.specs.Search.Ahead.{IsKnown}
 use Rattle.cics_orders.proofs.OfSearch.Following.{IsPart, part_none, part_more, part_less, one_counted, one_left, spread_more}
 use Rattle.cics_orders.proofs.OfSearch.Leveling.{level_entries}
-use Rattle.cics_orders.specs.Search.Regrouping.{Each}
+use Rattle.cics_orders.proofs.OfSearch.Regrouping.{Each}
+use Rattle.cics_orders.specs.Giving.{lanes, initial_of}
+use Rattle.cics_orders.specs.Stamps.{state_stamp}
+use Rattle.cics_orders.specs.Turns.{breaks}
+use Rattle.cics_orders.specs.Endings.Telling.{parts_at}
+use Rattle.cics_orders.specs.declared.space.states.Scope.{Scope}
+use Rattle.cics_orders.proofs.StampLaws.{stamps_tell}
 use Rattle.cics_orders.proofs.search.exploring.Search.next.Goals as goal
 use Rattle.cics_orders.proofs.search.exploring.Search.next.Goals.{then-not-may_go_on, else-not-may_go_on}
 
 -- the level's entries are left
 pub loop-stamp-init : goal.loop-stamp-init
 loop-stamp-init g c =
-    let w = g.W.Walk in
+    let told : Bool = c.args.self.now.scope.told in
     let t = c.args.walk.now in
-    let s = w.initial t in
-    let b = c.args.self.now.is_serial in
+    let s = initial_of t in
+    let b = c.args.self.now.scope.is_serial in
     let gives = c.into_iter-stamp-iterator.ensures.into_iter_gives.0 in
     record {
       initial = refl;
       known = c.requires.known;
-      left = subst (Each (IsEntry w.lanes w.breaks w.stamp b s)) (sym gives)
-          (level_entries w.lanes w.breaks w.stamp w.ending b s (w.stamps_tell b t) c.requires.level.0 c.args.self.now.is_whole c.args.level.entries c.requires.level.1);
-      serial = c.thin-thinning.ensures.serial;
+      left = subst (Each (IsEntry lanes breaks (state_stamp told) b s)) (sym gives)
+          (level_entries lanes breaks (state_stamp told) (parts_at told) b s (stamps_tell told t) c.requires.level.0 c.args.self.now.is_whole c.args.level.entries c.requires.level.1);
+      scope = c.thin-thinning.ensures.scope;
       limit = c.thin-thinning.ensures.limit;
       share = c.thin-thinning.ensures.stays;
       sum = zero-add (live c.into_iter-stamp-iterator.result) ∙ ap live gives ∙ sym (c.thin-thinning.ensures.count ∙ c.live_count.ensures);
@@ -43,18 +49,18 @@ loop-stamp-init g c =
 -- an entry more is followed
 pub loop-stamp-preserved-then-is_kept : goal.loop-stamp-preserved-then-is_kept
 loop-stamp-preserved-then-is_kept g c =
-    let w = g.W.Walk in
-    let s = w.initial c.args.walk.now in
-    let b = c.args.self.now.is_serial in
+    let told : Bool = c.args.self.now.scope.told in
+    let s = initial_of c.args.walk.now in
+    let b = c.args.self.now.scope.is_serial in
     let e : Bytes × Led = (c.in-Some.stamp, c.in-Some.led) in
     let inv = c.loop-stamp.invariant in
     let step = c.in_ok-follow.ensures in
     record {
       initial = step.initial ∙ inv.initial;
-      known = subst (λ t. IsKnown w.lanes w.breaks w.stamp b t c.follow.new.known.entries) inv.initial
-          (subst (λ (v : Bool). IsKnown w.lanes w.breaks w.stamp v (w.initial c.loop-stamp.walk) c.follow.new.known.entries) inv.serial step.known);
-      left = (subst (Each (IsEntry w.lanes w.breaks w.stamp b s)) c.in-Some.ensures.steps inv.left).1;
-      serial = inv.serial;
+      known = subst (λ t. IsKnown lanes breaks (state_stamp told) b t c.follow.new.known.entries) inv.initial
+          (subst (λ (v : Scope). IsKnown lanes breaks (state_stamp v.told) v.is_serial (initial_of c.loop-stamp.walk) c.follow.new.known.entries) inv.scope step.known);
+      left = (subst (Each (IsEntry lanes breaks (state_stamp told) b s)) c.in-Some.ensures.steps inv.left).1;
+      scope = inv.scope;
       limit = inv.limit;
       share = inv.share;
       sum = one_counted c.loop-stamp.at c.from.result c.saturating_add-at.result c.thin-thinning.result.count c.loop-stamp.stamp-iterator c.next.new.self e c.in-Some.ensures.steps inv.sum
@@ -64,16 +70,16 @@ loop-stamp-preserved-then-is_kept g c =
       within = inv.within;
       some = inv.some ++ e ∷ [];
       part = part_more c.args.self.now.is_whole c.loop-stamp.self.is_whole c.args.level.entries c.loop-stamp.stamp-iterator c.next.new.self inv.some e c.in-Some.ensures.steps inv.part;
-      next = spread_more w.lanes w.breaks w.stamp b s inv.some c.follow.new.next.entries c.loop-stamp.next.entries e inv.next
-          (step.next ∙ (λ i. added_all bytes_eq led_joined c.loop-stamp.next.entries (spread w.lanes w.breaks w.stamp (inv.serial i) (inv.initial i) e)));
+      next = spread_more lanes breaks (state_stamp told) b s inv.some c.follow.new.next.entries c.loop-stamp.next.entries e inv.next
+          (step.next ∙ (λ i. added_all bytes_eq led_joined c.loop-stamp.next.entries (spread lanes breaks (state_stamp (inv.scope i).told) (inv.scope i).is_serial (inv.initial i) e)));
     }
 
 -- an entry more is left out: it isn't the last in which a lane may give
 pub loop-stamp-preserved : goal.loop-stamp-preserved
 loop-stamp-preserved g c =
-    let w = g.W.Walk in
-    let s = w.initial c.args.walk.now in
-    let b = c.args.self.now.is_serial in
+    let told : Bool = c.args.self.now.scope.told in
+    let s = initial_of c.args.walk.now in
+    let b = c.args.self.now.scope.is_serial in
     let e : Bytes × Led = (c.in-Some.stamp, c.in-Some.led) in
     let inv = c.loop-stamp.invariant in
     let count = c.thin-thinning.result.count in
@@ -88,8 +94,8 @@ loop-stamp-preserved g c =
             some = inv.some;
             initial = inv.initial;
             known = inv.known;
-            left = (subst (Each (IsEntry w.lanes w.breaks w.stamp b s)) c.in-Some.ensures.steps inv.left).1;
-            serial = inv.serial;
+            left = (subst (Each (IsEntry lanes breaks (state_stamp told) b s)) c.in-Some.ensures.steps inv.left).1;
+            scope = inv.scope;
             limit = inv.limit;
             met = inv.met;
             share = inv.share;
