@@ -9,7 +9,7 @@ use crate::input::Input;
 use crate::progress::ProgressLines;
 use cics_orders::survey::{Surveyed, Surveyor};
 use cics_picture::draw::{NoPicture, run_picture};
-use cics_run::told::{Watched, is_left_waiting, told_at_end, told_of};
+use cics_run::told::{is_amiss, told_at_end, told_of};
 use cics_run::whole::read_script;
 use cics_run::{
     Asked, Options, Orders, Output, RunFault, Session, Status, Wanted, arguments, exit_status,
@@ -81,12 +81,11 @@ fn run_to_the_end(
     is_strict: bool,
 ) -> Result<u8, RunFault> {
     let mut session = Session::new(rt.alloc());
-    let mut journal = Watched::new(rt.stdout(), is_strict);
-    let answer = run_over(&mut session, &mut script, &mut journal, wanted);
+    let answer = run_over(&mut session, &mut script, &mut rt.stdout(), wanted);
     if let Ok(status) = answer {
         tell(rt, &session, status);
     }
-    let is_amiss = is_strict && (journal.is_amiss() || is_left_waiting(&session));
+    let is_amiss = is_strict && is_amiss(&session);
     mem::forget(session);
     Ok(strict_status(&Ok(answer?), is_amiss))
 }
