@@ -1,5 +1,6 @@
-//! Tries runs over bytes in memory: each read and each write fails in turn (`trials`). Then tries
-//! scripts on units of work and on regions: each event is refused memory.
+//! Makes each promised call of the libraries (`surface`). Tries runs over bytes in memory: each read
+//! and each write fails in turn (`trials`). Then tries scripts on units of work and on regions: each
+//! event is refused memory.
 //!
 //! The scripts come from standard input, with a blank line between them; the first text stands
 //! before each of them (`scripts`). Where `tools/refuse_memory` is loaded, each request of each
@@ -23,11 +24,13 @@ mod runs;
 mod scripts;
 mod states;
 mod streams;
+mod surface;
 mod trials;
 
 use crate::memory::{Requests, are_refused, switch};
 use crate::runs::{Run, Stop};
 use crate::scripts::{Kind, steps_of, written_out};
+use crate::surface::call_all;
 use crate::trials::try_all;
 use cics_dispatch::Region;
 use cics_names::NoMemory;
@@ -111,8 +114,13 @@ fn run_each(rt: &HostRuntime, texts: [&str; 2]) -> Result<(), ExitCode> {
     Ok(())
 }
 
-// Tries the runs in memory, and then the scripts of a text, each behind its first text.
+// Makes the promised calls, tries the runs in memory, and then the scripts of a text, each behind
+// its first text.
 fn run_text(rt: &HostRuntime, text: &str) -> Result<(), ExitCode> {
+    if call_all(rt.alloc()).is_none() {
+        let _ = eprintln!(rt; "refusals: a promised call is answered otherwise");
+        return Err(ExitCode::FAILURE);
+    }
     if try_all(rt).is_err() {
         return Err(ExitCode::FAILURE);
     }

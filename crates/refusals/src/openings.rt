@@ -5,7 +5,8 @@ use crate::memory::{Requests, switch, was_refused};
 use crate::runs::{MOST, Run, Stop, Target, Tried};
 use crate::states::push_listed;
 use cics_names::NoMemory;
-use cics_run::stage::journal::push_define_fault;
+use cics_run::stage::Fault;
+use cics_run::stage::journal::push_fault;
 use cics_script::Line;
 use cics_script::spelling::{push_name, push_str};
 use cics_units::{DefineFault, Opening, plain_replay};
@@ -23,7 +24,7 @@ fn define(opening: &mut Opening, line: &Line, out: &mut Vec<u8>) -> Result<(), N
     match done {
         Ok(()) => push_str(out, "defined\n"),
         Err(DefineFault::NoMemory) => Err(NoMemory),
-        Err(fault) => push_define_fault(out, 0, fault),
+        Err(fault) => push_fault(out, 0, Fault::Definition(fault)),
     }
 }
 

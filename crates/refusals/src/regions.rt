@@ -3,64 +3,38 @@
 use crate::events::Event;
 use crate::runs::{Target, Tried};
 use crate::states::{push_listed, push_units};
-use cics_dispatch::{Refused, Region};
+use cics_dispatch::{Event as RegionEvent, Region, Request};
 use cics_names::{Name8, NoMemory};
-use cics_run::stage::journal::{
-    push_attached, push_clock, push_clock_refused, push_expired, push_outcome, push_refused,
-    push_shutdown, push_shutdown_refused, push_woken,
-};
+use cics_run::stage::journal::push_event;
 use cics_script::Line;
 use cics_script::spelling::push_name;
 use cics_units::{Listing, Opening};
 use std::alloc::Global;
 
-// Puts at the end that an event of the task of a label was refused.
-fn push_why(out: &mut Vec<u8>, label: Name8, why: Refused) -> Result<(), NoMemory> {
-    match why {
-        Refused::NoMemory => Err(NoMemory),
-        _ => push_refused(out, label, why),
-    }
-}
-
-// Lets happen what a line says that issues no command: ATTACH, CLOCK or SHUTDOWN.
-fn happen_by_copy(region: &mut Region, line: &Line, out: &mut Vec<u8>) -> Result<(), NoMemory> {
+// Returns what a line asks a region for.
+fn request_of(line: Line) -> Option<Request> {
     match line {
         Line::Attach {
             label,
             transaction,
             dtimout,
-        } => {
-            match region.attach(*label, *transaction, *dtimout) {
-                Ok(()) => push_attached(out, *label, *transaction),
-                Err(why) => push_why(out, *label, why),
-            }
-        }
-        Line::Clock(seconds) => {
-            match region.set_clock(*seconds) {
-                Ok(()) => push_clock(out, *seconds),
-                Err(why) => push_clock_refused(out, why),
-            }
-        }
-        Line::Shutdown => {
-            match region.shutdown() {
-                Ok(units) => push_shutdown(out, units),
-                Err(why) => push_shutdown_refused(out, why),
-            }
-        }
-        _ => Ok(()),
+        } => Some(Request::Attach {
+            label,
+            transaction,
+            dtimout,
+        }),
+        Line::Clock(seconds) => Some(Request::Clock(seconds)),
+        Line::Issue(label, command) => Some(Request::Issue(label, command)),
+        Line::Shutdown => Some(Request::Shutdown),
+        _ => None,
     }
 }
 
 // Lets happen what a line says.
 fn happen_by_line(region: &mut Region, line: Line, out: &mut Vec<u8>) -> Result<(), NoMemory> {
-    match line {
-        Line::Issue(label, command) => {
-            match region.issue(label, command) {
-                Ok(outcome) => push_outcome(out, label, &outcome),
-                Err(why) => push_why(out, label, why),
-            }
-        }
-        line => happen_by_copy(region, &line, out),
+    match request_of(line) {
+        Some(request) => push_event(out, &region.play(request)?),
+        None => Ok(()),
     }
 }
 
@@ -78,7 +52,7 @@ fn push_blockers(out: &mut Vec<u8>, region: &Region, listing: &Listing) -> Resul
 // Lets the first waiting command that no longer has to wait resume.
 fn wake(region: &mut Region, out: &mut Vec<u8>) -> Result<(), NoMemory> {
     match region.wake() {
-        Ok(Some(woken)) => push_woken(out, &woken),
+        Ok(Some(woken)) => push_event(out, &RegionEvent::Woken(woken)),
         Ok(None) => Ok(()),
         Err(_) => Err(NoMemory),
     }
@@ -91,7 +65,7 @@ impl Tried for Region {
             Event::Wake => wake(self, out),
             Event::Expire => {
                 match self.expire() {
-                    Some(expired) => push_expired(out, &expired),
+                    Some(expired) => push_event(out, &RegionEvent::Expired(expired)),
                     None => Ok(()),
                 }
             }
