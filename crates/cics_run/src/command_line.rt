@@ -80,30 +80,32 @@ const STATES: u64 = 30_000;
 /// What the help says of that.
 const LIMIT: &str = "Follow about N states (30000)";
 
-/// What is printed of a script.
+/// What a command line asks for.
 ///
-/// - `Run`: its journal, and what follows that.
-/// - `Strict`: the same. The status is one of its own if something is amiss (`strict_status`).
-/// - `Picture`: the picture of its run.
-/// - `Orders`: a report on the orders of its lines, or one of them as a script. `progress` asks for
-///   lines on standard error that say how far the search is.
+/// - `Run`: a run of a script.
+/// - `Strict`: a run that ends with a status of its own if something is amiss (`strict_status`).
+/// - `Picture`: the picture of a run.
+/// - `Orders`: a report on the orders of a script's lines, or one of them as a script. `progress`
+///   asks for lines on standard error that say how far the search is.
+/// - `Help`: the help or the version, which is to go to standard output.
+/// - `Bad`: nothing that the program knows. The text says what is wrong, and is to go to standard
+///   error.
 #[derive(Drop)]
-pub enum Output {
+pub enum Asked {
     Run(Wanted),
     Strict(Wanted),
     Picture,
     Orders { wanted: Orders, progress: bool },
+    Help(String),
+    Bad(String),
 }
 
-/// What a command line asks for.
+/// A command line: what it asks for, and the name of the script's file. Without a name the script
+/// comes from standard input.
 #[derive(Drop)]
-pub enum Asked {
-    /// The output of a script. It is in the file of this name, or comes from standard input.
-    Script(Output, Option<String>),
-    /// The help or the version, which is to go to standard output.
-    Help(String),
-    /// Nothing that the program knows. The text says what is wrong, and is to go to standard error.
-    Bad(String),
+pub struct CommandLine {
+    pub asked: Asked,
+    pub script: Option<String>,
 }
 
 /// Reads the words of a command line, of which the first is the program's name.
@@ -118,21 +120,34 @@ pub enum Asked {
 /// - an option that the help doesn't have. Behind `--` each word names a file.
 ///
 /// The only error is `NoMemory`.
-pub fn arguments(alloc: Global, words: Vec<String>) -> Result<Asked, NoMemory> {
-    match asked_run(alloc, &words) {
-        Ok(asked) => Ok(asked),
+pub fn read_arguments(alloc: Global, words: Vec<String>) -> Result<CommandLine, NoMemory> {
+    match read_words(alloc, &words) {
+        Ok(line) => Ok(line),
         Err(error) => told_error(alloc, &error),
     }
 }
 
+/// Returns what the words of a command line ask for (`read_arguments`).
+pub fn arguments(alloc: Global, words: Vec<String>) -> Result<Asked, NoMemory> {
+    let CommandLine {
+        asked,
+        script: _script,
+    } = read_arguments(alloc, words)?;
+    Ok(asked)
+}
+
 // Returns what an error asks for. The help and the version are errors too.
-fn told_error(alloc: Global, error: &Error) -> Result<Asked, NoMemory> {
+fn told_error(alloc: Global, error: &Error) -> Result<CommandLine, NoMemory> {
     let text = error.to_string(alloc)?;
-    match error.kind() {
-        ErrorKind::DisplayHelp | ErrorKind::DisplayVersion => Ok(Asked::Help(text)),
-        ErrorKind::OutOfMemory => Err(NoMemory),
-        _ => Ok(Asked::Bad(text)),
-    }
+    let asked = match error.kind() {
+        ErrorKind::DisplayHelp | ErrorKind::DisplayVersion => Asked::Help(text),
+        ErrorKind::OutOfMemory => return Err(NoMemory),
+        _ => Asked::Bad(text),
+    };
+    Ok(CommandLine {
+        asked,
+        script: None,
+    })
 }
 
 // Returns an option that is given or not, with what the help says of it.
@@ -231,19 +246,22 @@ fn command<'a>(alloc: Global) -> Result<Command<'a>, AllocError> {
     with(command, Ok(script(alloc)))
 }
 
-fn asked_run(alloc: Global, words: &[String]) -> Result<Asked, Error> {
+fn read_words(alloc: Global, words: &[String]) -> Result<CommandLine, Error> {
     let matches = command(alloc)?.try_get_matches_from(words)?;
-    let name = match matches.get_str("script") {
+    let script = match matches.get_str("script") {
         None | Some("-") => None,
         Some(name) => Some(name.to_string(alloc)?),
     };
-    Ok(Asked::Script(chosen(&matches), name))
+    Ok(CommandLine {
+        asked: chosen(&matches),
+        script,
+    })
 }
 
 // Returns what the options that were given ask for.
-fn chosen(matches: &ArgMatches) -> Output {
+fn chosen(matches: &ArgMatches) -> Asked {
     if matches.get_flag("picture") {
-        return Output::Picture;
+        return Asked::Picture;
     }
     if matches.get_flag("orders") {
         let wanted = Orders {
@@ -252,7 +270,7 @@ fn chosen(matches: &ArgMatches) -> Output {
             ending: matches.get_one("ending"),
         };
         let progress = matches.get_flag("progress");
-        return Output::Orders { wanted, progress };
+        return Asked::Orders { wanted, progress };
     }
     let options = Options {
         replay: matches.get_flag("replay"),
@@ -264,7 +282,7 @@ fn chosen(matches: &ArgMatches) -> Output {
         with_script: matches.get_flag("with-script"),
     };
     if matches.get_flag("strict") {
-        return Output::Strict(wanted);
+        return Asked::Strict(wanted);
     }
-    Output::Run(wanted)
+    Asked::Run(wanted)
 }

@@ -12,4 +12,4 @@ pub use crate::session::{
     CHUNK, Failed, LIMIT, Options, Orders, RunFault, Session, Sink, Source, Status, Stop, Wanted,
     exit_status, line_len, run, run_over, strict_status, write_all, write_pending,
 };
-pub use command_line::{Asked, Output, arguments};
+pub use command_line::{Asked, CommandLine, arguments, read_arguments};

@@ -12,8 +12,8 @@ use cics_picture::draw::{NoPicture, run_picture};
 use cics_run::told::{is_amiss, told_at_end, told_of};
 use cics_run::whole::read_script;
 use cics_run::{
-    Asked, Options, Orders, Output, RunFault, Session, Status, Wanted, arguments, exit_status,
-    run_over, strict_status,
+    Asked, CommandLine, Options, Orders, RunFault, Session, Status, Wanted, exit_status,
+    read_arguments, run_over, strict_status,
 };
 use std::io::ErrorKind;
 use std::mem;
@@ -34,33 +34,43 @@ const JOURNAL: Wanted = Wanted {
 };
 
 fn main(rt: HostRuntime) -> ExitCode {
-    match asked(rt) {
-        Ok(Asked::Script(output, name)) => match Input::open(rt, &name) {
-            Ok(input) => print_of(rt, input, output),
+    match called(rt) {
+        Ok(CommandLine { asked, script }) => answer(rt, asked, script),
+        Err(fault) => stopped(rt, fault),
+    }
+}
+
+// Does what a command line asks for. It opens the script's file first, if it asks for one.
+fn answer(rt: HostRuntime, asked: Asked, name: Option<String>) -> ExitCode {
+    match asked {
+        Asked::Help(text) => match print!(rt; "{text}") {
+            Ok(()) => ExitCode::SUCCESS,
+            Err(_) => stopped(rt, RunFault::WriteFault),
+        },
+        Asked::Bad(text) => bad(rt, &text),
+        asked => match Input::open(rt, &name) {
+            Ok(script) => print_of(rt, script, asked),
             Err(error) => {
                 let name = name.as_deref().unwrap_or("-");
                 let _ = eprintln!(rt; "cicsrun: {name}: {error}");
                 ExitCode::from(BAD_ARGUMENTS)
             }
         },
-        Ok(Asked::Help(text)) => match print!(rt; "{text}") {
-            Ok(()) => ExitCode::SUCCESS,
-            Err(_) => stopped(rt, RunFault::WriteFault),
-        },
-        Ok(Asked::Bad(text)) => {
-            let _ = eprint!(rt; "{text}");
-            ExitCode::from(BAD_ARGUMENTS)
-        }
-        Err(fault) => stopped(rt, fault),
     }
 }
 
-// Prints this output of a script, and returns the exit status.
-fn print_of(rt: HostRuntime, script: Input, output: Output) -> ExitCode {
-    match output {
-        Output::Run(wanted) => ended(rt, run_to_the_end(rt, script, wanted, false)),
-        Output::Strict(wanted) => ended(rt, run_to_the_end(rt, script, wanted, true)),
-        Output::Picture => match draw_to_the_end(rt, script) {
+// Says what is wrong with the arguments, and returns the exit status for that.
+fn bad(rt: HostRuntime, text: &str) -> ExitCode {
+    let _ = eprint!(rt; "{text}");
+    ExitCode::from(BAD_ARGUMENTS)
+}
+
+// Prints what is asked for of a script, and returns the exit status.
+fn print_of(rt: HostRuntime, script: Input, asked: Asked) -> ExitCode {
+    match asked {
+        Asked::Run(wanted) => ended(rt, run_to_the_end(rt, script, wanted, false)),
+        Asked::Strict(wanted) => ended(rt, run_to_the_end(rt, script, wanted, true)),
+        Asked::Picture => match draw_to_the_end(rt, script) {
             Err(NoPicture::TooManyEvents) => {
                 let _ = eprintln!(rt; "cicsrun: {}", NoPicture::TooManyEvents);
                 ExitCode::from(TOO_MANY_EVENTS)
@@ -68,7 +78,8 @@ fn print_of(rt: HostRuntime, script: Input, output: Output) -> ExitCode {
             Err(NoPicture::Stopped(fault)) => stopped(rt, fault),
             Ok(status) => ExitCode::from(exit_status(&Ok(status))),
         },
-        Output::Orders { wanted, progress } => follow_orders(rt, script, wanted, progress),
+        Asked::Orders { wanted, progress } => follow_orders(rt, script, wanted, progress),
+        Asked::Help(text) | Asked::Bad(text) => bad(rt, &text),
     }
 }
 
@@ -163,14 +174,17 @@ fn ended(rt: HostRuntime, status: Result<u8, RunFault>) -> ExitCode {
     }
 }
 
-// What the command line asks for. A word that is no text asks for nothing that the program knows.
-fn asked(rt: HostRuntime) -> Result<Asked, RunFault> {
+// Returns the command line. A word that is no text is a bad argument.
+fn called(rt: HostRuntime) -> Result<CommandLine, RunFault> {
     let given = match std::env::args(&rt) {
         Ok(given) => given,
         Err(error) if error.kind() == ErrorKind::OutOfMemory => return Err(RunFault::NoMemory),
         Err(_) => {
             return match "error: an argument is not UTF-8\n".to_string(rt.alloc()) {
-                Ok(text) => Ok(Asked::Bad(text)),
+                Ok(text) => Ok(CommandLine {
+                    asked: Asked::Bad(text),
+                    script: None,
+                }),
                 Err(_) => Err(RunFault::NoMemory),
             };
         }
@@ -181,8 +195,8 @@ fn asked(rt: HostRuntime) -> Result<Asked, RunFault> {
             return Err(RunFault::NoMemory);
         }
     }
-    match arguments(rt.alloc(), words) {
-        Ok(asked) => Ok(asked),
+    match read_arguments(rt.alloc(), words) {
+        Ok(line) => Ok(line),
         Err(_) => Err(RunFault::NoMemory),
     }
 }
