@@ -34,9 +34,9 @@ both have lanes. The picture is written at the end of the run.
 
 The report on the orders has what all endings share, and then each ending: how
 many orders and serial orders lead to it, the first of these orders, and the rest
-of the ending. In a serial order a task gives its lines up to each SYNCPOINT,
-RETURN or ABEND with no line of another task between them. The script of an
-ending can be run: it gives the lines in its first order.
+of the ending. In a serial order each turn of a task, up to SYNCPOINT or its end,
+is over before another task gives a line. The script of an ending can be run: it
+gives the lines in its first order.
 
 Exit status:
   0  the whole script was run, or the help or the version was printed
