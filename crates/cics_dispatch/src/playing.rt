@@ -25,6 +25,7 @@ impl Region {
     /// Plays a request, and returns its event: `attach`, `set_clock`, `issue` or `shutdown`.
     ///
     /// Errors: `NoMemory`, which changes nothing. Any other refusal is an event.
+    #[inline(always)]
     pub fn play(&mut self, request: Request) -> Result<Event, NoMemory>
         ensures played { IfOk result (λ event. (event ≡ (played self.old.machine request).event)
             × (self.new.machine ≡ (played self.old.machine request).machine)) }

@@ -13,6 +13,7 @@ use cics_names::NoMemory;
 /// event.
 ///
 /// Errors: `NoMemory`.
+#[inline(always)]
 pub fn play<O: Observer>(
     region: &mut Region,
     number: u64,

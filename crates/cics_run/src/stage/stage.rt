@@ -153,6 +153,7 @@ impl Stage {
     }
 
     // Plays a request on the region, and returns no fault.
+    #[inline(always)]
     fn request<O: Observer>(
         &mut self,
         number: u64,
