@@ -1,5 +1,5 @@
 -- After every order a command of a task that is ready is not refused.
-use Rattle.std.proofs.Common.{◌≡◌, ◌⊎◌, inl, inr, ℕ, Bool, true, false, not, ◌&&◌, ◌||◌, List, [], ◌∷◌, ◌++◌, map, Option, None, Some, Result, Ok, Err, refl, ap, sym, ◌∙◌, subst}
+use Rattle.std.proofs.Common.{◌≡◌, ◌⊎◌, inl, inr, ℕ, Bool, true, false, not, ◌||◌, List, [], ◌∷◌, ◌++◌, map, Option, None, Some, Result, Ok, Err, refl, ap, sym, ◌∙◌, subst}
 use Rattle.std.proofs.lemmas.Bool.{true≢false, and_parts, not-true}
 use Rattle.std.specs.Prelude.{if◌then◌else◌, is_none, is_some}
 use Rattle.std.specs.List.{fold}
@@ -7,7 +7,7 @@ use Rattle.cics_names.specs.Keyed.{Bytes, is_same}
 use Rattle.cics_names.specs.KeyedLaws.{is_same-self, is_same-eq}
 use Rattle.cics_names.specs.declared.commands.Command.{Command}
 use Rattle.cics_history.specs.declared.ops.UnitState.TheVariants.{BackedOut}
-use Rattle.cics_dispatch.specs.Machine.Machine.{Machine, Task, Suspended, task_at, replaced, is_waiting, with_waiting, unit_closed, initial_region}
+use Rattle.cics_dispatch.specs.Machine.Machine.{Machine, Task, task_at, replaced, is_waiting, with_waiting, unit_closed, initial_region}
 use Rattle.cics_dispatch.specs.Machine.Blockers.{waiting_command}
 use Rattle.cics_dispatch.specs.Machine.Checks.{fault_of}
 use Rattle.cics_dispatch.specs.Machine.Events.{Happened, happened, played, turn, ended, task_ended}

@@ -1,6 +1,6 @@
 -- What a command does to a machine: its units change, a task is put in the place of that of its
 -- label, and a command begins to wait or waits no more. What all these keep, each command keeps.
-use Rattle.std.proofs.Common.{◌≡◌, ℕ, Bool, true, false, List, [], ◌∷◌, ◌++◌, take, Option, None, Some, refl}
+use Rattle.std.proofs.Common.{◌≡◌, ℕ, Bool, true, false, [], ◌∷◌, ◌++◌, take, Option, None, Some, refl}
 use Rattle.std.specs.Prelude.{if◌then◌else◌}
 use Rattle.cics_names.specs.Keyed.{Bytes, value_at, without}
 use Rattle.cics_names.specs.Conditions.{default_abend_of}
@@ -24,7 +24,7 @@ use Rattle.cics_history.specs.declared.ops.Enqueued.{Enqueued}
 use Rattle.cics_history.specs.declared.ops.Enqueued.TheVariants.{Taken, MustWait as EnqMustWait, CountFull}
 use Rattle.cics_dispatch.specs.Machine.Machine.{Machine, Task, Suspended, task_at, not_waiting, with_units, with_task, with_waiting, with_unit, with_browses, units_after, unit_closed, abended, records_in}
 use Rattle.cics_dispatch.specs.Machine.Replies.{plain, cut, read_reply}
-use Rattle.cics_dispatch.specs.Machine.Steps.{unhandled, answered, reply_of, busy_of, made_to_wait, executed, enqueued, unlocked, units_dequeued, dequeued, browse_reply, with_browse, started, reset, browsed, other_command, by_op, op_of, checked}
+use Rattle.cics_dispatch.specs.Machine.Steps.{unhandled, answered, reply_of, busy_of, made_to_wait, executed, enqueued, unlocked, units_dequeued, browse_reply, with_browse, started, reset, browsed, other_command, by_op, op_of, checked}
 use Rattle.cics_dispatch.specs.Machine.Waking.{first_free, went_on, woken_first, woken, first_late, expired_task, expired}
 use Rattle.cics_dispatch.specs.declared.machine.outcomes.Reply.{Reply}
 use Rattle.cics_dispatch.proofs.OfMachine.OtherUnits.{item_read_is}

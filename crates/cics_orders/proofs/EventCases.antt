@@ -1,6 +1,6 @@
 -- A request is refused and changes nothing, or its step is taken. What holds in both cases holds,
 -- and what each turn keeps holds once the region is at rest.
-use Rattle.std.proofs.Common.{◌≡◌, ℕ, zero, suc, Bool, true, false, length, Option, None, Some, Result, Ok, Err, refl, subst}
+use Rattle.std.proofs.Common.{◌≡◌, ℕ, zero, suc, Bool, true, false, length, Option, None, Some, Result, Err, refl, subst}
 use Rattle.std.specs.Prelude.{if◌then◌else◌}
 use Rattle.cics_names.specs.Keyed.{Bytes}
 use Rattle.cics_names.specs.declared.commands.Command.{Command}
@@ -9,7 +9,7 @@ use Rattle.cics_dispatch.specs.Machine.Steps.{Stepped, attach_refusal, with_new_
 use Rattle.cics_dispatch.specs.Machine.Checks.{fault_of}
 use Rattle.cics_dispatch.specs.Machine.Waking.{woken, expired, clock_refusal}
 use Rattle.cics_dispatch.specs.Machine.Shutdown.{shut_down}
-use Rattle.cics_dispatch.specs.Machine.Events.{Happened, happened, played, late_turn, waking_turn, turn, behind_turn, drained_within, drained}
+use Rattle.cics_dispatch.specs.Machine.Events.{Happened, happened, played, late_turn, waking_turn, turn, behind_turn, drained_within}
 use Rattle.cics_dispatch.specs.declared.machine.events.Request.{Request}
 use Rattle.cics_dispatch.specs.declared.machine.events.Request.TheVariants as request
 use Rattle.cics_dispatch.specs.declared.machine.events.Subject.TheVariants as subject

@@ -3,7 +3,7 @@ use Rattle.std.proofs.Common.{◌≡◌, ℕ, Bool, true, false, ◌⊎◌, List
 use Rattle.std.proofs.lemmas.Bool.{and_parts}
 use Rattle.std.specs.Prelude.{if◌then◌else◌, is_some, slice_get}
 use Rattle.cics_names.specs.Keyed.{Bytes}
-use Rattle.cics_dispatch.specs.Machine.Events.{Happened, Drained}
+use Rattle.cics_dispatch.specs.Machine.Events.{Happened}
 use Rattle.cics_dispatch.specs.declared.machine.events.Request.{Request}
 use Rattle.cics_dispatch.specs.declared.machine.events.Event.{Event}
 use Rattle.cics_dispatch.specs.declared.machine.events.Event.TheVariants as event
@@ -11,7 +11,7 @@ use Rattle.cics_dispatch.specs.declared.machine.outcomes.Outcome.{Outcome}
 use Rattle.cics_dispatch.specs.declared.machine.outcomes.Outcome.TheVariants.{Waiting, Abended}
 use Rattle.cics_script.specs.Lines.{line}
 use Rattle.cics_orders.specs.Plans.Taking.{NumberedLine}
-use Rattle.cics_orders.specs.Giving.{State, is_of, told_more, with_told, hearing, told_by, told_all, asked, happening, left_by, after_asked, may_give, is_ready, counted, given_line, given_by, given}
+use Rattle.cics_orders.specs.Giving.{State, is_of, told_more, with_told, hearing, told_by, told_all, asked, happening, after_asked, may_give, is_ready, counted, given_line, given_by, given}
 use Rattle.cics_orders.specs.declared.lanes.Lane.{Lane}
 
 -- ---- Events

@@ -1,8 +1,7 @@
 -- States that are the same go on alike: each line leads to states that are the same again.
-use Rattle.std.proofs.Common.{◌≡◌, ℕ, zero, suc, Bool, List, [], ◌∷◌, ◌++◌, map, length, Option, None, Some, option_map, Result, Ok, Err, refl, ap, sym, ◌∙◌, subst}
+use Rattle.std.proofs.Common.{◌≡◌, ℕ, zero, suc, Bool, ◌∷◌, ◌++◌, map, length, Option, None, Some, option_map, Result, Ok, Err, refl, ap, sym, ◌∙◌, subst}
 use Rattle.std.proofs.lemmas.Option.{slice_get-map}
 use Rattle.std.specs.Prelude.{slice_get}
-use Rattle.cics_names.specs.Keyed.{Bytes}
 use Rattle.cics_names.specs.Stamps.{list_stamp}
 use Rattle.cics_dispatch.specs.Machine.Machine.{Machine}
 use Rattle.cics_dispatch.specs.Machine.Stamps.{region_stamp}

@@ -2,21 +2,21 @@
 -- again, the endings are told the same, and the same lanes break a turn.
 use Rattle.std.proofs.Common.{◌≡◌, ℕ, Bool, true, false, not, ◌&&◌, List, [], map, Option, None, Some, option_map, refl, ap, sym, ◌∙◌}
 use Rattle.std.proofs.lemmas.Option.{slice_get-map}
-use Rattle.std.specs.Prelude.{All, if◌then◌else◌, ◌==◌, slice_get, option_and_then}
+use Rattle.std.specs.Prelude.{if◌then◌else◌, ◌==◌, slice_get, option_and_then}
 use Rattle.std.specs.List.{list_any}
 use Rattle.cics_dispatch.proofs.OfFuture.Stamped.{alike_stamps}
-use Rattle.cics_orders.specs.Space.Orders.{Order, after, orders, IsWay, AreStampedAlike}
+use Rattle.cics_orders.specs.Space.Orders.{Order, after, IsWay, AreStampedAlike}
 use Rattle.cics_orders.specs.Endings.Telling.{parts_at}
 use Rattle.cics_orders.specs.Plans.Proper.{is_proper, proper}
 use Rattle.cics_orders.specs.declared.plans.plans.Plan.{Plan}
-use Rattle.cics_orders.specs.Giving.{State, said_at, next_said, givers, given, lanes, frame, initial_lanes, initial_machine, initial_state, initial_of, line_count}
+use Rattle.cics_orders.specs.Giving.{State, said_at, next_said, given, lanes, frame, initial_lanes, initial_machine, initial_state, initial_of}
 use Rattle.cics_orders.specs.Same.{SameState}
 use Rattle.cics_orders.specs.Stamps.{seen, state_stamp}
 use Rattle.cics_orders.specs.Turns.{interrupts, breaks}
 use Rattle.cics_orders.specs.declared.lanes.Lane.{Lane}
 use Rattle.cics_orders.proofs.GivenLanes.{initial_is}
 use Rattle.cics_orders.proofs.OfEndings.Alike.{parts_alike}
-use Rattle.cics_orders.proofs.OrderLaws.{most_ends, plan_stays}
+use Rattle.cics_orders.proofs.OrderLaws.{plan_stays}
 use Rattle.cics_orders.proofs.SameSteps.{given_alike, givers_alike, stamps_alike}
 use Rattle.cics_orders.proofs.Seen.{turns_same}
 use Rattle.cics_orders.proofs.SplitStates.{same_after}

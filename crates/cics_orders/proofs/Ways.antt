@@ -1,6 +1,6 @@
 -- Along each way a region is steady, lanes keep their labels and lines, and each waiting command is
 -- the one that the lane of its task gave last.
-use Rattle.std.proofs.Common.{◌≡◌, ℕ, Bool, true, false, not, ◌&&◌, List, [], ◌∷◌, ◌++◌, map, Option, None, Some, option_map, Result, Ok, Err, refl, ap, sym, ◌∙◌, subst, inl, inr}
+use Rattle.std.proofs.Common.{◌≡◌, ℕ, Bool, true, false, not, ◌&&◌, List, [], ◌∷◌, ◌++◌, map, Option, None, Some, option_map, Result, Ok, refl, ap, sym, ◌∙◌, subst, inl, inr}
 use Rattle.std.proofs.lemmas.Bool.{and_parts}
 use Rattle.std.specs.Prelude.{if◌then◌else◌, is_none, is_some, slice_get}
 use Rattle.std.specs.List.{fold}
@@ -34,12 +34,12 @@ use Rattle.cics_orders.specs.Plans.Proper.{is_proper}
 use Rattle.cics_orders.specs.Plans.Taking.{NumberedLine}
 use Rattle.cics_orders.specs.declared.plans.plans.Plan.{Plan}
 use Rattle.cics_orders.specs.declared.plans.plans.TaskPlan.{TaskPlan}
-use Rattle.cics_orders.specs.Giving.{State, is_labelled, is_of, asked, happening, after_asked, is_ready, may_give, givers, counted, given_line, given_by, given, lanes, defined_more, opened, with_task, frame, initial_lanes, initial_state}
+use Rattle.cics_orders.specs.Giving.{State, is_labelled, is_of, asked, after_asked, is_ready, may_give, givers, counted, given_line, given_by, given, lanes, defined_more, opened, with_task, frame, initial_lanes, initial_state}
 use Rattle.cics_orders.specs.declared.lanes.Lane.{Lane}
 use Rattle.cics_orders.specs.Same.{SameState}
 use Rattle.cics_orders.proofs.OrderLaws.{May, numbers_may, plan_stays}
 use Rattle.cics_orders.proofs.CommandSteps.{closes, checked_keeps}
-use Rattle.cics_orders.proofs.EventCases.{step_of, issue_cases, clock_cases, shutdown_cases, attach_cases, happening_keeps}
+use Rattle.cics_orders.proofs.EventCases.{issue_cases, clock_cases, shutdown_cases, attach_cases, happening_keeps}
 use Rattle.cics_orders.proofs.Gists.{stays_asked}
 use Rattle.cics_orders.proofs.GivenLanes.{IsRight, AreApart, AreRight, gists_gave, apart_frames, right_frames, right_at, command_given, waits_given, apart_initial, right_initial, frames_initial, frames_along}
 use Rattle.cics_orders.proofs.GivenWaits.{said, command_of, given_as, AreGiven, Keeps, waits_kept, may_wait, turn_waits}

@@ -1,5 +1,5 @@
 -- How lanes give their lines to a region: which may give, and the state after a line.
-use Rattle.std.specs.Prelude.{◌≡◌, ◌<◌, ℕ, ◌+◌, Bool, true, false, ◌&&◌, not, if◌then◌else◌, List, [], ◌∷◌, ◌++◌, map, length, Option, Some, None, is_none, is_some, option_map, option_and_then, Result, Ok, slice_get, slice_set}
+use Rattle.std.specs.Prelude.{◌≡◌, ◌<◌, ℕ, ◌+◌, Bool, true, false, ◌&&◌, not, List, [], ◌∷◌, ◌++◌, map, length, Option, Some, None, is_none, is_some, option_map, option_and_then, Result, Ok, slice_get, slice_set}
 use Rattle.std.specs.List.{fold}
 use Rattle.cics_names.specs.Keyed.{Bytes, is_same}
 use Rattle.cics_history.specs.State.{OpeningState}

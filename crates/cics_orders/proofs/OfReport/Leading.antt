@@ -1,24 +1,18 @@
 -- A plain run of lines: it attaches tasks, and behind each line of a lane it drains as the orders do.
-use Rattle.std.proofs.Common.{◌≡◌, ℕ, zero, suc, ◌+◌, Bool, true, false, not, List, [], ◌∷◌, ◌++◌, map, length, Option, None, Some, Result, Ok, Err, refl, ap, sym, ◌∙◌, subst, append_assoc, append-nil}
+use Rattle.std.proofs.Common.{◌≡◌, Bool, true, false, not, List, [], ◌∷◌, ◌++◌, map, length, Option, None, Some, Result, Ok, Err, refl, ap, sym, ◌∙◌, subst, append_assoc, append-nil}
 use Rattle.std.proofs.lemmas.Bool.{and_parts}
 use Rattle.std.specs.Prelude.{if◌then◌else◌, is_some}
 use Rattle.std.specs.List.{fold}
 use Rattle.cics_names.specs.Keyed.{Bytes, is_same}
 use Rattle.cics_names.specs.KeyedLaws.{is_same-self, is_same-eq}
 use Rattle.cics_dispatch.specs.Machine.Machine.{Machine, RegionValue, Task, task_at}
-use Rattle.cics_dispatch.specs.Machine.Events.{Happened, happened, played, late_turn, waking_turn, turn, behind_turn, drained_within, drained, all_played}
-use Rattle.cics_dispatch.specs.Machine.Steps.{new_task, with_new_task, attached, issued, refused_or}
-use Rattle.cics_dispatch.specs.Machine.Shutdown.{unless_down, shut_down}
-use Rattle.cics_dispatch.specs.Machine.Waking.{woken, expired, clock_set}
-use Rattle.cics_dispatch.specs.declared.machine.events.Event.{Event}
+use Rattle.cics_dispatch.specs.Machine.Events.{Happened, happened, played, drained_within, drained, all_played}
+use Rattle.cics_dispatch.specs.Machine.Steps.{new_task, with_new_task, attached, refused_or}
+use Rattle.cics_dispatch.specs.Machine.Shutdown.{unless_down}
 use Rattle.cics_dispatch.specs.declared.machine.events.Event.TheVariants as event
 use Rattle.cics_dispatch.specs.declared.machine.events.Request.{Request}
 use Rattle.cics_dispatch.specs.declared.machine.events.Request.TheVariants as request
-use Rattle.cics_dispatch.specs.declared.machine.events.Subject.{Subject}
 use Rattle.cics_dispatch.specs.declared.machine.events.Subject.TheVariants as subject
-use Rattle.cics_dispatch.specs.declared.machine.outcomes.Woken.{Woken}
-use Rattle.cics_dispatch.specs.declared.machine.outcomes.Expired.{Expired}
-use Rattle.cics_dispatch.specs.declared.machine.outcomes.Refused.{Refused}
 use Rattle.cics_dispatch.specs.declared.machine.outcomes.Refused.TheVariants.{RegionDown, DuplicateLabel}
 use Rattle.cics_script.specs.Lines.{line}
 use Rattle.cics_script.specs.declared.lines.Line.{Line}

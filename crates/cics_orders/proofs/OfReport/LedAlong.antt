@@ -2,7 +2,7 @@
 use Rattle.std.proofs.Common.{◌≡◌, ℕ, zero, suc, ◌+◌, Bool, true, false, ◌||◌, List, [], ◌∷◌, ◌++◌, map, length, replicate, get_or, Option, None, Some, Result, Ok, refl, ap, sym, ◌∙◌, arith, subst, append_assoc, append-nil}
 use Rattle.std.proofs.lemmas.Bool.{and_parts}
 use Rattle.std.proofs.lemmas.List.{map-append}
-use Rattle.std.specs.Prelude.{if◌then◌else◌, is_some, slice_get, slice_set}
+use Rattle.std.specs.Prelude.{is_some, slice_get, slice_set}
 use Rattle.std.specs.List.{fold}
 use Rattle.cics_names.specs.Keyed.{Bytes}
 use Rattle.cics_dispatch.specs.Machine.Machine.{Machine, task_at, initial_region}

@@ -8,7 +8,7 @@ use Rattle.cics_history.specs.State.{OpeningState}
 use Rattle.cics_history.specs.Openings.{with_file, with_record, with_prefix, with_queue, with_td_record}
 use Rattle.cics_units.specs.Opening.Faults.{file_fault, load_fault, load_td_fault, fault_if}
 use Rattle.cics_units.specs.declared.opening.opening.DefineFault.{DefineFault}
-use Rattle.cics_dispatch.specs.Machine.Machine.{Machine, RegionValue}
+use Rattle.cics_dispatch.specs.Machine.Machine.{RegionValue}
 use Rattle.cics_dispatch.specs.declared.machine.events.Request.{Request}
 use Rattle.cics_dispatch.specs.declared.machine.events.Request.TheVariants as request
 use Rattle.cics_dispatch.specs.declared.machine.outcomes.Refused.TheVariants.{NoTask, DuplicateLabel}

@@ -7,7 +7,6 @@ use Rattle.std.proofs.lemmas.List.Elements.{filter-append}
 use Rattle.cics_orders.specs.Space.Orders.{is_none_left, is_serial_order, serial_orders, Order, Lanes, IsOneOf, IsWay, after, led_by, led_by_any, orders, AreAmong}
 use Rattle.cics_orders.specs.Search.Levels.{followed}
 use Rattle.cics_orders.specs.Space.States.{lanes_of}
-use Rattle.cics_orders.proofs.OfSpace.OrdersLaws.{after-append, way-append}
 use Rattle.cics_orders.proofs.OfSearch.Regrouping.{Each}
 
 -- ---- Lists

@@ -1,5 +1,5 @@
 -- What is returned of the orders of a script.
-use Rattle.std.specs.Prelude.{◌≡◌, ◌≤◌, ℕ, Bool, true, false, Result, Ok, Err}
+use Rattle.std.specs.Prelude.{◌≡◌, ◌≤◌, ℕ, true, false, Result, Ok, Err}
 use Rattle.cics_run.specs.declared.session.running.Orders.{Orders}
 use Rattle.cics_orders.specs.Search.Levels.{state_count}
 use Rattle.cics_orders.specs.Search.Reports.{IsReport}

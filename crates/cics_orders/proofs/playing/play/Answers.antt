@@ -1,6 +1,6 @@
-use Rattle.std.proofs.Common.{◌≡◌, ◌<◌, ◌∙◌, true, false, List, length, refl, ap, sym, subst}
+use Rattle.std.proofs.Common.{◌≡◌, ◌<◌, ◌∙◌, true, false, List, length, ap, sym, subst}
 use Rattle.cics_dispatch.specs.Machine.Machine.{Machine}
-use Rattle.cics_dispatch.specs.Machine.Events.{Happened, Drained, played, drained}
+use Rattle.cics_dispatch.specs.Machine.Events.{Drained, played, drained}
 use Rattle.cics_dispatch.proofs.OfMachine.Draining.{turn_fewer, drained_turn, drained_none}
 use Rattle.cics_dispatch.specs.declared.machine.events.Event.{Event}
 use Rattle.cics_dispatch.specs.declared.machine.events.Request.{Request}

@@ -1,6 +1,6 @@
-use Rattle.std.proofs.Common.{◌≡◌, ◌∙◌, None, Some, ap, sym, option_copied}
+use Rattle.std.proofs.Common.{◌≡◌, ◌∙◌, Some, ap, sym, option_copied}
 use Rattle.std.proofs.lemmas.Result.{on_ok_weaker}
-use Rattle.cics_orders.specs.Giving.{State, asked, next_said, happening, left_by, after_asked, counted}
+use Rattle.cics_orders.specs.Giving.{State, next_said, happening, left_by, after_asked, counted}
 use Rattle.cics_orders.proofs.Steps.{gives_none, gives}
 use Rattle.cics_orders.proofs.walks.Walker.give.Goals as goal
 
