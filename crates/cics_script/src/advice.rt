@@ -3,8 +3,8 @@
 //! `push_advice` adds three lines behind what was printed. `specs/Advice` states them to the byte,
 //! but for the words of the message. The fault is that of `crate::find_fault`, and so is its column,
 //! but within a literal (`placing`). `push_fault` does both. Tables say what to mend, by what stands
-//! in front of the column (`tables`, `messages`, `unknown`, `values`), which word is meant (`meant`),
-//! and what bytes are (`bytes`). These words are tested, and no clause states them.
+//! in front of the column (`tables`, `messages`, `unknown`, `values`). `meant` finds the word that is
+//! meant, `bytes` says what bytes are. These words are tested, and no clause states them.
 
 mod bytes;
 mod context;
