@@ -63,7 +63,7 @@ pub record AreValid (s : UnitsState) (stores : StoreWithImages) (t : Table) : Ty
   pub places : s.next ≡ places_of stores.store.temp_storage
   -- the table has what the history says that the units own, and nothing else
   pub table : IsTableOf s t
-  -- an empty slot, an empty row and a mark belong to an image of an open unit
+  -- an empty slot, and an empty row, belong to an image of an open unit
   pub held : AreHeldForImages any_holds cell_of_any stores.store stores.images
   -- each unit has a list of images
   pub begun : length s.outcomes ≤ length stores.images
