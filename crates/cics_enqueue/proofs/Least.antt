@@ -160,13 +160,13 @@ module _ (f : Bytes) (asker : Option ℕ) (t : Table) where
       cc
 
   -- ---- what conflicts with a key or a prefix of keys with the bytes p
-  abbrev Near : Bytes → Resource → Type 0
+  abbrev pub Near : Bytes → Resource → Type 0
   Near p q =
       ((k : Bytes) × (has_prefix p k ≡ true) × (q ≡ FileKey f (bytes_of k)))
       ⊎ (((k : Bytes) × (has_prefix p k ≡ true) × (q ≡ FilePrefix f (bytes_of k)))
       ⊎ ((b : Bytes) × (has_prefix b p ≡ true) × (q ≡ FilePrefix f (bytes_of b))))
 
-  near_prefix : (p : ArrayVec ℕ) (q : Resource) → conflicts (FilePrefix f p) q ≡ true → Near p.items q
+  pub near_prefix : (p : ArrayVec ℕ) (q : Resource) → conflicts (FilePrefix f p) q ≡ true → Near p.items q
   near_prefix p (FileKey g k) h =
       let parts = and_parts (is_same f g) (has_prefix p.items k.items) h in
       inl (k.items, parts.1, ap (λ n. FileKey n k) (sym (is_same-eq f g parts.0)))
@@ -269,12 +269,12 @@ module _ (f : Bytes) (asker : Option ℕ) (t : Table) where
       let rest = split_front a b p k (omega (arith, len)) parts.1 in
       ((λ i. eqb-true x y parts.0 i ∷ rest.0 i), rest.1)
 
-  under_name : (g p k : Bytes) → has_prefix (length f ∷ (f ++ p)) (length g ∷ (g ++ k)) ≡ true → (f ≡ g) × (has_prefix p k ≡ true)
+  pub under_name : (g p k : Bytes) → has_prefix (length f ∷ (f ++ p)) (length g ∷ (g ++ k)) ≡ true → (f ≡ g) × (has_prefix p k ≡ true)
   under_name g p k h =
       let parts = and_parts (length f == length g) (has_prefix (f ++ p) (g ++ k)) h in
       split_front f g p k (eqb-true (length f) (length g) parts.0) parts.1
 
-  under_key : (p : Bytes) (s : Resource) → is_under (FileKey f (bytes_of p)) s ≡ true → (k : Bytes) × (has_prefix p k ≡ true) × (s ≡ FileKey f (bytes_of k))
+  pub under_key : (p : Bytes) (s : Resource) → is_under (FileKey f (bytes_of p)) s ≡ true → (k : Bytes) × (has_prefix p k ≡ true) × (s ≡ FileKey f (bytes_of k))
   under_key p (FileKey g k) h = let parts = under_name g p k.items h in (k.items, parts.1, ap (λ n. FileKey n k) (sym parts.0))
   under_key p (FilePrefix g k) h = cc
   under_key p (TsQueue q) h = cc
@@ -282,7 +282,7 @@ module _ (f : Bytes) (asker : Option ℕ) (t : Table) where
   under_key p (TdWrite q) h = cc
   under_key p (User v) h = cc
 
-  under_prefix : (p : Bytes) (s : Resource) → is_under (FilePrefix f (bytes_of p)) s ≡ true → (k : Bytes) × (has_prefix p k ≡ true) × (s ≡ FilePrefix f (bytes_of k))
+  pub under_prefix : (p : Bytes) (s : Resource) → is_under (FilePrefix f (bytes_of p)) s ≡ true → (k : Bytes) × (has_prefix p k ≡ true) × (s ≡ FilePrefix f (bytes_of k))
   under_prefix p (FilePrefix g k) h = let parts = under_name g p k.items h in (k.items, parts.1, ap (λ n. FilePrefix n k) (sym parts.0))
   under_prefix p (FileKey g k) h = cc
   under_prefix p (TsQueue q) h = cc

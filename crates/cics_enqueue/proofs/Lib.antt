@@ -6,4 +6,5 @@ pub mod Owning
 pub mod Seeking
 pub mod TableLaws
 pub mod Tables
+pub mod OwnedUnder
 pub mod Heads

@@ -5,3 +5,4 @@ pub mod Table
 pub mod Order
 pub mod Values
 pub mod Keys
+pub mod Under

@@ -11,6 +11,7 @@
 //!   is ordered.
 //! - `conflicts`: look-ups of what conflicts with a resource.
 //! - `owned`: the table keys that each unit acquired.
+//! - `under`: whether a unit owns what conflicts with a prefix of keys.
 //! - `laws`: what holds of each table.
 #![tactic(auto)]
 
@@ -23,6 +24,7 @@ mod keys;
 pub mod laws;
 mod owned;
 mod releasing;
+mod under;
 
 pub use borrowed::ResourceRef;
 pub use cics_history::{Resource, UnitId};

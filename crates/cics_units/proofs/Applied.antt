@@ -24,7 +24,7 @@ use Rattle.std.proofs.lemmas.List.{append-nil}
 use Rattle.cics_history.specs.Store.{apply, only, counted_answer, found_condition, with_content}
 use Rattle.cics_history.specs.Cells.{content, Ts, cell_of as cell_of_op}
 use Rattle.cics_history.specs.Undo.{changes, images_by}
-use Rattle.cics_history.specs.Records.{is_file_op, file_of, key_of as key_of_op}
+use Rattle.cics_history.specs.Records.{is_file_op, file_of}
 use Rattle.cics_history.specs.declared.ops.Answer.{Answer}
 use Rattle.cics_history.specs.declared.ops.Op.{Op}
 use Rattle.cics_history.specs.declared.ops.Op.TheVariants.{Write, Rewrite, Delete, DeleteGeneric, ReadUpdate, TdWrite, TdRead, TdDelete}

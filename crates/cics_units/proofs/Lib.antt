@@ -49,3 +49,4 @@ mod EndExamples
 mod NothingHeld
 pub mod OfReplay
 pub mod OfOpening
+pub mod Blocking

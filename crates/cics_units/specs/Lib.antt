@@ -20,3 +20,4 @@ pub mod Cores
 pub mod DoneOps
 pub mod Replay
 pub mod Opening
+pub mod Blocking

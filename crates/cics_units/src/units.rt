@@ -1,5 +1,6 @@
 //! Units of work: their commands, what they acquire, and their ends.
 
+mod blocking;
 mod reading;
 
 ghost use Rattle.std.specs.Prelude.{◌≡◌, ◌<◌, ◌≤◌, ◌+◌, ◌++◌, ◌∷◌, [], true, length, vec_len};
