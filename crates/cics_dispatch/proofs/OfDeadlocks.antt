@@ -1,4 +1,6 @@
 pub mod Rows
-pub mod Ways
-pub mod Walked
+pub mod Found
+pub mod Reached
+pub mod Marked
+pub mod Firsts
 pub mod Told

@@ -2,6 +2,7 @@ pub mod Examples
 pub mod Journal
 pub mod FileRows
 pub mod QueueRows
+pub mod ReasonRows
 pub mod TaskRows
 pub mod Ready
 pub mod Emptied
@@ -39,3 +40,4 @@ pub mod Deadlines
 pub mod Blockers
 pub mod Stamps
 pub mod Draining
+pub mod SharedOps

@@ -1,2 +1,4 @@
+pub mod Searches
+pub mod Marks
 pub mod Circles
 pub mod Deadlocks

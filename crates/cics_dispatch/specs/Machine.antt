@@ -1,3 +1,4 @@
+pub mod Reasons
 pub mod Lengths
 pub mod Replies
 pub mod Machine

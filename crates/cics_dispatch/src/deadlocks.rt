@@ -1,9 +1,10 @@
-//! Deadlocks: tasks of a region that wait for each other in a circle.
+//! Deadlocks: tasks of a region that wait for each other, each directly or through others.
 //!
-//! `specs/Circles` says what a circle of a graph is, `specs/Deadlocks` which graph a region's waits
-//! are.
+//! `specs/Deadlocks` has them: `Circles` says what a deadlock of a graph is, `Searches` how it is
+//! found, `Deadlocks` which graph a region's waits are.
 
 mod circles;
+mod searches;
 mod waiting;
 
-pub use waiting::{deadlocks, waiting_count};
+pub use waiting::{deadlocks, in_deadlock, waiting_count};

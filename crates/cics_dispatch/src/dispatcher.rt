@@ -1,6 +1,6 @@
 //! The parts of a region, and its steps.
 //!
-//! This file has what several steps share: the first fault, the end of a unit, an answer, a wait,
+//! This file has what several steps share: the checks, the end of a unit, an answer, a wait,
 //! an updating command. `performing` issues commands. `browsing`, `enqueuing` and `queues` execute
 //! those on files, values and queues that ask for no updating command. `waking` resumes waiting
 //! commands and times tasks out. `blocking`, `listing`, `shutdown` and `stamping` have the other
@@ -25,7 +25,7 @@ ghost use Rattle.cics_dispatch.specs.Machine.Machine.{units_after, definition_of
 ghost use Rattle.cics_dispatch.specs.Machine.Machine.{RegionValue, initial_region, task_at, abended};
 ghost use Rattle.cics_dispatch.specs.Machine.Machine.{is_waiting};
 ghost use Rattle.cics_dispatch.specs.Machine.Machine.{unit_closed, state_after};
-ghost use Rattle.cics_dispatch.specs.Machine.Checks.{fault_of};
+ghost use Rattle.cics_dispatch.specs.Machine.Checks.{reason_of};
 ghost use Rattle.cics_history.specs.Execution.{IsOpenUnit, IsOpenOrNone};
 ghost use Rattle.cics_history.specs.Headline.{IsHeadline};
 ghost use Rattle.cics_history.specs.Serial.{IsSerializable};
@@ -47,8 +47,8 @@ ghost use Rattle.cics_names.specs.declared.commands.Verb.{Verb as VerbValue};
 ghost use Rattle.cics_history.specs.Openings.{is_key};
 
 use crate::machine::{
-    Attempt, Ending, Outcome, Refused, Reply, Tasks, Waits, file_fault, plain_reply, refill,
-    reply_of_answer,
+    Attempt, Ending, Outcome, Reason, Refused, Reply, Tasks, Waits, file_reason, plain_reply,
+    refill, reply_of_answer,
 };
 use cics_history::UnitId;
 use cics_ksds::FileDef;
@@ -271,28 +271,27 @@ impl Dispatcher {
         Some(file.definition())
     }
 
-    // Returns the first fault of a command of the task at an index, whose open update read of the
-    // command's file has the key `open_key`. A file that isn't defined is DSIDERR, and a transient
-    // data queue that isn't is QIDERR.
+    // Returns the first check that fails of a command of the task at an index, whose open update
+    // read of the command's file has the key `open_key`.
     #[inline(never)]
-    fn fault(&self, at: usize, verb: &Verb, open_key: Option<&[u8]>) -> Option<Condition>
+    fn failed_check(&self, at: usize, verb: &Verb, open_key: Option<&[u8]>) -> Option<Reason>
         requires within { at < length self.now.machine.tasks }
         requires key { OfTask self.now.machine.tasks at
             (λ t. option_copied open_key ≡ key_read self.now.machine t (file_named verb.now)) }
         requires most { IfSome open_key (λ key. length key.now ≤ 255) }
-        ensures fault { OfTask self.now.machine.tasks at
-            (λ t. result ≡ fault_of self.now.machine t verb.now) }
+        ensures reason { OfTask self.now.machine.tasks at
+            (λ t. result ≡ reason_of self.now.machine t verb.now) }
         ensures short { IfNone result (OfTask self.now.machine.tasks at
             (λ t. IfSome (op_of self.now.machine t verb.now) (λ o. length (key_of o) ≤ 255))) }
     {
         let Some(name) = verb.file() else {
-            return self.other_fault(verb);
+            return self.other_reason(verb);
         };
         let Some(definition) = self.definition(name) else {
-            return Some(Condition::Dsiderr);
+            return Some(Reason::FileNotDefined);
         };
         let browse = self.tasks.get(at).browses().get(name);
-        file_fault(definition, open_key, browse, verb)
+        file_reason(definition, open_key, browse, verb)
     }
 
     // Ends the unit of the task at an index and its browses, and if `has_ended` the task too.

@@ -16,7 +16,7 @@ mod playing;
 mod regions;
 
 pub use crate::machine::{
-    Event, Expired, Number, Outcome, Refused, Reply, Request, Subject, Woken,
+    Event, Expired, Number, Outcome, Reason, Refused, Reply, Request, Subject, Woken,
 };
 pub use cics_names::{Command, Verb};
 pub use regions::Region;

@@ -6,7 +6,7 @@
 //!
 //! - `outcomes`: what the calls of a region return.
 //! - `events`: what a region is asked, and what it tells.
-//! - `checks`: the checks before a command looks at what other units own.
+//! - `reasons`, `checks`: the checks before a command looks at what other units own.
 //! - `updates`: the updating command (`Op`) that a task's command asks for, if it asks for one.
 //! - `reads`, `replies`: what a command is answered.
 //! - `task`, `tasks`, `browses`, `waits`: what a region stores.
@@ -18,6 +18,7 @@ mod events;
 mod findings;
 mod outcomes;
 mod reads;
+mod reasons;
 mod replies;
 mod task;
 mod tasks;
@@ -25,11 +26,12 @@ mod updates;
 mod waits;
 
 pub use browses::{Browses, Direction, Start, read_on};
-pub use checks::{file_fault, item_fault, value_fault};
+pub use checks::{file_reason, item_reason, value_reason};
 pub use events::{Event, Request, Subject};
 pub use findings::{Free, Late, Look};
 pub use outcomes::{Attempt, Ending, Expired, Number, Outcome, Refused, Reply, Woken};
 pub use reads::{plain_reply, read_plain};
+pub use reasons::Reason;
 pub use replies::{reply_of_answer, reply_of_browsed, reply_of_item};
 pub use task::Task;
 pub use tasks::Tasks;

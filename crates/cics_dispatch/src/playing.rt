@@ -22,7 +22,8 @@ fn refused(subject: Subject, refusal: Refused) -> Result<Event, NoMemory>
 }
 
 impl Region {
-    /// Plays a request, and returns its event: `attach`, `set_clock`, `issue` or `shutdown`.
+    /// Plays a request, and returns its event: `attach`, `set_clock`, `issue` or `shutdown`. That of
+    /// a command has the first check that it failed, if it failed one.
     ///
     /// Errors: `NoMemory`, which changes nothing. Any other refusal is an event.
     #[inline(always)]
@@ -46,10 +47,13 @@ impl Region {
                 Ok(()) => Ok(Event::ClockSet(seconds)),
                 Err(refusal) => refused(Subject::Clock, refusal),
             },
-            Request::Issue(label, command) => match self.issue(label, command) {
-                Ok(outcome) => Ok(Event::Issued(label, outcome)),
-                Err(refusal) => refused(Subject::Task(label), refusal),
-            },
+            Request::Issue(label, command) => {
+                let mut reason = None;
+                match self.issue_told(label, command, &mut reason) {
+                    Ok(outcome) => Ok(Event::Issued(label, outcome, reason)),
+                    Err(refusal) => refused(Subject::Task(label), refusal),
+                }
+            }
             Request::Shutdown => match self.shutdown() {
                 Ok(units) => Ok(Event::ShutDown(units)),
                 Err(refusal) => refused(Subject::Shutdown, refusal),

@@ -7,6 +7,7 @@ ghost use Rattle.cics_history.specs.Events.{is_live};
 ghost use Rattle.cics_history.specs.Headline.{HoldsCommitted};
 ghost use Rattle.cics_dispatch.specs.Machine.Machine.{initial_region};
 ghost use Rattle.cics_dispatch.specs.Machine.Stamps.{region_stamp};
+ghost use Rattle.cics_dispatch.specs.Machine.Checks.{reason_for};
 ghost use Rattle.cics_dispatch.specs.Machine.Steps.{attached, issued};
 ghost use Rattle.cics_dispatch.specs.Machine.Waking.{clock_set, woken, expired, IsAtRest};
 ghost use Rattle.cics_dispatch.specs.Machine.First.{IsFirstToGoOn, IsFirstTooLate};
@@ -18,15 +19,15 @@ ghost use Rattle.cics_dispatch.specs.Machine.Answers.{region_listing, replayed_l
 ghost use Rattle.cics_dispatch.specs.Machine.Settled.{goes_on};
 ghost use Rattle.std.specs.Option.{option_copied};
 ghost use Rattle.cics_dispatch.specs.Machine.Events.{task_ended};
-ghost use Rattle.cics_dispatch.specs.Machine.Blockers.{unit_of, blocker_of, label_at, number_of};
+ghost use Rattle.cics_dispatch.specs.Machine.Blockers.{unit_of, blocker_of, blockers_of, label_at, number_of};
 ghost use Rattle.cics_dispatch.specs.Machine.Blockers.{waiting_command};
 ghost use Rattle.cics_dispatch.specs.declared.machine.outcomes.Refused.TheVariants.{RegionDown};
 
 use crate::dispatcher::Dispatcher;
-use crate::machine::{Expired, Outcome, Refused, Woken};
+use crate::machine::{Expired, Outcome, Reason, Refused, Woken};
 use crate::notes::Notes;
 use cics_history::UnitId;
-use cics_names::{Command, Name4, Name8, NoMemory};
+use cics_names::{Command, Items, Name4, Name8, NoMemory};
 use cics_units::{Listing, Opening, Units};
 use std::marker::Model;
 
@@ -179,6 +180,25 @@ impl Region {
         ensures headline { IsHeadlineRegion self.new }
         ensures serializable { IsSerializableRegion self.new }
     {
+        let mut reason = None;
+        self.issue_told(label, command, &mut reason)
+    }
+
+    /// Issues a command as `issue` does. If a check of it fails, writes the first into `reason`.
+    pub(crate) fn issue_told(
+        &mut self,
+        label: Name8,
+        command: Command,
+        reason: &mut Option<Reason>,
+    ) -> Result<Outcome, Refused>
+        requires blank { reason.old ≡ None }
+        ensures step { IsRegionStep (may_want self.old.machine label command) self.old
+            (issued self.old.machine label command) result self.new }
+        ensures reason { IfOk result (λ _. reason.new
+            ≡ reason_for self.old.machine label command.verb) }
+        ensures headline { IsHeadlineRegion self.new }
+        ensures serializable { IsSerializableRegion self.new }
+    {
         // First of all: after a shutdown a label is told nothing else, not even `NoTask`.
         self.refuse_if_down()?;
         let Some(at) = self.dispatcher.find(&label) else {
@@ -186,7 +206,7 @@ impl Region {
         };
         let unit = self.dispatcher.unit_at(at);
         let keeps = self.dispatcher.is_keeping(&command.verb);
-        let outcome = self.dispatcher.issue(at, label, command)?;
+        let outcome = self.dispatcher.issue(at, label, command, reason)?;
         let was_blocker = self.notes.forget(giving_up(keeps, &outcome, unit));
         let waits = self.dispatcher.is_waiting(&label);
         // It stays so if the command released nothing that another waits for, and doesn't wait.
@@ -318,6 +338,21 @@ impl Region {
         ensures serializable { IsSerializableRegion self.now }
     {
         self.dispatcher.blocker(label)
+    }
+
+    /// Returns all tasks whom the waiting command of a label's task waits for now, by their labels,
+    /// in the order of attach. It may resume if there is none.
+    ///
+    /// Only DELETE GENERIC and DELETEQ TD may wait for more than one.
+    ///
+    /// Errors: `NoMemory`. Cost: that of `blocker`; for those two O(tasks + k log resources), k
+    /// the resources that open units ever acquired.
+    pub fn blockers(&self, label: &Name8) -> Result<Items<Name8>, NoMemory>
+        ensures blockers { IfOk result (λ labels. labels ≡ blockers_of self.now.machine label.now) }
+        ensures headline { IsHeadlineRegion self.now }
+        ensures serializable { IsSerializableRegion self.now }
+    {
+        self.dispatcher.blockers(label)
     }
 
     /// Returns the waiting command of a label's task, `None` if no command of it waits. Its verb

@@ -1,12 +1,13 @@
 -- Worked examples: tasks of a region that wait for each other's values, and the deadlocks that are told.
-use Rattle.std.specs.Prelude.{◌≡◌, ℕ, Some, None, false, [], ◌∷◌, refl}
+use Rattle.std.specs.Prelude.{◌≡◌, ℕ, true, false, [], ◌∷◌, refl}
 use Rattle.cics_names.specs.Keyed.{Bytes}
 use Rattle.cics_names.specs.declared.commands.Verb.TheVariants.{Enq}
 use Rattle.cics_history.specs.Openings.{initial_opening}
 use Rattle.cics_dispatch.specs.Machine.Machine.{Machine, initial_region}
 use Rattle.cics_dispatch.specs.Machine.Steps.{attached, issued}
-use Rattle.cics_dispatch.specs.Deadlocks.Circles.{circles}
-use Rattle.cics_dispatch.specs.Deadlocks.Deadlocks.{deadlocks}
+use Rattle.cics_dispatch.specs.Machine.Blockers.{blockers_of}
+use Rattle.cics_dispatch.specs.Deadlocks.Searches.{circles, led_back}
+use Rattle.cics_dispatch.specs.Deadlocks.Deadlocks.{deadlocks, in_deadlock}
 
 -- the labels T1, T2, T3
 abbrev t1 : Bytes
@@ -62,6 +63,38 @@ third_waits = refl
 all_three : deadlocks three ≡ (t1 ∷ t3 ∷ t2 ∷ []) ∷ []
 all_three = refl
 
+-- it is blocked by one of them, and isn't in the deadlock
+blocked : blockers_of behind t3 ≡ t2 ∷ []
+blocked = refl
+
+two_alone : in_deadlock behind ≡ true ∷ true ∷ false ∷ []
+two_alone = refl
+
+-- ---- Graphs: at each number those that the task waits for
+
 -- two circles, in the order of their first tasks, and a task that waits for one of them: 0 and 3, 1 alone behind 2, 2 and 4
-both_circles : circles (Some 3 ∷ Some 2 ∷ Some 4 ∷ Some 0 ∷ Some 2 ∷ None ∷ []) ≡ (0 ∷ 3 ∷ []) ∷ (2 ∷ 4 ∷ []) ∷ []
+both_circles : circles ((3 ∷ []) ∷ (2 ∷ []) ∷ (4 ∷ []) ∷ (0 ∷ []) ∷ (2 ∷ []) ∷ [] ∷ []) ≡ (0 ∷ 3 ∷ []) ∷ (2 ∷ 4 ∷ []) ∷ []
 both_circles = refl
+
+-- one blocker of 2 does nothing more, and the other one waits for it
+second_blocker : circles ([] ∷ (2 ∷ []) ∷ (0 ∷ 1 ∷ []) ∷ []) ≡ (1 ∷ 2 ∷ []) ∷ []
+second_blocker = refl
+
+-- two circles with one task in both are one deadlock: the circle of 1 is told
+shared_task : circles ((1 ∷ 2 ∷ []) ∷ (0 ∷ []) ∷ (0 ∷ []) ∷ []) ≡ (0 ∷ 1 ∷ []) ∷ []
+shared_task = refl
+
+all_in_it : led_back ((1 ∷ 2 ∷ []) ∷ (0 ∷ []) ∷ (0 ∷ []) ∷ []) ≡ true ∷ true ∷ true ∷ []
+all_in_it = refl
+
+-- the first task is in a circle of three alone
+long_way : circles ((1 ∷ []) ∷ (2 ∷ []) ∷ (0 ∷ 1 ∷ []) ∷ []) ≡ (0 ∷ 1 ∷ 2 ∷ []) ∷ []
+long_way = refl
+
+-- the shorter way, though it is over a later task
+short_way : circles ((1 ∷ 2 ∷ []) ∷ (2 ∷ []) ∷ (0 ∷ []) ∷ []) ≡ (0 ∷ 2 ∷ []) ∷ []
+short_way = refl
+
+-- of two ways of one length the one over the earlier task
+earlier_way : circles ((1 ∷ 2 ∷ []) ∷ (0 ∷ []) ∷ (0 ∷ []) ∷ []) ≡ (0 ∷ 1 ∷ []) ∷ []
+earlier_way = refl

@@ -22,7 +22,7 @@ use Rattle.cics_history.specs.declared.ops.Enqueued.TheVariants.{Taken, CountFul
 use Rattle.cics_history.specs.declared.ops.UnitState.TheVariants.{Committed, BackedOut}
 use Rattle.cics_dispatch.specs.Machine.Machine.{Machine, Task, label_of, records_in, with_task, with_browses}
 use Rattle.cics_dispatch.specs.Machine.Replies.{plain, cut, read_reply}
-use Rattle.cics_dispatch.specs.Machine.Checks.{open_key, named_fault, fault_of}
+use Rattle.cics_dispatch.specs.Machine.Checks.{open_key, named_reason, reason_of, fault_of}
 use Rattle.cics_dispatch.specs.Machine.Steps.{unhandled, answered, reply_of, busy_of, made_to_wait, key_read, asked_op, op_of, executed, enqueued, browse_reply, with_browse, started, reset, browsed, ts_read, other_command, by_op, checked}
 use Rattle.cics_dispatch.specs.declared.machine.outcomes.Outcome.TheVariants.{Waiting}
 use Rattle.cics_dispatch.specs.declared.machine.outcomes.Reply.{Reply}
@@ -53,20 +53,20 @@ module _ (m n : Machine) (t u : Task) (acting : AreActing m n t u) where
   label : t.label ≡ u.label
   label = same_label t u acting.bare
 
-  -- ---- The first fault, and what is asked for
+  -- ---- The first check that fails, and what is asked for
 
   same_key : (f : Bytes) → open_key m t f ≡ open_key n u f
   same_key f =
       read_told m.units t.unit f ∙ (ap (λ (x : Own). read_at x.reads 0 f) (own_acting m n t u acting) ∙ sym (read_told n.units u.unit f))
 
-  same_fault : (verb : Verb) → fault_of m t verb ≡ fault_of n u verb
-  same_fault verb = by (file_named verb)
+  pub same_reason : (verb : Verb) → reason_of m t verb ≡ reason_of n u verb
+  same_reason verb = by (file_named verb)
     where
-      by : (o : Option Bytes) → named_fault m t verb o ≡ named_fault n u verb o
+      by : (o : Option Bytes) → named_reason m t verb o ≡ named_reason n u verb o
       by (Some f) = rw (same.alike.opening, same_key f, browses) refl
       by None = other verb
         where
-          other : (verb : Verb) → named_fault m t verb None ≡ named_fault n u verb None
+          other : (verb : Verb) → named_reason m t verb None ≡ named_reason n u verb None
           other (WriteqTd q from k) = rw same.alike.opening refl
           other (ReadqTd q k nosuspend) = rw same.alike.opening refl
           other (DeleteqTd q) = rw same.alike.opening refl
@@ -200,7 +200,7 @@ module _ (m n : Machine) (t u : Task) (acting : AreActing m n t u) where
 
     -- a command is answered by its first fault, or performed
     pub same_checked : AreSameSteps (checked m t c (fault_of m t c.verb)) (checked n u c (fault_of n u c.verb))
-    same_checked = rw (same_fault c.verb) (by (fault_of n u c.verb))
+    same_checked = rw (same_reason c.verb) (by (fault_of n u c.verb))
       where
         by : (fault : Option Condition) → AreSameSteps (checked m t c fault) (checked n u c fault)
         by (Some fault) = told (plain fault)

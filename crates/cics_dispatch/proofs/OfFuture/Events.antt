@@ -6,6 +6,7 @@ use Rattle.std.proofs.lemmas.Bool.{true≢false, false≢true, cases_Bool}
 use Rattle.std.proofs.lemmas.List.{map_push}
 use Rattle.cics_names.specs.Keyed.{Bytes}
 use Rattle.cics_names.specs.declared.commands.Command.{Command}
+use Rattle.cics_names.specs.declared.commands.Verb.{Verb}
 use Rattle.cics_history.specs.State.{OpeningState}
 use Rattle.cics_history.specs.Openings.{IsOpeningInOrder}
 use Rattle.cics_history.specs.Isolation.{store_by}
@@ -17,7 +18,7 @@ use Rattle.cics_history.proofs.SerialRuns.{initial_units-IsInOrder}
 use Rattle.cics_dispatch.specs.Machine.Machine.{Machine, Task, Suspended, initial_region, task_at, label_of, is_waiting, not_waiting, with_waiting, unit_closed, timed_out}
 use Rattle.cics_dispatch.specs.Machine.Tasks.{own_label, own_unit, had_by, IsOwn}
 use Rattle.cics_dispatch.specs.Machine.Steps.{Stepped, checked, issue_refusal, refused_or, issued_by, issued, new_task, with_new_task, attached}
-use Rattle.cics_dispatch.specs.Machine.Checks.{fault_of}
+use Rattle.cics_dispatch.specs.Machine.Checks.{fault_of, reason_by, reason_for}
 use Rattle.cics_dispatch.specs.Machine.Waking.{clock_refusal, clock_set, awaited_by, may_go_on, first_free, went_on, woken_first, woken, is_late, first_late, expired_task, expired}
 use Rattle.cics_dispatch.specs.Machine.Shutdown.{unless_down, units_of, all_ended, shut_down}
 use Rattle.cics_dispatch.specs.Machine.Blockers.{waiting_command, awaited_of, blocker_of}
@@ -31,7 +32,7 @@ use Rattle.cics_dispatch.specs.Future.Futures.{unnumbered, ending, store_if, IsS
 use Rattle.cics_dispatch.proofs.OfFuture.Labels.{AreActing, both, same_label, both_tasks}
 use Rattle.cics_dispatch.proofs.OfFuture.Blocking.{told, same_awaited_by}
 use Rattle.cics_dispatch.proofs.OfFuture.Acting.{same_beside, same_waits, same_closed, same_abended}
-use Rattle.cics_dispatch.proofs.OfFuture.Answering.{same_by_op, same_checked}
+use Rattle.cics_dispatch.proofs.OfFuture.Answering.{same_reason, same_by_op, same_checked}
 
 -- a region that is steady has its own future
 pub same_itself : (m : Machine) → IsSteady m → HaveSameFuture m m
@@ -81,6 +82,11 @@ module _ (m n : Machine) (same : HaveSameFuture m n) where
       (ap (λ (x : Task). if x.has_ended then Some TaskEnded else if is_waiting m.waiting x.label then Some TaskWaiting else None) acting.bare
       ∙ ap (λ ws. if u.has_ended then Some TaskEnded else if is_waiting ws u.label then Some TaskWaiting else None) same.alike.waiting)
       (checked m t c (fault_of m t c.verb)) (checked n u c (fault_of n u c.verb)) (same_checked m n t u acting c))
+
+  -- it fails the same check
+  pub reason_same : (label : Bytes) (verb : Verb) → reason_for m label verb ≡ reason_for n label verb
+  reason_same label verb =
+      both_tasks m n same label (λ o p. reason_by m verb o ≡ reason_by n verb p) (λ none none_too. refl) (λ t u acting is. same_reason m n t u acting verb)
 
   -- ---- ATTACH
 

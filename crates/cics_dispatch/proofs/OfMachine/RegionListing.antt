@@ -11,7 +11,7 @@ abbrev pub rows_of : Machine → List Task → List (Bytes × TaskState)
 rows_of m ts = map (λ t. (t.label, task_state m t)) (filter (λ t. not t.has_ended) ts)
 
 -- the tasks up to a place, with the one at the place
-take_there : (ts : List Task) (at : ℕ) (t : Task) → slice_get ts at ≡ Some t → take (suc at) ts ≡ take at ts ++ t ∷ []
+pub take_there : (ts : List Task) (at : ℕ) (t : Task) → slice_get ts at ≡ Some t → take (suc at) ts ≡ take at ts ++ t ∷ []
 take_there [] at t there = cc
 take_there (s ∷ ts) zero t there = let same : s ≡ t = cc in ap (λ x. x ∷ []) same
 take_there (s ∷ ts) (suc at) t there = ap (λ l. s ∷ l) (take_there ts at t there)

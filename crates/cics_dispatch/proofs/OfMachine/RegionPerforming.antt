@@ -1,16 +1,17 @@
 -- The commands of the tasks of a region: what their checks tell, and what they answer.
-use Rattle.std.specs.Prelude.{◌≡◌, ℕ, ◌<◌, ◌≤◌, ◌&&◌, if◌then◌else◌, Bool, true, false, Option, Some, None, is_some, is_none, Result, Ok, Err, OnErr, IsErr, IsErrAnd, length, slice_get, take, [], ◌∷◌, refl}
+use Rattle.std.specs.Prelude.{◌≡◌, ℕ, ◌<◌, ◌≤◌, ◌&&◌, if◌then◌else◌, Bool, true, false, Option, Some, None, option_map, is_some, is_none, Result, Ok, Err, OnErr, IsErr, IsErrAnd, length, slice_get, take, [], ◌∷◌, refl}
 use Rattle.std.specs.Option.{option_copied}
 use Rattle.std.proofs.Common.{Bor, ◌∙◌, sym, ap, subst}
 use Rattle.std.proofs.lemmas.Bool.{false≢true}
 use Rattle.cics_names.specs.Keyed.{Bytes, value_at}
-use Rattle.cics_names.specs.declared.conditions.Condition.{Condition}
+use Rattle.cics_dispatch.specs.declared.machine.reasons.Reason.{Reason}
 use Rattle.cics_browse.specs.Positions.{Position}
 use Rattle.cics_ksds.specs.declared.definition.FileDef.{FileDef}
 use Rattle.cics_history.specs.declared.ops.Op.{Op}
 use Rattle.cics_dispatch.specs.Machine.Machine.{Machine, Task, RegionValue, definition_of, task_at, is_waiting}
-use Rattle.cics_dispatch.specs.Machine.Lengths.{first_fault, key_fault}
-use Rattle.cics_dispatch.specs.Machine.Checks.{file_fault, named_fault, defined_fault, browse_fault, back_fault, fault_of, open_key}
+use Rattle.cics_dispatch.specs.Machine.Reasons.{condition_of}
+use Rattle.cics_dispatch.specs.Machine.Lengths.{first_reason, key_reason}
+use Rattle.cics_dispatch.specs.Machine.Checks.{file_reason, named_reason, defined_reason, browse_reason, back_reason, reason_of, fault_of, reason_by, reason_for, open_key}
 use Rattle.cics_names.specs.Commands.{file_named}
 use Rattle.cics_dispatch.specs.Machine.Steps.{Stepped, with_outcome, op_of, by_op, performed, checked, issue_refusal, refused_or, issued_by, issued}
 use Rattle.cics_dispatch.specs.Machine.Calls.{MayPerform, IsAwake, HasBrowse}
@@ -71,16 +72,16 @@ module _ (m : Machine) (label : Bytes) (c : Command) (t : Task) (is : task_at m.
       ∙ ap (λ r. (refused_or m r (checked m t c (fault_of m t c.verb))).outcome) (sym (ap (issue_refusal m) is) ∙ refusal false true has waiting)
 
   -- of a task that goes on it is checked
-  pub issued_checked : (fault : Option Condition) → t.has_ended ≡ false → is_waiting m.waiting label ≡ false → fault_of m t c.verb ≡ fault →
-      issued m label c ≡ refused_or m None (checked m t c fault)
-  issued_checked fault has waiting checks =
+  pub issued_checked : (reason : Option Reason) → t.has_ended ≡ false → is_waiting m.waiting label ≡ false → reason_of m t c.verb ≡ reason →
+      issued m label c ≡ refused_or m None (checked m t c (option_map condition_of reason))
+  issued_checked reason has waiting checks =
       ap (issued_by m c) is
-      ∙ (λ i. refused_or m ((sym (ap (issue_refusal m) is) ∙ refusal false false has waiting) i) (checked m t c (checks i)))
+      ∙ (λ i. refused_or m ((sym (ap (issue_refusal m) is) ∙ refusal false false has waiting) i) (checked m t c (option_map condition_of (checks i))))
 
   -- and it may want memory if it takes some and its checks have passed
-  pub wants_memory : t.has_ended ≡ false → is_waiting m.waiting label ≡ false → fault_of m t c.verb ≡ None → is_growing c.verb ≡ true → may_want m label c ≡ true
+  pub wants_memory : t.has_ended ≡ false → is_waiting m.waiting label ≡ false → reason_of m t c.verb ≡ None → is_growing c.verb ≡ true → may_want m label c ≡ true
   wants_memory has waiting passes grows =
-      (λ i. is_none (refusal false false has waiting i) && grows i && (ap (passes_checks m c.verb) is ∙ ap is_none passes) i)
+      (λ i. is_none (refusal false false has waiting i) && grows i && (ap (passes_checks m c.verb) is ∙ ap (λ r. is_none (option_map condition_of r)) passes) i)
 
 -- the task of a command that is issued is found at its place, hasn't ended, and waits or doesn't
 pub record IsIssuedTo (m : Machine) (label : Bytes) (at : ℕ) (t : Task) (waits : Bool) : Type 0 where
@@ -104,11 +105,16 @@ issued_awake m label at t to = λ s here.
     ap (λ x. is_waiting m.waiting x.label) (one_task m.tasks at here to.there) ∙ ap (is_waiting m.waiting) (place_of_task m.tasks label t to.of_label).2 ∙ to.waiting
 
 -- what comes of its command is the step's
-pub issued_told : (m : Machine) (label : Bytes) (c : Command) (at : ℕ) (t : Task) (fault : Option Condition) (x : Outcome) (new : Machine) → IsIssuedTo m label at t false → fault_of m t c.verb ≡ fault →
-    with_outcome x new ≡ checked m t c fault → ((issued m label c).outcome ≡ Ok x) × (new ≡ (issued m label c).machine)
-issued_told m label c at t fault x new to checks told =
-    let step = issued_checked m label c t to.of_label fault to.goes_on to.waiting checks in
+pub issued_told : (m : Machine) (label : Bytes) (c : Command) (at : ℕ) (t : Task) (reason : Option Reason) (x : Outcome) (new : Machine) → IsIssuedTo m label at t false → reason_of m t c.verb ≡ reason →
+    with_outcome x new ≡ checked m t c (option_map condition_of reason) → ((issued m label c).outcome ≡ Ok x) × (new ≡ (issued m label c).machine)
+issued_told m label c at t reason x new to checks told =
+    let step = issued_checked m label c t to.of_label reason to.goes_on to.waiting checks in
     (ap (λ s. s.outcome) step ∙ ap (λ s. Ok s.outcome) (sym told), ap (λ s. s.machine) told ∙ ap (λ s. s.machine) (sym step))
+
+-- and so is the check that fails
+pub told_reason : (m : Machine) (label : Bytes) (verb : Verb) (at : ℕ) (t : Task) (reason : Option Reason) → IsIssuedTo m label at t false → reason_of m t verb ≡ reason →
+    reason ≡ reason_for m label verb
+told_reason m label verb at t reason to checks = sym checks ∙ ap (reason_by m verb) (sym to.of_label)
 
 -- a refusal for want of memory, which may come and changes nothing, is the step's
 pub refused_memory : {X : Type 0} (wants : Bool) (old : RegionValue) (s : Stepped (Result X Refused)) (r : Result X Refused) (new : RegionValue) →
@@ -119,11 +125,11 @@ refused_memory wants old s (Err e) new is may same = subst (λ e. IsStep wants o
 -- ---- A command that updates nothing
 
 -- the file of a command whose checks have passed is defined
-pub file_there : (m : Machine) (t : Task) (verb : Verb) (f : Bytes) → file_named verb ≡ Some f → fault_of m t verb ≡ None →
+pub file_there : (m : Machine) (t : Task) (verb : Verb) (f : Bytes) → file_named verb ≡ Some f → reason_of m t verb ≡ None →
     is_some (definition_of m f) ≡ true
-file_there m t verb f named passes = by (definition_of m f) (subst (λ o. named_fault m t verb o ≡ None) named passes)
+file_there m t verb f named passes = by (definition_of m f) (subst (λ o. named_reason m t verb o ≡ None) named passes)
   where
-    by : (o : Option FileDef) → defined_fault o (λ d. file_fault d (open_key m t f) (value_at f t.browses) verb) ≡ None → is_some o ≡ true
+    by : (o : Option FileDef) → defined_reason o (λ d. file_reason d (open_key m t f) (value_at f t.browses) verb) ≡ None → is_some o ≡ true
     by None e = cc
     by (Some d) e = refl
 
@@ -135,30 +141,30 @@ moves_browse (ReadPrev f n) = true
 moves_browse _ = false
 
 -- the browse of one whose checks have passed is open
-pub browse_there : (m : Machine) (t : Task) (verb : Verb) (f : Bytes) → file_named verb ≡ Some f → moves_browse verb ≡ true → fault_of m t verb ≡ None →
+pub browse_there : (m : Machine) (t : Task) (verb : Verb) (f : Bytes) → file_named verb ≡ Some f → moves_browse verb ≡ true → reason_of m t verb ≡ None →
     is_some (value_at f t.browses) ≡ true
-browse_there m t verb f named moves passes = by (definition_of m f) (subst (λ o. named_fault m t verb o ≡ None) named passes)
+browse_there m t verb f named moves passes = by (definition_of m f) (subst (λ o. named_reason m t verb o ≡ None) named passes)
   where
-    last : (fault : Option Condition) (browse : Option Position) → first_fault (fault ∷ browse_fault browse ∷ []) ≡ None → is_some browse ≡ true
-    last (Some condition) browse e = cc
+    last : (key : Option Reason) (browse : Option Position) → first_reason (key ∷ browse_reason browse ∷ []) ≡ None → is_some browse ≡ true
+    last (Some reason) browse e = cc
     last None None e = cc
     last None (Some p) e = refl
 
-    unless_open : (browse : Option Position) → browse_fault browse ≡ None → is_some browse ≡ true
+    unless_open : (browse : Option Position) → browse_reason browse ≡ None → is_some browse ≡ true
     unless_open None e = cc
     unless_open (Some p) e = refl
 
-    back : (browse : Option Position) → back_fault browse ≡ None → is_some browse ≡ true
+    back : (browse : Option Position) → back_reason browse ≡ None → is_some browse ≡ true
     back None e = cc
     back (Some p) e = refl
 
-    moving : (d : FileDef) (v : Verb) (browse : Option Position) → moves_browse v ≡ true → file_fault d (open_key m t f) browse v ≡ None → is_some browse ≡ true
-    moving d (ResetBr g key given generic equal) browse moves e = last (key_fault d key given generic) browse e
+    moving : (d : FileDef) (v : Verb) (browse : Option Position) → moves_browse v ≡ true → file_reason d (open_key m t f) browse v ≡ None → is_some browse ≡ true
+    moving d (ResetBr g key given generic equal) browse moves e = last (key_reason d key given generic) browse e
     moving d (ReadNext g n) browse moves e = unless_open browse e
     moving d (ReadPrev g n) browse moves e = back browse e
     moving d v browse moves e = cc
 
-    by : (o : Option FileDef) → defined_fault o (λ d. file_fault d (open_key m t f) (value_at f t.browses) verb) ≡ None → is_some (value_at f t.browses) ≡ true
+    by : (o : Option FileDef) → defined_reason o (λ d. file_reason d (open_key m t f) (value_at f t.browses) verb) ≡ None → is_some (value_at f t.browses) ≡ true
     by None e = cc
     by (Some d) e = moving d verb (value_at f t.browses) moves e
 
@@ -172,9 +178,9 @@ module _ (m : Machine) (at : ℕ) (verb : Verb) (f : Bytes) where
   browse_of may named moves = λ t there. browse_there m t verb f named moves (may.passed t there)
 
 -- LENGTH of a DEQ whose checks have passed
-pub deq_count : (m : Machine) (t : Task) (verb : Verb) (value : Bytes) (n : ℕ) → verb ≡ Deq value n → fault_of m t verb ≡ None →
+pub deq_count : (m : Machine) (t : Task) (verb : Verb) (value : Bytes) (n : ℕ) → verb ≡ Deq value n → reason_of m t verb ≡ None →
     (1 ≤ n) × (n ≤ 255) × (n ≤ length value)
-deq_count m t verb value n is passes = value_within value n (subst (λ v. fault_of m t v ≡ None) is passes)
+deq_count m t verb value n is passes = value_within value n (subst (λ v. reason_of m t v ≡ None) is passes)
 
 -- and the value that it names, no longer than it may be
 pub deq_fits : (m : Machine) (at : ℕ) (verb : Verb) (value : Bytes) (n : ℕ) (bytes : Bytes) → at < length m.tasks → MayPerform m at verb → verb ≡ Deq value n → bytes ≡ value →

@@ -1,7 +1,13 @@
 -- Task control: the unit of a task, and the task whose unit blocks a waiting command now.
-use Rattle.std.specs.Prelude.{ℕ, suc, if◌then◌else◌, Option, Some, None, option_map, slice_get, List, [], ◌∷◌}
+use Rattle.std.specs.Prelude.{ℕ, suc, Bool, false, if◌then◌else◌, Option, Some, None, option_map, option_and_then, slice_get, List, [], ◌∷◌}
+use Rattle.std.specs.List.{filter_map}
+use Rattle.std.specs.Option.{option_to_list}
 use Rattle.cics_names.specs.Keyed.{Bytes, is_same}
 use Rattle.cics_names.specs.declared.commands.Command.{Command}
+use Rattle.cics_history.specs.State.{UnitsState}
+use Rattle.cics_history.specs.declared.ops.Op.{Op}
+use Rattle.cics_history.specs.declared.ops.Op.TheVariants.{DeleteGeneric, TdDelete}
+use Rattle.cics_units.specs.Blocking.{is_in_way}
 use Rattle.cics_dispatch.specs.Machine.Machine.{Machine, Task, Suspended, task_at, label_of}
 use Rattle.cics_dispatch.specs.Machine.Tasks.{had_by, own_unit}
 use Rattle.cics_dispatch.specs.Machine.Waits.{wait_of}
@@ -28,6 +34,35 @@ awaited_at m label = awaited_of m (wait_of m.waiting label) (task_at m.tasks lab
 -- the label of the task whose unit blocks the waiting command of a label's task now
 abbrev pub blocker_of : Machine → Bytes → Option Bytes
 blocker_of m label = option_map (label_of m.tasks) (awaited_at m label)
+
+-- the command, if it may wait for more than one unit: DELETE GENERIC or DELETEQ TD
+abbrev pub shared : Option Op → Option Op
+shared (Some (DeleteGeneric f p)) = Some (DeleteGeneric f p)
+shared (Some (TdDelete q)) = Some (TdDelete q)
+shared _ = None
+
+-- the waiting command of a label's task, if it may wait for more than one unit
+abbrev pub shared_op : Machine → Bytes → Option Op
+shared_op m label = option_and_then (λ w. shared w.op) (wait_of m.waiting label)
+
+-- a task has a unit that is in the way of a command
+abbrev pub has_in_way : UnitsState → Option ℕ → Op → Option ℕ → Bool
+has_in_way s asking op None = false
+has_in_way s asking op (Some v) = is_in_way s asking op v
+
+-- the label of a task whose unit is in the way of a command
+abbrev pub label_in_way : UnitsState → Option ℕ → Op → Task → Option Bytes
+label_in_way s asking op t = if has_in_way s asking op t.unit then Some t.label else None
+
+-- whom a label's task waits for, if its command may wait for more than one unit, and else
+abbrev pub blockers_by : Machine → Bytes → Option Op → List Bytes
+blockers_by m label None = option_to_list (blocker_of m label)
+blockers_by m label (Some op) = filter_map (label_in_way m.units (unit_of m label) op) m.tasks
+
+-- the blockers of a label's task: the tasks whose units are in the way of its waiting command, in
+-- the order of attach. The command may resume if there is none
+abbrev pub blockers_of : Machine → Bytes → List Bytes
+blockers_of m label = blockers_by m label (shared_op m label)
 
 -- the label of the task of a number, which counts from 0 in the order of attach
 abbrev pub label_at : List Task → ℕ → Option Bytes

@@ -10,7 +10,7 @@ use Rattle.cics_history.specs.Records.{key_of}
 use Rattle.cics_history.specs.declared.ops.Op.{Op}
 use Rattle.cics_dispatch.specs.Machine.Machine.{Machine, Task, RegionValue, is_waiting, records_in, replaced}
 use Rattle.cics_dispatch.specs.Machine.Browses.{read_on, after_read_on}
-use Rattle.cics_dispatch.specs.Machine.Checks.{fault_of}
+use Rattle.cics_dispatch.specs.Machine.Checks.{reason_of}
 use Rattle.cics_dispatch.specs.Machine.Replies.{read_told}
 use Rattle.cics_dispatch.specs.Machine.Steps.{Stepped, with_outcome, answered, browsed, by_op, busy_of, made_to_wait, op_of, ts_read}
 use Rattle.cics_dispatch.specs.Machine.Waking.{awaited_by}
@@ -47,7 +47,7 @@ HasReady m at verb o = OfTask m.tasks at (λ t. IsReady m.units t.unit verb o)
 -- updating command, if any, has a key of at most 255 bytes
 pub record MayPerform (m : Machine) (at : ℕ) (verb : Verb) : Type 0 where
   pub awake : IsAwake m at
-  pub passed : OfTask m.tasks at (λ t. fault_of m t verb ≡ None)
+  pub passed : OfTask m.tasks at (λ t. reason_of m t verb ≡ None)
   pub short : OfTask m.tasks at (λ t. IfSome (op_of m t verb) (λ o. length (key_of o) ≤ 255))
 
 -- whether a verb is READ or UNLOCK

@@ -1,37 +1,39 @@
 -- The checks of a command before it looks at what other units own. The order is: the file or queue
 -- that it names is defined; the length of its key; the length of its FROM or RESOURCE; the update
--- read and the browse of its task; the key in its record. The first check that fails is answered,
--- and takes no memory.
-use Rattle.std.specs.Prelude.{ℕ, Bool, not, ◌&&◌, ◌||◌, Option, Some, None, is_some, is_none, nat_le, length, [], ◌∷◌}
+-- read and the browse of its task; the key in its record. The first check that fails is answered by
+-- its condition, and takes no memory.
+use Rattle.std.specs.Prelude.{ℕ, Bool, not, ◌&&◌, ◌||◌, Option, Some, None, option_map, is_some, is_none, nat_le, length, [], ◌∷◌}
 use Rattle.cics_names.specs.Commands.{file_named}
 use Rattle.cics_names.specs.Keyed.{Bytes, value_at, has_key}
 use Rattle.cics_names.specs.declared.conditions.Condition.{Condition}
-use Rattle.cics_names.specs.declared.conditions.Condition.TheVariants.{Dsiderr, Invreq, Lengerr, Qiderr}
 use Rattle.cics_ksds.specs.declared.definition.FileDef.{FileDef}
 use Rattle.cics_browse.specs.Positions.{Position}
 use Rattle.cics_history.specs.Execution.{has_read, is_item}
-use Rattle.cics_dispatch.specs.Machine.Lengths.{fault_unless, first_fault, key_fault, is_within, used_of, from_fault, own_key_fault, write_fault}
-use Rattle.cics_dispatch.specs.Machine.Machine.{Machine, Task, definition_of}
+use Rattle.cics_dispatch.specs.Machine.Lengths.{unless, first_reason, key_reason, is_within, used_of, from_reason, own_key_reason, write_reason}
+use Rattle.cics_dispatch.specs.Machine.Machine.{Machine, Task, task_at, definition_of}
+use Rattle.cics_dispatch.specs.Machine.Reasons.{condition_of}
+use Rattle.cics_dispatch.specs.declared.machine.reasons.Reason.{Reason}
+use Rattle.cics_dispatch.specs.declared.machine.reasons.Reason.TheVariants.{FileNotDefined, QueueNotDefined, UpdateNotByKey, PrefixEmpty, NoRidfld, LengthNotInFrom, ItemSize, ValueSize, ValueTooShort, UpdateReadOpen, NoUpdateRead, KeyIsNotRead, BrowseOpen, NoBrowse, BrowseIsGeneric}
 use Rattle.cics_names.specs.declared.commands.Verb.{Verb}
 use Rattle.cics_names.specs.declared.commands.Verb.TheVariants.{Read, Write, Rewrite, Delete, StartBr, ResetBr, ReadNext, ReadPrev, EndBr, WriteqTs, WriteqTd, ReadqTd, DeleteqTd, Enq, Deq}
 
--- a file that isn't defined is DSIDERR, before every other check
-abbrev pub defined_fault : Option FileDef → (FileDef → Option Condition) → Option Condition
-defined_fault None check = Some Dsiderr
-defined_fault (Some d) check = check d
+-- the file is defined, before every other check
+abbrev pub defined_reason : Option FileDef → (FileDef → Option Reason) → Option Reason
+defined_reason None check = Some FileNotDefined
+defined_reason (Some d) check = check d
 
--- a transient data queue that isn't defined is QIDERR, before every other check
-abbrev pub queue_fault : Machine → Bytes → Option Condition
-queue_fault m q = fault_unless (has_key q m.units.opening.queues) Qiderr
+-- the transient data queue is defined, before every other check
+abbrev pub queue_reason : Machine → Bytes → Option Reason
+queue_reason m q = unless (has_key q m.units.opening.queues) QueueNotDefined
 
--- an item or a transient data record is LENGERR if LENGTH isn't from 1 to that of FROM, or if it has
--- no byte or too many
-abbrev pub item_fault : Bytes → Option ℕ → Option Condition
-item_fault from n = fault_unless (is_within from n && is_item (used_of from n)) Lengerr
+-- an item or a transient data record: LENGTH is from 1 to the length of FROM, and it has a byte and
+-- not too many
+abbrev pub item_reason : Bytes → Option ℕ → Option Reason
+item_reason from n = first_reason (unless (is_within from n) LengthNotInFrom ∷ unless (is_item (used_of from n)) ItemSize ∷ [])
 
--- ENQ and DEQ: LENGTH is 1 to 255, and not above the length of the value as written, else LENGERR
-abbrev pub resource_fault : Bytes → ℕ → Option Condition
-resource_fault value n = fault_unless (nat_le 1 n && nat_le n 255 && nat_le n (length value)) Lengerr
+-- ENQ and DEQ: LENGTH is 1 to 255, and not above the length of the value as written
+abbrev pub resource_reason : Bytes → ℕ → Option Reason
+resource_reason value n = first_reason (unless (nat_le 1 n && nat_le n 255) ValueSize ∷ unless (nat_le n (length value)) ValueTooShort ∷ [])
 
 -- the key of the task's open update read of a file
 abbrev pub open_key : Machine → Task → Bytes → Option Bytes
@@ -39,89 +41,107 @@ open_key m t f = has_read m.units t.unit f
 
 -- READ: UPDATE without GTEQ and GENERIC; the length of its key; with UPDATE no open update read of
 -- the file
-abbrev pub read_fault : FileDef → Option Bytes → Bytes → Option ℕ → Bool → Bool → Bool → Option Condition
-read_fault d open_read key given generic gteq update =
-    first_fault (
-    fault_unless (not (update && (gteq || generic))) Invreq
-    ∷ key_fault d key given generic
-    ∷ fault_unless (not (update && is_some open_read)) Invreq
+abbrev pub read_reason : FileDef → Option Bytes → Bytes → Option ℕ → Bool → Bool → Bool → Option Reason
+read_reason d open_read key given generic gteq update =
+    first_reason (
+    unless (not (update && (gteq || generic))) UpdateNotByKey
+    ∷ key_reason d key given generic
+    ∷ unless (not (update && is_some open_read)) UpdateReadOpen
     ∷ []
     )
 
 -- REWRITE: the length of its record; an update read that is open; the key in the record is the one
 -- that was read
-abbrev pub rewrite_fault : FileDef → Option Bytes → Bytes → Option ℕ → Option Condition
-rewrite_fault d None from n = first_fault (from_fault d from n ∷ Some Invreq ∷ [])
-rewrite_fault d (Some key) from n = first_fault (from_fault d from n ∷ own_key_fault d key from n ∷ [])
+abbrev pub rewrite_reason : FileDef → Option Bytes → Bytes → Option ℕ → Option Reason
+rewrite_reason d None from n = first_reason (from_reason d from n ∷ Some NoUpdateRead ∷ [])
+rewrite_reason d (Some key) from n = first_reason (from_reason d from n ∷ own_key_reason d key from n KeyIsNotRead ∷ [])
 
 -- DELETE with RIDFLD: the length of its key, with GENERIC no fewer than one byte
-abbrev pub deleted_key_fault : FileDef → Bytes → Option ℕ → Bool → Option Condition
-deleted_key_fault d key given generic =
-    first_fault (key_fault d key given generic ∷ fault_unless (nat_le 1 (length key) || not generic) Invreq ∷ [])
+abbrev pub deleted_key_reason : FileDef → Bytes → Option ℕ → Bool → Option Reason
+deleted_key_reason d key given generic =
+    first_reason (key_reason d key given generic ∷ unless (nat_le 1 (length key) || not generic) PrefixEmpty ∷ [])
 
--- DELETE: with RIDFLD as above; without it neither KEYLENGTH nor GENERIC, and an open update read
-abbrev pub delete_fault : FileDef → Option Bytes → Option Bytes → Option ℕ → Bool → Option Condition
-delete_fault d open_read (Some key) given generic = deleted_key_fault d key given generic
-delete_fault d open_read None given generic = fault_unless (is_none given && not generic && is_some open_read) Invreq
+-- DELETE without RIDFLD: neither KEYLENGTH nor GENERIC, and an open update read
+abbrev pub deleted_read_reason : Option Bytes → Option ℕ → Bool → Option Reason
+deleted_read_reason open_read given generic =
+    first_reason (unless (is_none given && not generic) NoRidfld ∷ unless (is_some open_read) NoUpdateRead ∷ [])
+
+-- DELETE: with RIDFLD, or without it
+abbrev pub delete_reason : FileDef → Option Bytes → Option Bytes → Option ℕ → Bool → Option Reason
+delete_reason d open_read (Some key) given generic = deleted_key_reason d key given generic
+delete_reason d open_read None given generic = deleted_read_reason open_read given generic
 
 -- READNEXT, RESETBR and ENDBR: a browse of the file is open
-abbrev pub browse_fault : Option Position → Option Condition
-browse_fault browse = fault_unless (is_some browse) Invreq
+abbrev pub browse_reason : Option Position → Option Reason
+browse_reason browse = unless (is_some browse) NoBrowse
 
 -- READPREV: a browse of the file is open, whose last STARTBR or RESETBR had no GENERIC
-abbrev pub back_fault : Option Position → Option Condition
-back_fault None = Some Invreq
-back_fault (Some p) = fault_unless (not p.generic) Invreq
+abbrev pub back_reason : Option Position → Option Reason
+back_reason None = Some NoBrowse
+back_reason (Some p) = unless (not p.generic) BrowseIsGeneric
 
 -- STARTBR: the length of its key, then that no browse of the file is open
-abbrev pub startbr_fault : FileDef → Option Position → Bytes → Option ℕ → Bool → Option Condition
-startbr_fault d browse key given generic =
-    first_fault (key_fault d key given generic ∷ fault_unless (is_none browse) Invreq ∷ [])
+abbrev pub startbr_reason : FileDef → Option Position → Bytes → Option ℕ → Bool → Option Reason
+startbr_reason d browse key given generic =
+    first_reason (key_reason d key given generic ∷ unless (is_none browse) BrowseOpen ∷ [])
 
 -- RESETBR: the length of its key, then that a browse of the file is open
-abbrev pub resetbr_fault : FileDef → Option Position → Bytes → Option ℕ → Bool → Option Condition
-resetbr_fault d browse key given generic =
-    first_fault (key_fault d key given generic ∷ browse_fault browse ∷ [])
+abbrev pub resetbr_reason : FileDef → Option Position → Bytes → Option ℕ → Bool → Option Reason
+resetbr_reason d browse key given generic =
+    first_reason (key_reason d key given generic ∷ browse_reason browse ∷ [])
 
--- the first fault of a command of a browse, from the task's browse of the file
-abbrev pub browsing_fault : FileDef → Option Position → Verb → Option Condition
-browsing_fault d browse (StartBr f key given generic equal) = startbr_fault d browse key given generic
-browsing_fault d browse (ResetBr f key given generic equal) = resetbr_fault d browse key given generic
-browsing_fault d browse (ReadNext f n) = browse_fault browse
-browsing_fault d browse (ReadPrev f n) = back_fault browse
-browsing_fault d browse (EndBr f) = browse_fault browse
-browsing_fault d browse _ = None
+-- the first check that fails of a command of a browse, from the task's browse of the file
+abbrev pub browsing_reason : FileDef → Option Position → Verb → Option Reason
+browsing_reason d browse (StartBr f key given generic equal) = startbr_reason d browse key given generic
+browsing_reason d browse (ResetBr f key given generic equal) = resetbr_reason d browse key given generic
+browsing_reason d browse (ReadNext f n) = browse_reason browse
+browsing_reason d browse (ReadPrev f n) = back_reason browse
+browsing_reason d browse (EndBr f) = browse_reason browse
+browsing_reason d browse _ = None
 
--- the first fault of a command on a defined file, from the key of its open update read and the
--- task's browse of it
-abbrev pub file_fault : FileDef → Option Bytes → Option Position → Verb → Option Condition
-file_fault d open_read browse (Read f key given n generic gteq update) =
-    read_fault d open_read key given generic gteq update
-file_fault d open_read browse (Write f key given from n) = write_fault d key given from n
-file_fault d open_read browse (Rewrite f from n) = rewrite_fault d open_read from n
-file_fault d open_read browse (Delete f key given generic) = delete_fault d open_read key given generic
-file_fault d open_read browse verb = browsing_fault d browse verb
+-- the first check that fails of a command on a defined file, from the key of its open update read
+-- and the task's browse of it
+abbrev pub file_reason : FileDef → Option Bytes → Option Position → Verb → Option Reason
+file_reason d open_read browse (Read f key given n generic gteq update) =
+    read_reason d open_read key given generic gteq update
+file_reason d open_read browse (Write f key given from n) = write_reason d key given from n
+file_reason d open_read browse (Rewrite f from n) = rewrite_reason d open_read from n
+file_reason d open_read browse (Delete f key given generic) = delete_reason d open_read key given generic
+file_reason d open_read browse verb = browsing_reason d browse verb
 
--- the fault of ENQ or DEQ
-abbrev pub value_fault : Verb → Option Condition
-value_fault (Enq value n nosuspend) = resource_fault value n
-value_fault (Deq value n) = resource_fault value n
-value_fault _ = None
+-- the check of ENQ or DEQ
+abbrev pub value_reason : Verb → Option Reason
+value_reason (Enq value n nosuspend) = resource_reason value n
+value_reason (Deq value n) = resource_reason value n
+value_reason _ = None
 
--- the first fault of a command that names no file
-abbrev pub other_fault : Machine → Verb → Option Condition
-other_fault m (WriteqTs q from n item) = item_fault from n
-other_fault m (WriteqTd q from n) = first_fault (queue_fault m q ∷ item_fault from n ∷ [])
-other_fault m (ReadqTd q n nosuspend) = queue_fault m q
-other_fault m (DeleteqTd q) = queue_fault m q
-other_fault m verb = value_fault verb
+-- the first check that fails of a command that names no file
+abbrev pub other_reason : Machine → Verb → Option Reason
+other_reason m (WriteqTs q from n item) = item_reason from n
+other_reason m (WriteqTd q from n) = first_reason (queue_reason m q ∷ item_reason from n ∷ [])
+other_reason m (ReadqTd q n nosuspend) = queue_reason m q
+other_reason m (DeleteqTd q) = queue_reason m q
+other_reason m verb = value_reason verb
 
--- the first fault of a command that names this file, or no file
-abbrev pub named_fault : Machine → Task → Verb → Option Bytes → Option Condition
-named_fault m t verb None = other_fault m verb
-named_fault m t verb (Some f) =
-    defined_fault (definition_of m f) (λ d. file_fault d (open_key m t f) (value_at f t.browses) verb)
+-- the first check that fails of a command that names this file, or no file
+abbrev pub named_reason : Machine → Task → Verb → Option Bytes → Option Reason
+named_reason m t verb None = other_reason m verb
+named_reason m t verb (Some f) =
+    defined_reason (definition_of m f) (λ d. file_reason d (open_key m t f) (value_at f t.browses) verb)
 
--- the first fault of a command
+-- the first check that fails of a command: why it is answered
+abbrev pub reason_of : Machine → Task → Verb → Option Reason
+reason_of m t verb = named_reason m t verb (file_named verb)
+
+-- the condition that answers it
 abbrev pub fault_of : Machine → Task → Verb → Option Condition
-fault_of m t verb = named_fault m t verb (file_named verb)
+fault_of m t verb = option_map condition_of (reason_of m t verb)
+
+-- the first check that fails of a command of this task, if there is such a task
+abbrev pub reason_by : Machine → Verb → Option Task → Option Reason
+reason_by m verb None = None
+reason_by m verb (Some t) = reason_of m t verb
+
+-- the first check that fails of a command of a label's task
+abbrev pub reason_for : Machine → Bytes → Verb → Option Reason
+reason_for m label verb = reason_by m verb (task_at m.tasks label)

@@ -1,7 +1,9 @@
 -- The events of a region: what each request, and each turn of draining, leads to.
 use Rattle.std.specs.Prelude.{◌≡◌, ℕ, zero, suc, Bool, false, List, [], ◌∷◌, length, Option, Some, None, Result, Ok, Err}
 use Rattle.cics_names.specs.Keyed.{Bytes}
+use Rattle.cics_names.specs.declared.commands.Command.{Command}
 use Rattle.cics_dispatch.specs.Machine.Machine.{Machine, Task, task_at}
+use Rattle.cics_dispatch.specs.Machine.Checks.{reason_for}
 use Rattle.cics_dispatch.specs.Machine.Steps.{Stepped, attached, issued}
 use Rattle.cics_dispatch.specs.Machine.Waking.{clock_set, woken, expired}
 use Rattle.cics_dispatch.specs.Machine.Shutdown.{unless_down, shut_down}
@@ -11,6 +13,7 @@ use Rattle.cics_dispatch.specs.declared.machine.events.Subject.{Subject}
 use Rattle.cics_dispatch.specs.declared.machine.events.Subject.TheVariants as subject
 use Rattle.cics_dispatch.specs.declared.machine.events.Event.{Event}
 use Rattle.cics_dispatch.specs.declared.machine.events.Event.TheVariants as event
+use Rattle.cics_dispatch.specs.declared.machine.outcomes.Outcome.{Outcome}
 use Rattle.cics_dispatch.specs.declared.machine.outcomes.Woken.{Woken}
 use Rattle.cics_dispatch.specs.declared.machine.outcomes.Expired.{Expired}
 use Rattle.cics_dispatch.specs.declared.machine.outcomes.Refused.{Refused}
@@ -31,12 +34,17 @@ happened m who told (Err e) next = record { event = event.Refused who e; machine
 abbrev pub told_by : {X : Type 0} → Machine → Subject → (X → Event) → Stepped (Result X Refused) → Happened
 told_by m who told step = let s = unless_down m step in happened m who told s.outcome s.machine
 
+-- a command was issued, with this outcome, and failed this check or none
+abbrev pub issued_event : Machine → Bytes → Command → Outcome → Event
+issued_event m label c outcome = event.Issued label outcome (reason_for m label c.verb)
+
 -- what a request leads to
 abbrev pub played : Machine → Request → Happened
 played m (request.Attach label transaction dtimout) =
     told_by m (subject.Task label) (λ _. event.Attached label transaction) (attached m label dtimout)
 played m (request.Clock seconds) = told_by m subject.Clock (λ _. event.ClockSet seconds) (clock_set m seconds)
-played m (request.Issue label command) = told_by m (subject.Task label) (event.Issued label) (issued m label command)
+played m (request.Issue label command) =
+    told_by m (subject.Task label) (issued_event m label command) (issued m label command)
 played m request.Shutdown = told_by m subject.Shutdown event.ShutDown (shut_down m)
 
 -- ---- Draining

@@ -7,14 +7,14 @@ use Rattle.cics_history.specs.declared.ops.Op.{Op}
 use Rattle.cics_names.specs.declared.commands.Verb.{Verb}
 use Rattle.cics_names.specs.declared.commands.Verb.TheVariants.{Enq}
 use Rattle.cics_dispatch.specs.Machine.Machine.{Machine, Task, Suspended, task_at}
-use Rattle.cics_dispatch.specs.Machine.Checks.{resource_fault}
+use Rattle.cics_dispatch.specs.Machine.Checks.{resource_reason}
 use Rattle.cics_dispatch.specs.Machine.Tasks.{own_label, own_unit, IsOwn}
 
 -- a command that may have to wait is ready: its updating command can be executed once nothing
 -- blocks it, or it is an ENQ whose LENGTH is right
 abbrev pub IsReady : UnitsState → Option ℕ → Verb → Option Op → Type 0
 IsReady s asking verb (Some o) = is_ready_op s asking o ≡ true
-IsReady s asking (Enq value n nosuspend) None = resource_fault value n ≡ None
+IsReady s asking (Enq value n nosuspend) None = resource_reason value n ≡ None
 IsReady s asking _ None = ⊥
 
 -- a waiting command is of a task, and is ready

@@ -1,64 +1,91 @@
-//! The circles of a graph in which each task waits for at most one other.
+//! The circles in which tasks of a graph wait for each other, and the tasks that are in deadlocks.
 
-ghost use Rattle.std.specs.Prelude.{◌≡◌, IfOk};
-ghost use Rattle.cics_dispatch.specs.Deadlocks.Circles.{next_of, waiting_count, way_back, circles};
+ghost use Rattle.std.specs.Prelude.{◌≡◌, ◌≤◌, ◌&&◌, length, IfOk, All};
+ghost use Rattle.cics_dispatch.specs.Deadlocks.Searches.{circles, led_back};
+ghost use Rattle.cics_dispatch.specs.Deadlocks.Marks.{is_least_by};
 
+use crate::deadlocks::searches::{Found, search, way_back};
 use cics_names::{Items, NoMemory};
 use std::alloc::Global;
 
-// Returns the task that a task waits for, if it waits.
-fn next_of(waits_for: &[Option<usize>], at: usize) -> Option<usize>
-    ensures { result ≡ next_of waits_for.now at }
+// Returns the marks of no search.
+fn no_marks(alloc: Global, count: usize) -> Result<Vec<usize>, NoMemory>
+    ensures len { IfOk result (λ marks. length marks.items ≡ count) }
+    ensures none { IfOk result (λ marks. All (λ mark. mark ≤ 0) marks.items) }
 {
-    *waits_for.get(at)?
-}
-
-// Returns the circle whose least number is `first`, if there is one of at most `most` tasks.
-fn circle_from(
-    alloc: Global,
-    waits_for: &[Option<usize>],
-    first: usize,
-    most: usize,
-) -> Result<Option<Items<usize>>, NoMemory>
-    ensures { IfOk result (λ circle. circle ≡ way_back waits_for.now most first first) }
-{
-    let mut circle = Items::new(alloc);
-    let mut at = first;
-    for _step in 0..most {
-        let Some(next) = next_of(waits_for, at) else {
-            return Ok(None);
-        };
-        if next < first {
-            return Ok(None);
-        }
-        circle.push(at)?;
-        if next == first {
-            return Ok(Some(circle));
-        }
-        at = next;
+    let mut marks = Vec::new(alloc);
+    for _task in 0..count {
+        marks.push(0)?;
     }
-    Ok(None)
+    Ok(marks)
 }
 
-/// Returns the circles of a graph, each once, in the order of their first tasks.
-///
-/// `waits_for` has for each task, by its number, the number of the task that it waits for. `most`
-/// is the number of tasks that wait.
-///
-/// Cost: O(w * w), w the number of tasks that wait, beside O(tasks).
-pub fn circles(
+// Returns whether of all tasks that lead to each other this one is the first. `found` is what the
+// search from it has found, and `is_back` whether that led back to it.
+//
+// If a task leads back to itself, and to another one, that one leads to it exactly if searches from
+// both find as much.
+fn is_first(is_back: bool, found: &[Found], sizes: &[usize], first: usize) -> bool
+    requires { first ≤ length sizes.now }
+    ensures { result ≡ (is_back && is_least_by sizes.now first found.now) }
+{
+    if !is_back {
+        return false;
+    }
+    for other in found {
+        if other.task < first && sizes[other.task] == found.len() {
+            return false;
+        }
+    }
+    true
+}
+
+// Returns a circle of each deadlock of a graph. No search has marked any task.
+fn circles_by(
     alloc: Global,
-    waits_for: &[Option<usize>],
-    most: usize,
+    graph: &[Items<usize>],
+    marks: &mut [usize],
 ) -> Result<Items<Items<usize>>, NoMemory>
-    requires most { most ≡ waiting_count waits_for.now }
-    ensures circles { IfOk result (λ found. found ≡ circles waits_for.now) }
+    requires len { length marks.old ≡ length graph.now }
+    requires none { All (λ mark. mark ≤ 0) marks.old }
+    ensures { IfOk result (λ found. found ≡ circles graph.now) }
 {
-    let mut found = Items::new(alloc);
-    for first in 0..waits_for.len() {
-        if let Some(circle) = circle_from(alloc, waits_for, first, most)? {
-            found.push(circle)?;
+    let mut all = Items::new(alloc);
+    let mut found = Vec::new(alloc);
+    let mut sizes = Vec::new(alloc);
+    for first in 0..graph.len() {
+        let is_back = search(&mut found, marks, graph, first)?;
+        if is_first(is_back, found.as_slice(), sizes.as_slice(), first) {
+            all.push(way_back(alloc, found.as_slice(), first)?)?;
         }
+        sizes.push(found.len())?;
     }
-    Ok(found)
+    Ok(all)
+}
+
+/// Returns a circle of each deadlock of a graph, in the order of their first tasks.
+///
+/// `graph` has for each task, by its number, the numbers of the tasks that it waits for.
+///
+/// Cost: O(w * (w + s)) beside O(tasks), w the number of tasks that wait, s of steps.
+pub fn circles(alloc: Global, graph: &[Items<usize>]) -> Result<Items<Items<usize>>, NoMemory>
+    ensures { IfOk result (λ found. found ≡ circles graph.now) }
+{
+    let mut marks = no_marks(alloc, graph.len())?;
+    circles_by(alloc, graph, marks.as_mut_slice())
+}
+
+/// Returns for each task of a graph whether it is in a deadlock: whether steps lead back to it.
+///
+/// Cost: that of `circles`.
+pub fn in_deadlock(alloc: Global, graph: &[Items<usize>]) -> Result<Items<bool>, NoMemory>
+    ensures { IfOk result (λ flags. flags ≡ led_back graph.now) }
+{
+    let mut flags = Items::new(alloc);
+    let mut found = Vec::new(alloc);
+    let mut marks = no_marks(alloc, graph.len())?;
+    for first in 0..graph.len() {
+        flags.push(search(&mut found, marks.as_mut_slice(), graph, first)?)?;
+    }
+    Ok(flags)
 }

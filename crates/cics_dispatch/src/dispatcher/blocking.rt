@@ -1,14 +1,19 @@
 //! The blockers of waiting commands, and the numbers of tasks.
 
-ghost use Rattle.std.specs.Prelude.{◌≡◌, IfSome, length};
-ghost use Rattle.cics_history.specs.Execution.{IsOpenUnit};
+ghost use Rattle.std.specs.Prelude.{◌≡◌, ◌<◌, true, IfOk, IfSome, length};
+ghost use Rattle.std.specs.List.{filter_map};
+ghost use Rattle.std.specs.Option.{option_to_list};
+ghost use Rattle.cics_history.specs.Execution.{IsOpenUnit, is_ready_op};
+ghost use Rattle.cics_dispatch.specs.Machine.Calls.{OfTask};
+ghost use Rattle.cics_dispatch.specs.Machine.Blockers.{unit_of, shared_op, label_in_way, blockers_of};
 ghost use Rattle.std.specs.Option.{option_copied};
 ghost use Rattle.cics_dispatch.specs.Machine.Blockers.{awaited_at, blocker_of, label_at, number_of};
 ghost use Rattle.cics_dispatch.specs.Machine.Blockers.{waiting_command};
 
 use crate::dispatcher::Dispatcher;
 use cics_history::UnitId;
-use cics_names::{Command, Name8};
+use cics_names::{Command, Items, Name8, NoMemory};
+use cics_units::Op;
 
 impl Dispatcher {
     /// Returns the command of a label's task that waits, if one does.
@@ -35,6 +40,76 @@ impl Dispatcher {
     {
         let unit = self.awaited_at(label)?;
         self.tasks.label_of(unit)
+    }
+
+    // Returns the waiting command of a label's task, if it may wait for more than one unit.
+    fn shared_op(&self, label: &Name8) -> Option<&Op>
+        ensures op { option_copied result ≡ shared_op self.now.machine label.now }
+        ensures ready { IfSome result (λ op. is_ready_op self.now.machine.units
+            (unit_of self.now.machine label.now) op.now ≡ true) }
+    {
+        let wait = self.waits.get(label)?;
+        match wait.op() {
+            Some(op) => match op {
+                Op::DeleteGeneric { .. } | Op::TdDelete { .. } => Some(op),
+                _ => None,
+            },
+            None => None,
+        }
+    }
+
+    // Returns the label of the task at an index, if its unit is in the way of a command.
+    fn label_in_way(&self, asking: &Option<UnitId>, op: &Op, at: usize) -> Option<Name8>
+        requires within { at < length self.now.machine.tasks }
+        requires ready { is_ready_op self.now.machine.units asking.now op.now ≡ true }
+        ensures { OfTask self.now.machine.tasks at (λ t. result
+            ≡ label_in_way self.now.machine.units asking.now op.now t) }
+    {
+        let task = self.tasks.get(at);
+        let unit = task.unit()?;
+        if self.units.is_in_way(unit, op, *asking) {
+            Some(task.label())
+        } else {
+            None
+        }
+    }
+
+    // Returns the labels of all tasks whose units are in the way of a command.
+    fn all_in_way(&self, asking: &Option<UnitId>, op: &Op) -> Result<Items<Name8>, NoMemory>
+        requires { is_ready_op self.now.machine.units asking.now op.now ≡ true }
+        ensures { IfOk result (λ labels. labels
+            ≡ filter_map (label_in_way self.now.machine.units asking.now op.now)
+            self.now.machine.tasks) }
+    {
+        let mut labels = Items::new(self.alloc);
+        for at in 0..self.tasks.len() {
+            if let Some(label) = self.label_in_way(asking, op, at) {
+                labels.push(label)?;
+            }
+        }
+        Ok(labels)
+    }
+
+    // Returns the blocker of a label's task, if there is one, as a list.
+    fn blocker_alone(&self, label: &Name8) -> Result<Items<Name8>, NoMemory>
+        ensures { IfOk result (λ labels. labels
+            ≡ option_to_list (blocker_of self.now.machine label.now)) }
+    {
+        let mut labels = Items::new(self.alloc);
+        if let Some(blocker) = self.blocker(label) {
+            labels.push(blocker)?;
+        }
+        Ok(labels)
+    }
+
+    /// Returns the labels of the tasks that block the waiting command of a label's task.
+    pub(crate) fn blockers(&self, label: &Name8) -> Result<Items<Name8>, NoMemory>
+        ensures { IfOk result (λ labels. labels ≡ blockers_of self.now.machine label.now) }
+    {
+        match self.shared_op(label) {
+            Some(op) => self.all_in_way(&self.unit_of(label), op),
+            None => self.blocker_alone(label),
+        }
     }
 
     /// Returns how many tasks were attached.

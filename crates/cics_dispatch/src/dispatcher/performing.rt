@@ -1,9 +1,10 @@
 //! The commands of the tasks of a region: issued, checked, and performed once the checks passed.
 
 ghost use Rattle.std.specs.Prelude.{◌≡◌, ◌<◌, true, false, None, is_some, length, slice_get};
-ghost use Rattle.std.specs.Prelude.{IsTrue, OnErr};
+ghost use Rattle.std.specs.Prelude.{IsTrue, IfOk, OnErr};
 ghost use Rattle.cics_names.specs.Commands.{file_named};
 ghost use Rattle.cics_dispatch.specs.Machine.Machine.{task_at, unit_closed, state_after};
+ghost use Rattle.cics_dispatch.specs.Machine.Checks.{reason_for};
 ghost use Rattle.cics_dispatch.specs.Machine.Steps.{op_of, code_of, performed, issued};
 ghost use Rattle.cics_dispatch.specs.Machine.Answers.{is_growing, may_want, IsStep};
 ghost use Rattle.cics_dispatch.specs.Machine.Replies.{plain};
@@ -14,7 +15,9 @@ ghost use Rattle.cics_dispatch.specs.Machine.Calls.{IsStepOrRefused, going_on, r
 ghost use Rattle.cics_dispatch.specs.Machine.Emptied.{whole};
 
 use crate::dispatcher::Dispatcher;
-use crate::machine::{Direction, Ending, Outcome, Refused, Start, plain_reply, take, take_op};
+use crate::machine::{
+    Direction, Ending, Outcome, Reason, Refused, Start, plain_reply, take, take_op,
+};
 use cics_names::{AbendCode, Command, Condition, Name4, Name8, NoMemory, Verb};
 use cics_units::Op;
 
@@ -181,15 +184,24 @@ impl Dispatcher {
     }
 
     /// Issues a command of the task of a label, which is at an index: it is answered, or it
-    /// waits, or its task ends.
+    /// waits, or its task ends. Writes `reason` if a check of the command fails.
     ///
     /// Errors, in this order: `TaskEnded`, `TaskWaiting`, and once the command's checks have passed
     /// `NoMemory`.
-    pub fn issue(&mut self, at: usize, label: Name8, command: Command) -> Result<Outcome, Refused>
+    pub fn issue(
+        &mut self,
+        at: usize,
+        label: Name8,
+        command: Command,
+        reason: &mut Option<Reason>,
+    ) -> Result<Outcome, Refused>
         requires task { slice_get self.old.machine.tasks at ≡ task_at self.old.machine.tasks label }
         requires within { at < length self.old.machine.tasks }
+        requires blank { reason.old ≡ None }
         ensures step { IsStep (may_want self.old.machine label command) self.old
             (issued self.old.machine label command) result self.new }
+        ensures reason { IfOk result (λ _. reason.new
+            ≡ reason_for self.old.machine label command.verb) }
         ensures kept { KeepsRegion self.old self.new }
     {
         if self.tasks.get(at).has_ended() {
@@ -199,8 +211,11 @@ impl Dispatcher {
             return Err(Refused::TaskWaiting);
         }
         let open_key = self.open_key(at, &command.verb);
-        match self.fault(at, &command.verb, open_key) {
-            Some(fault) => Ok(self.answer(at, command.resp, plain_reply(fault))),
+        match self.failed_check(at, &command.verb, open_key) {
+            Some(failed) => {
+                *reason = Some(failed);
+                Ok(self.answer(at, command.resp, plain_reply(failed.condition())))
+            }
             None => {
                 let mut command = command;
                 let op = take_op(self.alloc, &mut command.verb, open_key)?;

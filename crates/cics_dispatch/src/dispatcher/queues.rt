@@ -2,40 +2,40 @@
 
 ghost use Rattle.std.specs.Prelude.{◌≡◌, ◌<◌, length};
 ghost use Rattle.cics_names.specs.Commands.{length_of};
-ghost use Rattle.cics_dispatch.specs.Machine.Checks.{queue_fault, other_fault};
+ghost use Rattle.cics_dispatch.specs.Machine.Checks.{queue_reason, other_reason};
 ghost use Rattle.cics_dispatch.specs.Machine.Calls.{IsAwake, IsStepOrRefused, reading_item};
 
 use crate::dispatcher::Dispatcher;
-use crate::machine::{Outcome, item_fault, reply_of_item, value_fault};
-use cics_names::{Command, Condition, Name4, Name8, NoMemory, Verb};
+use crate::machine::{Outcome, Reason, item_reason, reply_of_item, value_reason};
+use cics_names::{Command, Name4, Name8, NoMemory, Verb};
 
 impl Dispatcher {
-    // Returns QIDERR if a transient data queue isn't defined.
-    fn queue_fault(&self, queue: &Name4) -> Option<Condition>
-        ensures { result ≡ queue_fault self.now.machine queue.now }
+    // Returns the check that fails if a transient data queue isn't defined.
+    fn queue_reason(&self, queue: &Name4) -> Option<Reason>
+        ensures { result ≡ queue_reason self.now.machine queue.now }
     {
         match self.units.td_recovery(queue) {
             Some(_) => None,
-            None => Some(Condition::Qiderr),
+            None => Some(Reason::QueueNotDefined),
         }
     }
 
-    // Returns the first fault of a command that names no file.
-    pub(super) fn other_fault(&self, verb: &Verb) -> Option<Condition>
-        ensures { result ≡ other_fault self.now.machine verb.now }
+    // Returns the first check that fails of a command that names no file.
+    pub(super) fn other_reason(&self, verb: &Verb) -> Option<Reason>
+        ensures { result ≡ other_reason self.now.machine verb.now }
     {
         match verb {
-            Verb::WriteqTs { from, length, .. } => item_fault(from.bytes(), *length),
+            Verb::WriteqTs { from, length, .. } => item_reason(from.bytes(), *length),
             Verb::WriteqTd {
                 queue,
                 from,
                 length,
-            } => match self.queue_fault(queue) {
-                Some(fault) => Some(fault),
-                None => item_fault(from.bytes(), *length),
+            } => match self.queue_reason(queue) {
+                Some(reason) => Some(reason),
+                None => item_reason(from.bytes(), *length),
             },
-            Verb::ReadqTd { queue, .. } | Verb::DeleteqTd { queue } => self.queue_fault(queue),
-            _ => value_fault(verb),
+            Verb::ReadqTd { queue, .. } | Verb::DeleteqTd { queue } => self.queue_reason(queue),
+            _ => value_reason(verb),
         }
     }
 

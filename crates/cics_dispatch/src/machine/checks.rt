@@ -1,25 +1,27 @@
 //! The checks of a command, before it looks at what other units own.
 
-ghost use Rattle.std.specs.Prelude.{◌≡◌, Some, None, if◌then◌else◌};
+ghost use Rattle.std.specs.Prelude.{◌≡◌, true, false, Some, None, IfOk, IfErr, IsTrue};
+ghost use Rattle.std.specs.Prelude.{if◌then◌else◌};
 ghost use Rattle.std.specs.Option.{option_copied};
-ghost use Rattle.cics_dispatch.specs.Machine.Lengths.{fault_unless, is_length_given, key_fault, is_within};
-ghost use Rattle.cics_dispatch.specs.Machine.Lengths.{used_of};
-ghost use Rattle.cics_dispatch.specs.Machine.Checks.{rewrite_fault, deleted_key_fault, browsing_fault};
-ghost use Rattle.cics_dispatch.specs.Machine.Checks.{file_fault, item_fault, resource_fault, value_fault};
+ghost use Rattle.cics_ksds.specs.Files.{fits_file};
+ghost use Rattle.cics_dispatch.specs.Machine.Lengths.{unless, is_length_given, key_reason};
+ghost use Rattle.cics_dispatch.specs.Machine.Lengths.{is_within, used_of, from_reason};
+ghost use Rattle.cics_dispatch.specs.Machine.Lengths.{written_reason};
+ghost use Rattle.cics_dispatch.specs.Machine.Checks.{read_reason, rewrite_reason};
+ghost use Rattle.cics_dispatch.specs.Machine.Checks.{deleted_key_reason, deleted_read_reason};
+ghost use Rattle.cics_dispatch.specs.Machine.Checks.{browsing_reason, file_reason};
+ghost use Rattle.cics_dispatch.specs.Machine.Checks.{item_reason, resource_reason, value_reason};
 
+use crate::machine::reasons::Reason;
 use cics_browse::Browse;
 use cics_ksds::FileDef;
-use cics_names::{Condition, Verb};
+use cics_names::Verb;
 
-// Returns INVREQ unless a check passes.
-fn invreq_unless(passes: bool) -> Option<Condition>
-    ensures { result ≡ fault_unless passes Condition.Invreq }
+// Returns the reason of a check unless it passes.
+fn unless(passes: bool, reason: Reason) -> Option<Reason>
+    ensures { result ≡ unless passes reason }
 {
-    if passes {
-        None
-    } else {
-        Some(Condition::Invreq)
-    }
+    if passes { None } else { Some(reason) }
 }
 
 // Returns whether KEYLENGTH, if it is given, is the length of the key as written.
@@ -32,23 +34,20 @@ fn is_length_given(given: Option<u64>, length: u64) -> bool
     }
 }
 
-// Returns INVREQ if KEYLENGTH isn't the key's length, or the key isn't as long as the file's keys.
-// A GENERIC key may be shorter.
-fn key_fault(
-    definition: FileDef,
-    key: &[u8],
-    given: Option<u64>,
-    generic: bool,
-) -> Option<Condition>
-    ensures { result ≡ key_fault definition key.now given generic }
+// Returns the first check that fails of a key: that KEYLENGTH is its length, and that it is as long
+// as the file's keys. A GENERIC key may be shorter.
+fn key_reason(definition: FileDef, key: &[u8], given: Option<u64>, generic: bool) -> Option<Reason>
+    ensures { result ≡ key_reason definition key.now given generic }
 {
     let length = key.len() as u64;
-    let is_of_file = if generic {
-        length <= definition.key_length
+    if !is_length_given(given, length) {
+        return Some(Reason::KeyLengthDiffers);
+    }
+    if generic {
+        unless(length <= definition.key_length, Reason::PrefixTooLong)
     } else {
-        length == definition.key_length
-    };
-    invreq_unless(is_length_given(given, length) && is_of_file)
+        unless(length == definition.key_length, Reason::KeySize)
+    }
 }
 
 // Returns the bytes of FROM that LENGTH uses. `None` if LENGTH isn't from 1 to their count.
@@ -68,47 +67,118 @@ fn used(from: &[u8], length: Option<u64>) -> Option<&[u8]>
     }
 }
 
-// Returns the first fault of a record that is to have a key: LENGERR for its length, then INVREQ if
-// the record has another key. If `key` is `None`, no update read of the file is open: INVREQ too.
-fn record_fault(
-    definition: FileDef,
-    key: Option<&[u8]>,
-    from: &[u8],
-    length: Option<u64>,
-) -> Option<Condition>
-    ensures { result ≡ rewrite_fault definition (option_copied key.entry) from.now length }
+// Returns the record that is written: the bytes of FROM that LENGTH uses.
+//
+// Errors: the first check that fails, of LENGTH and of the length of the record.
+fn record_of(definition: FileDef, from: &[u8], length: Option<u64>) -> Result<&[u8], Reason>
+    ensures content { IfOk result (λ content. content.now ≡ used_of from.now length) }
+    ensures fits { IfOk result (λ content. IsTrue (fits_file definition content.now)) }
+    ensures passes { IfOk result (λ _. from_reason definition from.now length ≡ None) }
+    ensures reason { IfErr result (λ reason. from_reason definition from.now length
+        ≡ Some reason) }
 {
     let Some(content) = used(from, length) else {
-        return Some(Condition::Lengerr);
+        return Err(Reason::LengthNotInFrom);
     };
-    if !definition.fits(content) {
-        return Some(Condition::Lengerr);
-    }
-    match key {
-        Some(key) if definition.key_in(content).cmp(key).is_eq() => None,
-        _ => Some(Condition::Invreq),
+    if definition.fits(content) {
+        Ok(content)
+    } else if content.len() as u64 <= definition.record_size {
+        Err(Reason::RecordTooShort)
+    } else {
+        Err(Reason::RecordTooLong)
     }
 }
 
-// Returns the fault of a DELETE with RIDFLD: INVREQ for the length of its key, which with GENERIC
-// is at least one byte.
-fn deleted_key_fault(
+// Returns the first check that fails of a REWRITE: of its record, that an update read is open, and
+// that the record has its key.
+fn rewrite_reason(
+    definition: FileDef,
+    open_key: Option<&[u8]>,
+    from: &[u8],
+    length: Option<u64>,
+) -> Option<Reason>
+    ensures { result ≡ rewrite_reason definition (option_copied open_key.entry) from.now length }
+{
+    let content = match record_of(definition, from, length) {
+        Ok(content) => content,
+        Err(reason) => return Some(reason),
+    };
+    match open_key {
+        Some(key) => unless(
+            definition.key_in(content).cmp(key).is_eq(),
+            Reason::KeyIsNotRead,
+        ),
+        None => Some(Reason::NoUpdateRead),
+    }
+}
+
+// Returns the first check that fails of a WRITE whose RIDFLD has the right length: of its record,
+// and that the record has its key.
+fn written_reason(
+    definition: FileDef,
+    key: &[u8],
+    from: &[u8],
+    length: Option<u64>,
+) -> Option<Reason>
+    ensures { result ≡ written_reason definition key.now from.now length }
+{
+    match record_of(definition, from, length) {
+        Ok(content) => unless(
+            definition.key_in(content).cmp(key).is_eq(),
+            Reason::KeyIsNotRidfld,
+        ),
+        Err(reason) => Some(reason),
+    }
+}
+
+// Returns the first check that fails of a READ UPDATE of a full key: of its key, and that no update
+// read of the file is open.
+fn update_reason(
+    definition: FileDef,
+    open_key: Option<&[u8]>,
+    key: &[u8],
+    given: Option<u64>,
+) -> Option<Reason>
+    ensures { result ≡ read_reason definition (option_copied open_key.entry) key.now given
+        false false true }
+{
+    match key_reason(definition, key, given, false) {
+        Some(reason) => Some(reason),
+        None => unless(open_key.is_none(), Reason::UpdateReadOpen),
+    }
+}
+
+// Returns the first check that fails of a DELETE with RIDFLD: of its key, which with GENERIC is at
+// least one byte.
+fn deleted_key_reason(
     definition: FileDef,
     key: &[u8],
     given: Option<u64>,
     generic: bool,
-) -> Option<Condition>
-    ensures { result ≡ deleted_key_fault definition key.now given generic }
+) -> Option<Reason>
+    ensures { result ≡ deleted_key_reason definition key.now given generic }
 {
-    match key_fault(definition, key, given, generic) {
-        Some(fault) => Some(fault),
-        None => invreq_unless(1 <= key.len() || !generic),
+    match key_reason(definition, key, given, generic) {
+        Some(reason) => Some(reason),
+        None => unless(1 <= key.len() || !generic, Reason::PrefixEmpty),
     }
 }
 
-// Returns the first fault of a command of a browse. None for every other command.
-fn browsing_fault(definition: FileDef, browse: Option<&Browse>, verb: &Verb) -> Option<Condition>
-    ensures { result ≡ browsing_fault definition (option_copied browse.entry) verb.now }
+// Returns the first check that fails of a DELETE without RIDFLD: that it has neither KEYLENGTH nor
+// GENERIC, and that an update read is open.
+fn deleted_read_reason(open_key: Option<&[u8]>, given: Option<u64>, generic: bool) -> Option<Reason>
+    ensures { result ≡ deleted_read_reason (option_copied open_key.entry) given generic }
+{
+    if given.is_none() && !generic {
+        unless(open_key.is_some(), Reason::NoUpdateRead)
+    } else {
+        Some(Reason::NoRidfld)
+    }
+}
+
+// Returns the first check that fails of a command of a browse. `None` for every other command.
+fn browsing_reason(definition: FileDef, browse: Option<&Browse>, verb: &Verb) -> Option<Reason>
+    ensures { result ≡ browsing_reason definition (option_copied browse.entry) verb.now }
 {
     match verb {
         Verb::StartBr {
@@ -116,43 +186,42 @@ fn browsing_fault(definition: FileDef, browse: Option<&Browse>, verb: &Verb) -> 
             key_length,
             generic,
             ..
-        } => match key_fault(definition, ridfld.bytes(), *key_length, *generic) {
-            Some(fault) => Some(fault),
-            None => invreq_unless(browse.is_none()),
+        } => match key_reason(definition, ridfld.bytes(), *key_length, *generic) {
+            Some(reason) => Some(reason),
+            None => unless(browse.is_none(), Reason::BrowseOpen),
         },
         Verb::ResetBr {
             ridfld,
             key_length,
             generic,
             ..
-        } => match key_fault(definition, ridfld.bytes(), *key_length, *generic) {
-            Some(fault) => Some(fault),
-            None => invreq_unless(browse.is_some()),
+        } => match key_reason(definition, ridfld.bytes(), *key_length, *generic) {
+            Some(reason) => Some(reason),
+            None => unless(browse.is_some(), Reason::NoBrowse),
         },
-        Verb::ReadNext { .. } | Verb::EndBr { .. } => invreq_unless(browse.is_some()),
+        Verb::ReadNext { .. } | Verb::EndBr { .. } => unless(browse.is_some(), Reason::NoBrowse),
         Verb::ReadPrev { .. } => match browse {
-            Some(browse) => invreq_unless(!browse.is_generic()),
-            None => Some(Condition::Invreq),
+            Some(browse) => unless(!browse.is_generic(), Reason::BrowseIsGeneric),
+            None => Some(Reason::NoBrowse),
         },
         _ => None,
     }
 }
 
-/// Returns the first fault of a command on a defined file, if it has one.
+/// Returns the first check that fails of a command on a defined file, if one does.
 ///
 /// `open_key` is the key of the task's open update read of the file, and `browse` its browse of it,
 /// each `None` if there is none.
 ///
-/// The faults come in this order: INVREQ for the options and the length of the key, then LENGERR
-/// for the length of FROM. Then comes INVREQ for the open update read and the browse, and last
-/// INVREQ if the record has another key.
-pub fn file_fault(
+/// The checks come in this order: the options and the length of the key, the length of FROM, the
+/// open update read and the browse, and last the key in the record.
+pub fn file_reason(
     definition: FileDef,
     open_key: Option<&[u8]>,
     browse: Option<&Browse>,
     verb: &Verb,
-) -> Option<Condition>
-    ensures { result ≡ file_fault definition (option_copied open_key.entry)
+) -> Option<Reason>
+    ensures { result ≡ file_reason definition (option_copied open_key.entry)
         (option_copied browse.entry) verb.now }
 {
     match verb {
@@ -163,24 +232,23 @@ pub fn file_fault(
             gteq,
             update,
             ..
-        } => {
-            if *update && (*gteq || *generic || open_key.is_some()) {
-                return Some(Condition::Invreq);
-            }
-            key_fault(definition, ridfld.bytes(), *key_length, *generic)
-        }
+        } => match *update {
+            false => key_reason(definition, ridfld.bytes(), *key_length, *generic),
+            true if *gteq || *generic => Some(Reason::UpdateNotByKey),
+            true => update_reason(definition, open_key, ridfld.bytes(), *key_length),
+        },
         Verb::Write {
             ridfld,
             key_length,
             from,
             length,
             ..
-        } => match key_fault(definition, ridfld.bytes(), *key_length, false) {
-            Some(fault) => Some(fault),
-            None => record_fault(definition, Some(ridfld.bytes()), from.bytes(), *length),
+        } => match key_reason(definition, ridfld.bytes(), *key_length, false) {
+            Some(reason) => Some(reason),
+            None => written_reason(definition, ridfld.bytes(), from.bytes(), *length),
         },
         Verb::Rewrite { from, length, .. } => {
-            record_fault(definition, open_key, from.bytes(), *length)
+            rewrite_reason(definition, open_key, from.bytes(), *length)
         }
         Verb::Delete {
             ridfld,
@@ -188,40 +256,42 @@ pub fn file_fault(
             generic,
             ..
         } => match ridfld {
-            Some(key) => deleted_key_fault(definition, key.bytes(), *key_length, *generic),
-            None => invreq_unless(key_length.is_none() && !*generic && open_key.is_some()),
+            Some(key) => deleted_key_reason(definition, key.bytes(), *key_length, *generic),
+            None => deleted_read_reason(open_key, *key_length, *generic),
         },
-        _ => browsing_fault(definition, browse, verb),
+        _ => browsing_reason(definition, browse, verb),
     }
 }
 
-/// Returns LENGERR for a WRITEQ if LENGTH isn't from 1 to the length of FROM, or its item or record
-/// hasn't 1 to 32,767 bytes.
-pub fn item_fault(from: &[u8], length: Option<u64>) -> Option<Condition>
-    ensures { result ≡ item_fault from.now length }
+/// Returns the first check that fails of a WRITEQ: that LENGTH is from 1 to the length of FROM, and
+/// that its item or record has 1 to 32,767 bytes.
+pub fn item_reason(from: &[u8], length: Option<u64>) -> Option<Reason>
+    ensures { result ≡ item_reason from.now length }
 {
     match used(from, length) {
-        Some(content) if 1 <= content.len() && content.len() <= 32_767 => None,
-        _ => Some(Condition::Lengerr),
+        Some(content) => unless(
+            1 <= content.len() && content.len() <= 32_767,
+            Reason::ItemSize,
+        ),
+        None => Some(Reason::LengthNotInFrom),
     }
 }
 
-// Returns LENGERR for an ENQ or DEQ if LENGTH isn't from 1 to 255, or is above the length of its
-// value as written.
-fn resource_fault(value: &[u8], length: u64) -> Option<Condition>
-    ensures { result ≡ resource_fault value.now length }
+// Returns the first check that fails of an ENQ or DEQ: that LENGTH is from 1 to 255, and not above
+// the length of the value as written.
+fn resource_reason(value: &[u8], length: u64) -> Option<Reason>
+    ensures { result ≡ resource_reason value.now length }
 {
-    if 1 <= length && length <= 255 && length <= value.len() as u64 {
-        None
+    if 1 <= length && length <= 255 {
+        unless(length <= value.len() as u64, Reason::ValueTooShort)
     } else {
-        Some(Condition::Lengerr)
+        Some(Reason::ValueSize)
     }
 }
 
-/// Returns the fault of ENQ or DEQ: LENGERR for the length of its value. `None` for every other
-/// command.
-pub fn value_fault(verb: &Verb) -> Option<Condition>
-    ensures { result ≡ value_fault verb.now }
+/// Returns the first check that fails of an ENQ or DEQ. `None` for every other command.
+pub fn value_reason(verb: &Verb) -> Option<Reason>
+    ensures { result ≡ value_reason verb.now }
 {
     match verb {
         Verb::Enq {
@@ -229,7 +299,7 @@ pub fn value_fault(verb: &Verb) -> Option<Condition>
             length,
             ..
         }
-        | Verb::Deq { resource, length } => resource_fault(resource.bytes(), *length),
+        | Verb::Deq { resource, length } => resource_reason(resource.bytes(), *length),
         _ => None,
     }
 }

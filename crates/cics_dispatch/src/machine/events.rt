@@ -1,6 +1,7 @@
 //! What a region is asked, and what it tells.
 
 use crate::machine::outcomes::{Expired, Outcome, Refused, Woken};
+use crate::machine::reasons::Reason;
 use cics_names::{Command, Name4, Name8};
 
 /// What a region is asked to do.
@@ -37,8 +38,9 @@ pub enum Subject {
 pub enum Event {
     /// The task of a label was attached for a transaction.
     Attached(Name8, Name4),
-    /// The task of a label issued a command, with this outcome.
-    Issued(Name8, Outcome),
+    /// The task of a label issued a command, with this outcome. If it failed a check, this is the
+    /// first that it failed.
+    Issued(Name8, Outcome, Option<Reason>),
     /// A waiting command resumed.
     Woken(Woken),
     /// A task had waited too long, and was abended.

@@ -6,7 +6,7 @@ use Rattle.cics_dispatch.specs.declared.machine.outcomes.Refused.TheVariants.{No
 use Rattle.cics_dispatch.specs.Machine.Settled.{goes_on}
 use Rattle.cics_dispatch.proofs.OfMachine.RegionRemembers.{remembered_issued}
 use Rattle.cics_dispatch.proofs.RegionCalls.{passed_on, refused_down, made_up}
-use Rattle.cics_dispatch.proofs.regions.Region.issue.Goals as goal
+use Rattle.cics_dispatch.proofs.regions.Region.issue_told.Goals as goal
 
 pub returns-in_default-clause-step : goal.returns-in_default-clause-step
 returns-in_default-clause-step c =
