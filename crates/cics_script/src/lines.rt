@@ -54,13 +54,9 @@ pub enum Line {
     LoadFile(Name8, Record),
     /// Loads one record into a transient data queue.
     LoadTd(Name4, Record),
-    /// Attaches a task with this label and transaction. A command of it may wait for `dtimout`
+    /// Attaches a task with this label and transaction. A command of it may wait for so many
     /// seconds of the clock; 0 is without limit.
-    Attach {
-        label: Name8,
-        transaction: Name4,
-        dtimout: u64,
-    },
+    Attach(Name8, Name4, u64),
     /// Sets the clock, in seconds.
     Clock(u64),
     /// Issues a command of the task with this label.
@@ -231,11 +227,9 @@ fn read_attach(alloc: Global, bytes: &[u8]) -> Result<Line, LineFault>
     let label = label_of(word)?;
     let mut found = Options::new();
     read_options(alloc, Form::Attach, rest, &mut found)?;
-    Ok(Line::Attach {
-        label,
-        transaction: needed(name4_of(&found, OptionWord::Transid))?,
-        dtimout: number_of(&found, OptionWord::Dtimout).unwrap_or(0),
-    })
+    let transaction = needed(name4_of(&found, OptionWord::Transid))?;
+    let dtimout = number_of(&found, OptionWord::Dtimout).unwrap_or(0);
+    Ok(Line::Attach(label, transaction, dtimout))
 }
 
 // Reads a CLOCK line, from after its first word.

@@ -1,10 +1,23 @@
 -- Worked examples: what is told of faulty lines, to the byte.
-use Rattle.std.specs.Prelude.{◌≡◌, codes, ◌∷◌, ◌++◌, [], replicate, refl}
+use Rattle.std.specs.Prelude.{◌≡◌, ℕ, List, Some, None, codes, ◌∷◌, ◌++◌, [], map, replicate, refl}
+use Rattle.std.proofs.Common.{ap}
 use Rattle.std.specs.Fmt.{digits}
+use Rattle.std.specs.Borrow.{Bor}
+use Rattle.cics_script.specs.Advice.Places.{named, place_text}
 use Rattle.cics_script.specs.Advice.Advice.{advice, marked, too_long}
+use Rattle.cics_script.specs.declared.advice.origin.Origin.{Origin}
+
+-- the third line of standard input
+abbrev typed : Origin
+typed = record { file = None; line = 3 }
+
+-- the third line of a file, whose name has a tab
+in_file : (name : Bor (List ℕ)) → name.now ≡ codes "my" ++ 9 ∷ codes "race.cics" → place_text (record { file = Some name; line = 3 }) (Some 33) ≡ codes "my?race.cics:3:33: "
+unfolding digits
+in_file name is = ap (λ bytes. (map named bytes ++ codes ":") ++ codes "3:33: ") is
 
 -- a missing option stands one column past the last token
-missing : advice 3 31 (codes "DEFINE FILE needs RECOVERABLE or UNRECOVERABLE") (codes "DEFINE FILE('A') KEYLENGTH(6) ")
+missing : advice typed 31 (codes "DEFINE FILE needs RECOVERABLE or UNRECOVERABLE") (codes "DEFINE FILE('A') KEYLENGTH(6) ")
     ≡ codes "cicsrun: line 3, column 31: DEFINE FILE needs RECOVERABLE or UNRECOVERABLE\nDEFINE FILE('A') KEYLENGTH(6) \n                              ^\n"
 unfolding digits
 missing = refl
@@ -30,6 +43,6 @@ past_end : marked (replicate 200 65) 201 ≡ replicate 99 65 ++ 10 ∷ replicate
 past_end = refl
 
 -- no column
-long : too_long 7 ≡ codes "cicsrun: line 7: a line has at most 70,000 bytes\n"
+long : too_long typed ≡ codes "cicsrun: line 3: a line has at most 70,000 bytes\n"
 unfolding digits
 long = refl

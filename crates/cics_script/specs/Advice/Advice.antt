@@ -1,12 +1,13 @@
 -- What a person is told of a faulty line: a message, the line round a column, and a caret under the
 -- column.
 use Rattle.std.specs.Prelude.{◌≡◌, ℕ, ◌+◌, ◌-◌, ◌==◌, ◌&&◌, nat_le, min, max, Bool, not, true, false, if◌then◌else◌, Option, Some, None, is_some, option_map, List, [], ◌∷◌, ◌++◌, map, length, take, drop, replicate, codes}
-use Rattle.std.specs.Fmt.{decimal}
 use Rattle.std.specs.List.{prefix_len, list_any}
 use Rattle.cics_names.specs.Ebcdic.{code_of}
 use Rattle.cics_script.specs.Tokens.{is_quote, text_in}
 use Rattle.cics_script.specs.declared.literals.Notation.TheVariants.{Quoted}
 use Rattle.cics_script.specs.Columns.{IsFoundIn}
+use Rattle.cics_script.specs.Advice.Places.{place_text}
+use Rattle.cics_script.specs.declared.advice.origin.Origin.{Origin}
 use Rattle.cics_script.specs.declared.columns.Placed.{Placed}
 use Rattle.cics_script.specs.declared.advice.showing.TheConstants.{WIDTH, BEFORE}
 use Rattle.cics_script.specs.declared.advice.messages.Cause.{Cause}
@@ -32,28 +33,27 @@ part_of bytes column = take WIDTH (drop (left_out bytes column) bytes)
 abbrev pub caret : List ℕ → ℕ → List ℕ
 caret bytes column = replicate (column - left_out bytes column - 1) 32 ++ codes "^"
 
--- the message, with the number of the line and the column
-abbrev pub message_line : ℕ → ℕ → List ℕ → List ℕ
-message_line number column message =
-    ended (codes "cicsrun: line " ++ (decimal number ++ (codes ", column " ++ (decimal column ++ (codes ": " ++ map shown message)))))
+-- the message, with the line and the column that it is about
+abbrev pub message_line : Origin → Option ℕ → List ℕ → List ℕ
+message_line origin column message = place_text origin column ++ ended (map shown message)
 
 -- the line round a column, and a caret under it
 abbrev pub marked : List ℕ → ℕ → List ℕ
 marked bytes column = ended (map shown (part_of bytes column)) ++ ended (caret bytes column)
 
 -- the three lines
-abbrev pub advice : ℕ → ℕ → List ℕ → List ℕ → List ℕ
-advice number column message bytes = message_line number column message ++ marked bytes column
+abbrev pub advice : Origin → ℕ → List ℕ → List ℕ → List ℕ
+advice origin column message bytes = message_line origin (Some column) message ++ marked bytes column
 
 -- a line that is too long has no column
-abbrev pub too_long : ℕ → List ℕ
-too_long number = codes "cicsrun: line " ++ (decimal number ++ codes ": a line has at most 70,000 bytes\n")
+abbrev pub too_long : Origin → List ℕ
+too_long origin = message_line origin None (codes "a line has at most 70,000 bytes")
 
 -- a text is put behind what was there: the three lines on a column, with some message, or without a
 -- column the one
-abbrev pub Tells : ℕ → List ℕ → List ℕ → List ℕ → Option ℕ → Type 0
-Tells number bytes before now None = now ≡ before ++ too_long number
-Tells number bytes before now (Some column) = (message : List ℕ) × (now ≡ before ++ advice number column message bytes)
+abbrev pub Tells : Origin → List ℕ → List ℕ → List ℕ → Option ℕ → Type 0
+Tells origin bytes before now None = now ≡ before ++ too_long origin
+Tells origin bytes before now (Some column) = (message : List ℕ) × (now ≡ before ++ advice origin column message bytes)
 
 -- whether a character may stand in a quoted literal
 abbrev pub has_code : ℕ → Bool
@@ -80,11 +80,11 @@ abbrev pub IsColumnOf : List ℕ → Cause → Option ℕ → Type 0
 IsColumnOf bytes (causes.Line placed) column = column ≡ told_column bytes placed
 IsColumnOf bytes (causes.Definition fault) column = is_some column ≡ true
 
--- what is told of the line with this number and cause
-abbrev pub Advises : ℕ → List ℕ → Cause → List ℕ → List ℕ → Type 0
-Advises number bytes cause before now = (column : Option ℕ) × IsColumnOf bytes cause column × Tells number bytes before now column
+-- what is told of the line with this origin and cause
+abbrev pub Advises : Origin → List ℕ → Cause → List ℕ → List ℕ → Type 0
+Advises origin bytes cause before now = (column : Option ℕ) × IsColumnOf bytes cause column × Tells origin bytes before now column
 
 -- a line is read and nothing is put, or what is told of its fault
-abbrev pub Checks : ℕ → List ℕ → Bool → List ℕ → List ℕ → Type 0
-Checks number bytes true before now = IsFoundIn bytes None × (now ≡ before)
-Checks number bytes false before now = (placed : Placed) × IsFoundIn bytes (Some placed) × Advises number bytes (causes.Line placed) before now
+abbrev pub Checks : Origin → List ℕ → Bool → List ℕ → List ℕ → Type 0
+Checks origin bytes true before now = IsFoundIn bytes None × (now ≡ before)
+Checks origin bytes false before now = (placed : Placed) × IsFoundIn bytes (Some placed) × Advises origin bytes (causes.Line placed) before now

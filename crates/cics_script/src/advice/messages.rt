@@ -6,8 +6,9 @@ ghost use Rattle.cics_script.specs.Advice.Advice.{Advises, Checks, IsColumnOf};
 use crate::advice::bytes::{Unlisted, push_foreign};
 use crate::advice::context::{Context, is_one, is_word};
 use crate::advice::filling::{Told, push_filled, subject_of};
+use crate::advice::origin::Origin;
 use crate::advice::placing::told_column;
-use crate::advice::showing::{push_marked, push_message, push_too_long};
+use crate::advice::showing::{push_marked, push_message};
 use crate::advice::tables::{DEFINITIONS, NEEDS};
 use crate::advice::unknown::of_unknown;
 use crate::advice::values::{Split, of_value};
@@ -16,6 +17,8 @@ use crate::words::{is_excluded, option_named};
 use crate::{LineFault, Placed, find_fault};
 use cics_names::NoMemory;
 use std::alloc::Global;
+
+const TOO_LONG: &str = "a line has at most 70,000 bytes";
 
 /// Why a line ended the run.
 #[derive(Clone, Copy)]
@@ -26,33 +29,33 @@ pub enum Cause {
     Definition(u64),
 }
 
-/// Puts what a person needs to mend a line: `cicsrun: line 3, column 31: ..`, the line, a caret.
-/// Without a column, for a line that is too long, it puts the message alone.
+/// Puts what a person needs to mend a line: a message with its place (`push_place`), the line, a
+/// caret. Without a column, for a line that is too long, it puts the message alone.
 pub fn push_advice(
     out: &mut Vec<u8>,
-    number: u64,
+    origin: Origin<'_>,
     line: &[u8],
     cause: Cause,
 ) -> Result<(), NoMemory>
-    ensures { OnOk result (Advises number line.now cause out.old.items out.new.items) }
+    ensures { OnOk result (Advises origin.entry line.now cause out.old.items out.new.items) }
 {
     let Some(column) = column_of(*out.allocator(), line, cause)? else {
-        return push_too_long(out, number);
+        return push_message(out, origin, None, TOO_LONG.as_bytes());
     };
     let message = message_at(*out.allocator(), line, cause, column)?;
-    push_message(out, number, column, &message)?;
+    push_message(out, origin, Some(column), &message)?;
     push_marked(out, line, column)
 }
 
 /// Puts what a person needs to mend a line that can't be read. Returns whether it can be read: then
 /// nothing is put.
-pub fn push_fault(out: &mut Vec<u8>, number: u64, line: &[u8]) -> Result<bool, NoMemory>
+pub fn push_fault(out: &mut Vec<u8>, origin: Origin<'_>, line: &[u8]) -> Result<bool, NoMemory>
     ensures { IfOk result (λ is_read.
-        Checks number line.now is_read out.old.items out.new.items) }
+        Checks origin.entry line.now is_read out.old.items out.new.items) }
 {
     match find_fault(*out.allocator(), line)? {
         Some(placed) => {
-            push_advice(out, number, line, Cause::Line(placed))?;
+            push_advice(out, origin, line, Cause::Line(placed))?;
             Ok(false)
         }
         None => Ok(true),

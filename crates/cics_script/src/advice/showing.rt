@@ -2,9 +2,10 @@
 
 ghost use Rattle.std.specs.Prelude.{◌≡◌, ◌++◌, map, replicate, OnOk};
 ghost use Rattle.cics_script.specs.Advice.Advice.{shown, left_out, part_of, message_line};
-ghost use Rattle.cics_script.specs.Advice.Advice.{marked, too_long};
+ghost use Rattle.cics_script.specs.Advice.Advice.{marked};
 
-use crate::spelling::{push_number, push_str};
+use crate::advice::origin::{Origin, push_place};
+use crate::spelling::push_str;
 use cics_names::NoMemory;
 
 // How many columns of a line are shown.
@@ -70,30 +71,17 @@ pub fn push_marked(out: &mut Vec<u8>, line: &[u8], column: usize) -> Result<(), 
     push_str(out, "^\n")
 }
 
-/// Puts a message on a column of the line with this number.
+/// Puts a message on a line, and on a column of it if there is one.
 pub fn push_message(
     out: &mut Vec<u8>,
-    number: u64,
-    column: usize,
+    origin: Origin<'_>,
+    column: Option<usize>,
     message: &[u8],
 ) -> Result<(), NoMemory>
     ensures { OnOk result (out.new.items
-        ≡ out.old.items ++ message_line number column message.now) }
+        ≡ out.old.items ++ message_line origin.entry column message.now) }
 {
-    push_str(out, "cicsrun: line ")?;
-    push_number(out, number)?;
-    push_str(out, ", column ")?;
-    push_number(out, column as u64)?;
-    push_str(out, ": ")?;
+    push_place(out, origin, column)?;
     push_shown(out, message)?;
     push_str(out, "\n")
-}
-
-/// Puts the message on a line that is too long, which has no column.
-pub fn push_too_long(out: &mut Vec<u8>, number: u64) -> Result<(), NoMemory>
-    ensures { OnOk result (out.new.items ≡ out.old.items ++ too_long number) }
-{
-    push_str(out, "cicsrun: line ")?;
-    push_number(out, number)?;
-    push_str(out, ": a line has at most 70,000 bytes\n")
 }
