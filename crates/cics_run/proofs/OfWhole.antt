@@ -1,2 +1,3 @@
 pub mod Cutting
+pub mod Checking
 pub mod Counting

@@ -2,3 +2,9 @@ pub mod Amiss
 pub mod Deadlocked
 pub mod Told
 pub mod Waiting
+pub mod Parts
+pub mod Reasons
+pub mod Causes
+pub mod Nearest
+pub mod Noted
+pub mod Remarks

@@ -35,18 +35,21 @@ both have lanes. The picture is written at the end of the run.
 The report on the orders has what all endings share, and then each ending: how
 many orders and serial orders lead to it, the first of these orders, and the rest
 of the ending. In a serial order each turn of a task, up to SYNCPOINT or its end,
-is over before another task gives a line. The script of an ending can be run: it
-gives the lines in its first order.
+is over before another task gives a line. AS WRITTEN marks the ending of the
+lines in the script's own order. The script of an ending can be run: it gives the
+lines in its first order.
 
 Exit status:
   0  the whole script was run, or the help or the version was printed
-  1  a line or a definition has a fault: the output ends with it
+  1  a line or a definition has a fault: the output ends with it, or with --check
+     standard error says it of each line
   2  bad arguments, a script that can't be opened, or no ending has this number
   3  no memory
   4  a read or a write failed, the script has more than 16,777,216 bytes, or a
      picture would show more than 100,000 lines of the journal
   5  with --strict: the whole script was run, and an event was refused, a task was
-     abended by a condition or a time-out, or a task still waits at the end
+     abended by a condition or a time-out, or a task still waits at the end; with
+     --orders: an ending has a deadlock, or no serial order leads to it
 
 Each option, on examples of the repository:
   cicsrun examples/lost-update.cics
@@ -55,6 +58,8 @@ Each option, on examples of the repository:
   cicsrun --serial examples/turns.cics
   cicsrun --with-script examples/turns.cics
   cicsrun --strict examples/deadlock.cics
+  cicsrun --why examples/race.cics
+  cicsrun --check examples/race.cics
   cicsrun --picture examples/deadlock.cics > deadlock.svg
   cicsrun --orders --limit 5 examples/race.cics
   cicsrun --orders --told examples/race.cics
@@ -80,24 +85,39 @@ const STATES: u64 = 30_000;
 /// What the help says of that.
 const LIMIT: &str = "Follow about N states (30000)";
 
+/// The options of a run, the picture and the check. The last two go with no other option, and the
+/// first one goes with orders too.
+static RUNS: [&str; 8] = [
+    "strict",
+    "no-list",
+    "replay",
+    "serial",
+    "with-script",
+    "why",
+    "picture",
+    "check",
+];
+
 /// What a command line asks for.
 ///
-/// - `Run`: a run of a script.
-/// - `Strict`: a run that ends with a status of its own if something is amiss (`strict_status`).
-/// - `Picture`: the picture of a run.
-/// - `Orders`: a report on the orders of a script's lines, or one of them as a script. `progress`
-///   asks for lines on standard error that say how far the search is.
+/// - `Run`: a run of a script, with no option that goes beyond these.
 /// - `Help`: the help or the version, which is to go to standard output.
 /// - `Bad`: nothing that the program knows. The text says what is wrong, and is to go to standard
 ///   error.
+/// - `Extended`: a run that goes beyond `Run`.
+/// - `Check`: what is at fault in the lines of a script, which isn't run.
+/// - `Picture`: the picture of a run.
+/// - `Orders`: a report on the orders of a script's lines, or one of them as a script. `progress`
+///   asks for lines on standard error that say how far the search is.
 #[derive(Drop)]
 pub enum Asked {
-    Run(Wanted),
-    Strict(Wanted),
-    Picture,
-    Orders { wanted: Orders, progress: bool },
+    Run(Options),
     Help(String),
     Bad(String),
+    Extended(Wanted),
+    Check,
+    Picture,
+    Orders { wanted: Orders, progress: bool },
 }
 
 /// A command line: what it asks for, and the name of the script's file. Without a name the script
@@ -114,9 +134,9 @@ pub struct CommandLine {
 /// input. These are bad:
 ///
 /// - an option that is given twice, and a second file;
-/// - `--serial` beside `--with-script`, and any option beside `--picture`;
-/// - `--told`, `--limit`, `--ending` and `--progress` without `--orders`, any other option beside
-///   it, and a number that isn't from 1 on;
+/// - `--serial` beside `--with-script`, and any option beside `--picture` and beside `--check`;
+/// - `--told`, `--limit`, `--ending` and `--progress` without `--orders`, any other option but
+///   `--strict` beside it, and a number that isn't from 1 on;
 /// - an option that the help doesn't have. Behind `--` each word names a file.
 ///
 /// The only error is `NoMemory`.
@@ -168,16 +188,14 @@ fn number<'a>(alloc: Global, name: &'a str, help: &'a str) -> Result<Arg<'a>, Al
     apart_from_runs(number.requires_arg("orders")?)
 }
 
-// Returns an option that goes with no option of a run.
+// Returns an option that goes with no option of a run but `--strict`.
 fn apart_from_runs<'a>(arg: Arg<'a>) -> Result<Arg<'a>, AllocError> {
-    arg.conflicts_with_all(&[
-        "no-list",
-        "replay",
-        "serial",
-        "with-script",
-        "strict",
-        "picture",
-    ])
+    arg.conflicts_with_all(&RUNS[1..])
+}
+
+// Returns an option that goes with no option of a run, not even `--strict`.
+fn apart_from_options<'a>(arg: Result<Arg<'a>, AllocError>) -> Result<Arg<'a>, AllocError> {
+    arg?.conflicts_with_all(&RUNS[..6])
 }
 
 // Adds an option to a command line. It takes the results of the calls before: so a row of calls has
@@ -211,22 +229,26 @@ fn orders_flag<'a>(flag: Arg<'a>) -> Result<Arg<'a>, AllocError> {
     apart_from_runs(flag.requires_arg("orders")?)
 }
 
-// Adds the options of a run. A picture goes with none of them.
+// Adds the options of a run, and those that go with none of them: a picture and a check.
 fn with_runs<'a>(alloc: Global, command: Command<'a>) -> Result<Command<'a>, AllocError> {
     let serial = "Print the serial run after the listing and the replay";
     let script = "Print each line of the script before its journal lines";
     let script = flag(alloc, "with-script", script).conflicts_with("serial");
     let strict = "End with status 5 if something is amiss";
+    let why = "Say why each condition was raised, handled ones too";
     let picture = "Print a picture of the run (SVG) in place of all that";
-    let apart = ["no-list", "replay", "serial", "with-script", "strict"];
-    let picture = flag(alloc, "picture", picture).conflicts_with_all(&apart);
+    let picture = Ok(flag(alloc, "picture", picture));
+    let check = "Say what is at fault in each line, and run nothing";
+    let check = flag(alloc, "check", check).conflicts_with("picture");
     let command = command.arg(flag(alloc, "no-list", "Leave out the listing"));
     let replay = flag(alloc, "replay", "Print the replay after the listing");
     let command = with(command, Ok(replay));
     let command = with(command, Ok(flag(alloc, "serial", serial)));
     let command = with(command, script);
     let command = with(command, Ok(flag(alloc, "strict", strict)));
-    with(command, picture)
+    let command = with(command, Ok(flag(alloc, "why", why)));
+    let command = with(command, apart_from_options(picture));
+    with(command, apart_from_options(check))
 }
 
 // Returns the word that names the script's file.
@@ -260,6 +282,9 @@ fn read_words(alloc: Global, words: &[String]) -> Result<CommandLine, Error> {
 
 // Returns what the options that were given ask for.
 fn chosen(matches: &ArgMatches) -> Asked {
+    if matches.get_flag("check") {
+        return Asked::Check;
+    }
     if matches.get_flag("picture") {
         return Asked::Picture;
     }
@@ -268,21 +293,29 @@ fn chosen(matches: &ArgMatches) -> Asked {
             told: matches.get_flag("told"),
             limit: matches.get_one("limit").unwrap_or(STATES),
             ending: matches.get_one("ending"),
+            strict: matches.get_flag("strict"),
         };
         let progress = matches.get_flag("progress");
         return Asked::Orders { wanted, progress };
     }
+    run_of(matches)
+}
+
+// Returns what kind of run the options ask for.
+fn run_of(matches: &ArgMatches) -> Asked {
     let options = Options {
         replay: matches.get_flag("replay"),
         no_list: matches.get_flag("no-list"),
     };
-    let wanted = Wanted {
+    let beyond = ["serial", "with-script", "strict", "why"];
+    if !beyond.iter().any(|name| matches.get_flag(name)) {
+        return Asked::Run(options);
+    }
+    Asked::Extended(Wanted {
         options,
         serial: matches.get_flag("serial"),
         with_script: matches.get_flag("with-script"),
-    };
-    if matches.get_flag("strict") {
-        return Asked::Strict(wanted);
-    }
-    Asked::Run(wanted)
+        strict: matches.get_flag("strict"),
+        why: matches.get_flag("why"),
+    })
 }

@@ -11,8 +11,10 @@ mod statuses;
 mod streams;
 mod writing;
 
+pub(crate) use running::ended;
 pub use running::{CHUNK, LIMIT, Options, Orders, RunFault, Status, Wanted, run, run_over};
 pub use session::{Session, line_len};
 pub use statuses::{exit_status, strict_status};
 pub use streams::{Failed, Sink, Source};
+pub(crate) use writing::write_printed;
 pub use writing::{Stop, write_all, write_pending};

@@ -5,16 +5,19 @@
 //! - `observer`: who sees each event.
 //! - `printing`, `journal`: the observer that prints, and the lines of the journal.
 //! - `amiss`, `undefined`: what a strict run finds amiss, and names that aren't defined.
+//! - `notes`: which events are told to a person at the end of a run.
 
 pub mod amiss;
 mod draining;
 pub mod journal;
+mod notes;
 mod observer;
 mod printing;
 mod stage;
 mod undefined;
 
 pub use cics_script::LineFault;
+pub use notes::{Note, Raised, Scope};
 pub use observer::Observer;
 pub use printing::Journal;
 pub use stage::{Fault, Stage};

@@ -1,12 +1,30 @@
-//! What a run leaves a person to know: what its faulty line needs, its deadlocks, undefined names,
-//! and whether something is amiss.
+//! What a run leaves a person to know.
+//!
+//! - `remarks`: a line for each event that is told.
+//! - `noted`: the words of such a line. `reasons` has those on the check that a command failed, and
+//!   `causes` those on what came up as it was executed. `parts` finds the options of a command that
+//!   they name, and `nearest` a label that is almost another one.
+//! - `deadlocked`, `hints`: deadlocks, and undefined names.
+//! - `amiss`, `waiting`: whether something is amiss at the end.
+//! - `faulty`: what a line with a fault needs.
+//! - `told`: all that is told at the end, or of a run that ended at a fault.
 
 mod amiss;
+mod causes;
 mod deadlocked;
+mod faulty;
 mod hints;
+mod nearest;
+mod noted;
+mod parts;
+mod reasons;
+mod remarks;
 mod told;
 mod waiting;
 
-pub use amiss::is_amiss;
+pub use amiss::{is_amiss, strict_tells_all};
 pub use deadlocked::push_deadlocks;
+pub use faulty::push_told;
+pub use hints::keep_alone;
+pub use remarks::{Remark, Remarks};
 pub use told::{told_at_end, told_of};

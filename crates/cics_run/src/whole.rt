@@ -1,7 +1,9 @@
 //! A script that is read whole, and its lines.
 
+mod checking;
 mod lines;
 mod reading;
 
+pub use checking::check_script;
 pub use lines::{lines_of, next_line};
 pub use reading::read_script;

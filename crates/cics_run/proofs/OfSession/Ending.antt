@@ -10,12 +10,12 @@ use Rattle.cics_run.specs.Session.Printing.{AppendsFront, Prints}
 use Rattle.cics_run.specs.Session.Running.{Form, Played, has_fault, next, play, start, stepped, journal_of, journal, whole, output, is_faulty}
 use Rattle.cics_run.specs.Stage.Amiss.{any_amiss}
 use Rattle.cics_run.specs.Stage.Stages.{region_of}
-use Rattle.cics_run.specs.Session.Standing.{next_step, next_text, Ran, Stands, Keeps, IsClosed, Closes, HasEnd}
+use Rattle.cics_run.specs.Session.Standing.{next_step, next_text, Ran, Stands, Keeps, IsClosed, Closes, HasEnd, HasTold}
 use Rattle.cics_run.specs.declared.stage.stage.Stage.{Stage}
 use Rattle.cics_run.specs.declared.stage.stage.Stage.TheVariants.{Running}
 use Rattle.cics_run.specs.declared.session.session.Session.{Session}
 use Rattle.cics_run.proofs.OfSession.Printing.{prints-prints, prints-all, prints-front, prints-written, front-longer}
-use Rattle.cics_run.proofs.OfSession.Playing.{next-going, journal-stepped, whole-front}
+use Rattle.cics_run.proofs.OfSession.Playing.{next-going, journal-stepped, told-stepped, whole-front}
 
 -- no line is left
 pub closed-empty : (form : Form) (bytes : List ℕ) (before now : Option (List ℕ)) (s : Session) → Stands form bytes before now s → length s.line.items ≡ 0 → IsClosed form bytes before now s false
@@ -26,6 +26,7 @@ closed-empty form bytes before now s at empty =
       fault = ap has_fault same ∙ at.going;
       stage = ap (λ p. p.stage) same ∙ sym at.stage;
       amiss = at.amiss ∙ sym (ap (λ p. p.is_amiss) same);
+      told = at.told ∙ sym (ap (λ p. p.told form.scope) same);
       printed = subst (Prints before now [] s.journal.text.items) (sym (ap (journal_of form) same)) at.printed;
       kept = λ never. absurd (true≢false (sym never));
     }
@@ -54,6 +55,8 @@ module _ (form : Form) (bytes : List ℕ) (before old : Option (List ℕ)) (s : 
         fault = ap has_fault play-last ∙ sym (is_fault ∙ ap is_some ran.fault);
         stage = ap (λ p. p.stage) play-last ∙ sym ran.stage;
         amiss = ran.amiss ∙ ap (λ b. b || any_amiss (next_step s s.line.items).events) at.amiss ∙ sym (ap (λ p. p.is_amiss) play-last);
+        told = ran.told ∙ told-stepped (play (completed bytes)) form.scope s.journal.told s.number s.line.items (next_step s s.line.items) at.told at.number
+            ∙ sym (ap (λ p. p.told form.scope) play-last);
         printed = subst (Prints before now [] t.journal.text.items) (sym journal-last)
             (prints-prints before old now [] s.journal.text.items t.journal.text.items (journal form bytes) (next_text s s.line.items) at.printed text);
         kept = λ is. record {
@@ -91,13 +94,14 @@ whole-going form p going = let j = journal_of form p in subst (λ b. cond b j (j
 
 -- the last line was a fault, and nothing is pending
 pub fault-written : (form : Form) (bytes : List ℕ) (before now : Option (List ℕ)) (s : Session) → IsClosed form bytes before now s true → s.journal.text.items ≡ []
-    → Appends before now (output form bytes) × (is_faulty bytes ≡ true) × Keeps s (play (all_lines bytes))
+    → Appends before now (output form bytes) × (is_faulty bytes ≡ true) × Keeps s (play (all_lines bytes)) × HasTold form.scope s (play (all_lines bytes))
 fault-written form bytes before now s closed none =
     let p = play (all_lines bytes) in
     let j = journal_of form p in (
       subst (Appends before now) (sym (whole-fault form p closed.fault)) (prints-all before now [] j (subst (λ x. Prints before now [] x j) none closed.printed)),
       closed.fault,
       closed.kept refl,
+      closed.told,
     )
 
 -- the text of a whole run: the journal, and behind it the listing
@@ -107,14 +111,15 @@ output-going form bytes stage going same =
     whole-going form (play (all_lines bytes)) going ∙ ap (λ s. journal_of form (play (all_lines bytes)) ++ form.ending s) same
 
 pub end-written : (form : Form) (bytes : List ℕ) (before old now : Option (List ℕ)) (s t : Session) → IsClosed form bytes before old s false
-    → Appends old now (s.journal.text.items ++ form.ending s.stage) → t.stage ≡ Running (region_of s.stage) → t.journal.is_amiss ≡ s.journal.is_amiss
-    → Appends before now (output form bytes) × (is_faulty bytes ≡ false) × HasEnd t (play (all_lines bytes))
-end-written form bytes before old now s t closed took opened same =
+    → Appends old now (s.journal.text.items ++ form.ending s.stage) → t.stage ≡ Running (region_of s.stage) → t.journal.is_amiss ≡ s.journal.is_amiss → t.journal.told ≡ s.journal.told
+    → Appends before now (output form bytes) × (is_faulty bytes ≡ false) × HasEnd t (play (all_lines bytes)) × HasTold form.scope t (play (all_lines bytes))
+end-written form bytes before old now s t closed took opened same told =
     let j = journal_of form (play (all_lines bytes)) in
     let all = prints-prints before old now [] s.journal.text.items [] j (form.ending s.stage) closed.printed (prints-written old now s.journal.text.items (form.ending s.stage) took) in (
       subst (Appends before now) (sym (output-going form bytes s.stage closed.fault closed.stage)) (prints-all before now [] (j ++ form.ending s.stage) all),
       closed.fault,
       record { stage = opened ∙ ap (λ stage. Running (region_of stage)) (sym closed.stage); amiss = same ∙ closed.amiss },
+      told ∙ closed.told,
     )
 
 pub end-front : (form : Form) (bytes : List ℕ) (before old now : Option (List ℕ)) (s : Session) → IsClosed form bytes before old s false

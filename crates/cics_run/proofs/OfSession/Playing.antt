@@ -11,6 +11,9 @@ use Rattle.cics_run.specs.Stage.Journal.{script_line, text_of}
 use Rattle.cics_run.specs.Stage.Stages.{step, Step}
 use Rattle.cics_run.specs.Session.Running.{Form, Played, has_fault, next, stepped, play, start, journal_of, journal, output, whole, is_faulty}
 use Rattle.cics_run.specs.Session.Printing.{IsFront}
+use Rattle.cics_run.specs.Told.Remarks.{remarked}
+use Rattle.cics_run.specs.declared.stage.notes.Scope.{Scope}
+use Rattle.cics_run.specs.declared.told.remarks.Remarks.{Remarks}
 
 -- what isn't so is false
 pub not-true : (b : Bool) → not b ≡ true → b ≡ false
@@ -79,6 +82,11 @@ front-trans a b c (m, e) (n, f) = (m ++ n, f ∙ ap (λ x. x ++ n) e ∙ append_
 pub journal-stepped : (form : Form) (p : Played) (line : List ℕ) (s : Step)
     → journal_of form (stepped p line s) ≡ journal_of form p ++ ((if form.with_script then script_line line else []) ++ text_of (p.number + 1) s)
 journal-stepped form p line s = elim (cases_Bool form.with_script) [ inl shows ↦ rw shows refl | inr plain ↦ rw plain refl ]
+
+-- what a line adds to the remarks
+pub told-stepped : (p : Played) (scope : Scope) (r : Remarks) (n : ℕ) (line : List ℕ) (s : Step) → r ≡ p.told scope → n ≡ p.number
+    → remarked r (n + 1) line s ≡ (stepped p line s).told scope
+told-stepped p scope r n line s so number = ap (λ x. remarked x (n + 1) line s) so ∙ ap (λ k. remarked (p.told scope) (k + 1) line s) number
 
 pub journal-start : (form : Form) → journal_of form start ≡ []
 journal-start form = elim (cases_Bool form.with_script) [ inl shows ↦ rw shows refl | inr plain ↦ rw plain refl ]

@@ -1,5 +1,5 @@
 -- What is printed, one text further.
-use Rattle.std.proofs.Common.{ℕ, List, [], ◌++◌, refl, ap, sym, ◌∙◌, append_assoc, append-nil, Option, subst}
+use Rattle.std.proofs.Common.{◌≡◌, ℕ, List, [], ◌++◌, refl, ap, sym, ◌∙◌, append_assoc, append-nil, Option, subst}
 use Rattle.std.specs.Prelude.{Result, Ok, Err, OnOk, OnErr}
 use Rattle.std.specs.Io.KnownBytes.{Appends}
 use Rattle.cics_run.specs.Session.Printing.{IsFront, AppendsFront, Prints}
@@ -28,6 +28,10 @@ prints-prints a b c p q r t u (v, e, took) (w, f, more) = (
   sym (append_assoc p t u) ∙ ap (λ x. x ++ u) e ∙ append_assoc v q u ∙ ap (λ x. v ++ x) f ∙ sym (append_assoc v w r),
   appends-append a b c v w took more,
 )
+
+-- a text stands behind what was pending, and some of both may be written
+pub behind-pending : (a b : Option (List ℕ)) (pending all left text : List ℕ) → all ≡ pending ++ text → Prints a b all left [] → Prints a b pending left text
+behind-pending a b pending all left text pushed (written, parts, took) = (written, sym pushed ∙ sym (append-nil all) ∙ parts, took)
 
 -- a text, and a front of what is pending behind it and of the next one
 pub prints-front : (a b c : Option (List ℕ)) (p q t u : List ℕ) → Prints a b p q t → AppendsFront b c (q ++ u) → AppendsFront a c (p ++ (t ++ u))

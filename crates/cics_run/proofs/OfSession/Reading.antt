@@ -7,6 +7,7 @@ use Rattle.std.specs.List.{fold}
 use Rattle.std.specs.Prelude.{Result, Ok, Err}
 use Rattle.std.specs.Io.KnownBytes.{Appends, Consumes, IsAtEnd}
 use Rattle.std.specs.Io.BufRead.{strip_last}
+use Rattle.cics_run.specs.declared.told.remarks.Remarks.{Remarks}
 use Rattle.cics_run.specs.Session.Lines.{Pieces, pieces, with_first, completed}
 use Rattle.cics_run.specs.Session.Running.{Form, Played, has_fault, next, start, journal, is_stopped, Answers, ReadsOn, RunsOver}
 use Rattle.cics_run.specs.Session.Printing.{AppendsFront, Prints}
@@ -17,7 +18,9 @@ use Rattle.cics_run.specs.declared.session.writing.Stop.TheVariants as stops
 use Rattle.cics_run.specs.declared.session.running.Status.{Status}
 use Rattle.cics_run.specs.declared.session.running.Status.TheVariants as status
 use Rattle.cics_run.specs.declared.session.running.TheConstants.{LIMIT, CHUNK}
+use Rattle.cics_run.specs.Told.Remarks.{no_remarks}
 use Rattle.cics_run.specs.declared.session.session.Session.{Session}
+use Rattle.cics_run.specs.declared.stage.notes.Scope.{Scope}
 use Rattle.cics_run.proofs.OfSession.Known.{consumes-append}
 use Rattle.cics_run.proofs.OfSession.Printing.{prints-all, prints-nothing}
 use Rattle.cics_run.proofs.OfSession.Playing.{fault-output, fault-whole, journal-start}
@@ -69,27 +72,29 @@ stopped-output form bytes rest before now s stop =
     (subst (λ t. Appends before now t) (sym same) stop.written, faulty, inl stop.fault)
 
 -- the line at which they stopped is kept
-pub stopped-keeps : (form : Form) (bytes : List ℕ) (input rest before now : Option (List ℕ)) (s : Session) → Consumes input rest bytes → Stopped form bytes before now s → KeepsEnd input rest s (Ok status.LineFault)
+pub stopped-keeps : (form : Form) (bytes : List ℕ) (input rest before now : Option (List ℕ)) (s : Session) → Consumes input rest bytes → Stopped form bytes before now s → KeepsEnd form.scope input rest s (Ok status.LineFault)
 stopped-keeps form bytes input rest before now s read stop =
     let same = fault-whole bytes stop.fault in
-    (bytes, read, ap has_fault same ∙ stop.fault, subst (Keeps s) (sym same) stop.kept)
+    (bytes, read, ap has_fault same ∙ stop.fault, subst (Keeps s) (sym same) stop.kept, stop.told ∙ sym (ap (λ p. p.told form.scope) same))
 
 -- a run that came to the input's end keeps its final region, or the last line, where that is a fault
-pub ended-keeps : (form : Form) (bytes : List ℕ) (input rest before now : Option (List ℕ)) (s : Session) (answer : Result Status Stop) → Consumes input rest bytes → Finishes form bytes before now s answer → KeepsEnd input rest s (ended answer)
-ended-keeps form bytes input rest before now s (Ok status.Done) read (wrote, going, end) = (bytes, read, going, end)
-ended-keeps form bytes input rest before now s (Ok status.LineFault) read (wrote, faulty, kept) = (bytes, read, faulty, kept)
+pub ended-keeps : (form : Form) (bytes : List ℕ) (input rest before now : Option (List ℕ)) (s : Session) (answer : Result Status Stop) → Consumes input rest bytes → Finishes form bytes before now s answer → KeepsEnd form.scope input rest s (ended answer)
+ended-keeps form bytes input rest before now s (Ok status.Done) read (wrote, going, end, told) = (bytes, read, going, end, told)
+ended-keeps form bytes input rest before now s (Ok status.LineFault) read (wrote, faulty, kept, told) = (bytes, read, faulty, kept, told)
 ended-keeps form bytes input rest before now s (Err stops.NoMemory) read end = tt
 ended-keeps form bytes input rest before now s (Err stops.WriteFault) read end = tt
 
 -- a new session stands before the first byte
-pub stands-new : (form : Form) (now : Option (List ℕ)) (s : Session) → IsNew s → Stands form [] now now (record s { with_script = form.with_script })
-stands-new form now s new =
+pub stands-new : (form : Form) (now : Option (List ℕ)) (s : Session) (scope : Scope) → scope ≡ form.scope → IsNew s
+    → Stands form [] now now (record s { with_script = form.with_script; journal = record s.journal { told = record s.journal.told { scope = scope } } })
+stands-new form now s scope wanted new =
     record {
       stage = new.stage;
       number = new.number;
       line = new.line;
       going = refl;
       amiss = new.calm;
+      told = ap {A = Remarks} (λ r. record r { scope = scope }) new.silent ∙ ap no_remarks wanted;
       shows = refl;
       printed = rw (new.pending, journal-start form) (prints-nothing now []);
     }
@@ -120,7 +125,7 @@ runs-stop form bytes input rest last before now stops.WriteFault read within on 
 -- a run that came to the input's end
 pub runs-ended : (form : Form) (bytes : List ℕ) (input rest last before now : Option (List ℕ)) (s : Session) (answer : Result Status Stop) → Consumes input rest bytes → length bytes ≤ LIMIT → ReadsOn bytes last
     → IsAtEnd rest → Finishes form bytes before now s answer → RunsOver form input rest last before now (ended answer)
-runs-ended form bytes input rest last before now s (Ok status.Done) read within on end (wrote, going, stage) = (bytes, read, within, on, (wrote, going, end))
-runs-ended form bytes input rest last before now s (Ok status.LineFault) read within on end (wrote, faulty, kept) = (bytes, read, within, on, (wrote, faulty, inr end))
+runs-ended form bytes input rest last before now s (Ok status.Done) read within on end (wrote, going, stage, told) = (bytes, read, within, on, (wrote, going, end))
+runs-ended form bytes input rest last before now s (Ok status.LineFault) read within on end (wrote, faulty, kept, told) = (bytes, read, within, on, (wrote, faulty, inr end))
 runs-ended form bytes input rest last before now s (Err stops.NoMemory) read within on end front = (bytes, read, within, on, inr (end, front))
 runs-ended form bytes input rest last before now s (Err stops.WriteFault) read within on end front = (bytes, read, within, on, inr (end, front))

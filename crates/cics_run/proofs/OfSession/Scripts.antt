@@ -22,4 +22,4 @@ replayed = plain (record { replay = true; no_list = false })
 
 -- the journal alone, each line of the script in front of what it led to
 abbrev pub with_script : Form
-with_script = record { with_script = true; ending = (plain (record { replay = false; no_list = true })).ending }
+with_script = record (plain (record { replay = false; no_list = true })) { with_script = true }

@@ -13,10 +13,11 @@ use Rattle.cics_run.specs.Stage.Amiss.{any_amiss}
 use Rattle.cics_run.specs.Session.Lines.{pieces, completed, unfinished, is_in_line}
 use Rattle.cics_run.specs.Session.Printing.{AppendsFront, Prints}
 use Rattle.cics_run.specs.Session.Running.{Form, has_fault, next, play, start, stepped, journal_of, journal}
-use Rattle.cics_run.specs.Session.Standing.{next_step, next_text, ended_line, Ran, Stands, Keeps, Stopped}
+use Rattle.cics_run.specs.Session.Standing.{next_step, next_text, ended_line, Ran, Stands, Keeps, HasTold, Stopped}
+use Rattle.cics_run.specs.Told.Remarks.{remarked}
 use Rattle.cics_run.specs.declared.session.session.Session.{Session}
 use Rattle.cics_run.proofs.OfSession.Printing.{prints-prints, prints-all, prints-front, prints-part, front-longer}
-use Rattle.cics_run.proofs.OfSession.Playing.{pieces-lf, pieces-bytes, next-going, journal-stepped, journal-front, fault-stays}
+use Rattle.cics_run.proofs.OfSession.Playing.{pieces-lf, pieces-bytes, next-going, journal-stepped, told-stepped, journal-front, fault-stays}
 
 completed-bytes : (bytes more : List ℕ) → list_all is_in_line more ≡ true → completed (bytes ++ more) ≡ completed bytes
 completed-bytes bytes more all = ap (λ p. map (strip_last 13) p.0) (pieces-bytes bytes more all)
@@ -40,18 +41,19 @@ journal-lf form bytes before now s at =
     ∙ rw (at.shows, at.number) (journal-stepped form (play (completed bytes)) (ended_line s) (next_step s (ended_line s)))
 
 pub stands-bytes : (form : Form) (bytes more : List ℕ) (before now : Option (List ℕ)) (s t : Session) → list_all is_in_line more ≡ true → Stands form bytes before now s
-    → t.stage ≡ s.stage → t.number ≡ s.number → t.line.items ≡ s.line.items ++ more → t.journal.text.items ≡ s.journal.text.items → t.journal.is_amiss ≡ s.journal.is_amiss → t.with_script ≡ s.with_script
+    → t.stage ≡ s.stage → t.number ≡ s.number → t.line.items ≡ s.line.items ++ more → t.journal ≡ s.journal → t.with_script ≡ s.with_script
     → Stands form (bytes ++ more) before now t
-stands-bytes form bytes more before now s t all at stage number line pending amiss shows =
+stands-bytes form bytes more before now s t all at stage number line journals shows =
     let same : play (completed (bytes ++ more)) ≡ play (completed bytes) = ap play (completed-bytes bytes more all) in
     record {
       stage = stage ∙ at.stage ∙ sym (ap (λ p. p.stage) same);
       number = number ∙ at.number ∙ sym (ap (λ p. p.number) same);
       line = line ∙ ap (λ x. x ++ more) at.line ∙ sym (ap (λ p. p.1) (pieces-bytes bytes more all));
       going = ap has_fault same ∙ at.going;
-      amiss = amiss ∙ at.amiss ∙ sym (ap (λ p. p.is_amiss) same);
+      amiss = ap (λ j. j.is_amiss) journals ∙ at.amiss ∙ sym (ap (λ p. p.is_amiss) same);
+      told = ap (λ j. j.told) journals ∙ at.told ∙ sym (ap (λ p. p.told form.scope) same);
       shows = shows ∙ at.shows;
-      printed = subst (λ j. Prints before now [] t.journal.text.items j) (sym (ap (journal_of form) same)) (subst (λ x. Prints before now [] x (journal form bytes)) (sym pending) at.printed);
+      printed = subst (λ j. Prints before now [] t.journal.text.items j) (sym (ap (journal_of form) same)) (subst (λ j. Prints before now [] j.text.items (journal form bytes)) (sym journals) at.printed);
     }
 
 -- A session runs its line without the CR right before the LF: this is what it does next.
@@ -63,6 +65,7 @@ module _ (s : Session) (line : Vec ℕ) (cut : line.items ≡ ended_line s) (t :
         number = ran.number;
         fault = ran.fault ∙ ap (λ l. (next_step s l).fault) cut;
         amiss = ran.amiss ∙ ap (λ l. s.journal.is_amiss || any_amiss (next_step s l).events) cut;
+        told = ran.told ∙ ap (λ l. remarked s.journal.told (s.number + 1) l (next_step s l)) cut;
         shows = ran.shows;
       }
 
@@ -82,6 +85,13 @@ printed-line form bytes before old now s t at text =
     subst (Prints before now [] t.journal.text.items) (sym (journal-lf form bytes before old s at))
     (prints-prints _ _ _ [] s.journal.text.items t.journal.text.items (journal form bytes) (next_text s (ended_line s)) at.printed text)
 
+-- what a session tells that ran a line more
+told-line : (form : Form) (bytes : List ℕ) (before old : Option (List ℕ)) (s t : Session) → Stands form bytes before old s
+    → Ran s (ended_line s) t → HasTold form.scope t (play (completed (bytes ++ 10 ∷ [])))
+told-line form bytes before old s t at ran =
+    ran.told ∙ told-stepped (play (completed bytes)) form.scope s.journal.told s.number (ended_line s) (next_step s (ended_line s)) at.told at.number
+    ∙ sym (ap (λ p. p.told form.scope) (play-lf form bytes before old s at))
+
 pub stands-line : (form : Form) (bytes : List ℕ) (before old now : Option (List ℕ)) (s t : Session) → Stands form bytes before old s
     → Ran s (ended_line s) t → t.line.items ≡ []
     → Prints old now s.journal.text.items t.journal.text.items (next_text s (ended_line s))
@@ -95,6 +105,7 @@ stands-line form bytes before old now s t at ran line text going =
       line = line ∙ sym (ap (λ p. p.1) (pieces-lf bytes));
       going = ap has_fault after ∙ sym (going ∙ ap is_some ran.fault);
       amiss = ran.amiss ∙ ap (λ b. b || any_amiss (next_step s (ended_line s)).events) at.amiss ∙ sym (ap (λ p. p.is_amiss) after);
+      told = told-line form bytes before old s t at ran;
       shows = ran.shows ∙ at.shows;
       printed = printed-line form bytes before old now s t at text;
     }
@@ -125,6 +136,7 @@ stopped-line form bytes more before old now s t at ran line text none fault =
       written = subst (Appends before now) (sym (ap (journal_of form) same))
           (prints-all before now [] (journal form (bytes ++ 10 ∷ [])) (subst (λ x. Prints before now [] x (journal form (bytes ++ 10 ∷ []))) none all));
       kept = subst (Keeps t) (sym same) kept;
+      told = told-line form bytes before old s t at ran ∙ sym (ap (λ p. p.told form.scope) same);
     }
 
 -- a line of whose text the writer took a front

@@ -1,10 +1,16 @@
--- A journal prints the text of each step, and notes whether an event of it is amiss.
-use Rattle.std.proofs.Common.{◌≡◌, ℕ, List, [], ◌∷◌, ◌++◌, refl, ap, sym, ◌∙◌, append_assoc, append-nil, Option, Some, None}
-use Rattle.std.specs.Prelude.{Bool, true, false, ◌||◌, Result, Ok, Err, OnOk}
-use Rattle.std.specs.List.{flat_map}
+-- A journal prints the text of each step, tells whether an event of it is amiss, and notes events.
+use Rattle.std.proofs.Common.{◌≡◌, ℕ, List, [], ◌∷◌, ◌++◌, refl, ap, sym, ◌∙◌, append_assoc, append-nil, Option, Some, None, length, arith}
+use Rattle.std.proofs.lemmas.Bool.Decides.{nat_tests}
+use Rattle.std.specs.Prelude.{◌==◌, Bool, true, false, ◌||◌, Result, Ok, Err, OnOk}
+use Rattle.std.specs.List.{flat_map, fold}
 use Rattle.cics_dispatch.specs.Machine.Events.{Happened}
 use Rattle.cics_run.specs.Stage.Amiss.{is_amiss, any_amiss}
 use Rattle.cics_run.specs.Stage.Journal.{event_line, fault_lines, text_of}
+use Rattle.cics_run.specs.Stage.Notes.{noted, with_note, notes_of}
+use Rattle.cics_run.specs.Told.Remarks as remarks
+use Rattle.cics_run.specs.declared.told.remarks.Remarks.{Remarks}
+use Rattle.cics_run.specs.declared.stage.notes.Note.{Note}
+use Rattle.cics_run.specs.declared.stage.stage.Stage.{Stage}
 use Rattle.cics_run.specs.Stage.Printed.{Printed, journal_sight}
 use Rattle.cics_run.specs.Stage.Seen.{after_events, after_fault, after_step}
 use Rattle.cics_run.specs.Stage.Stages.{Step}
@@ -31,6 +37,15 @@ events_amiss number p [] = sym (or-false p.is_amiss)
 events_amiss number p (h ∷ events) =
     events_amiss number (journal_sight.with_event p number h) events ∙ or-assoc p.is_amiss (is_amiss h.event) (any_amiss events)
 
+events_notes : (number : ℕ) (p : Printed) (events : List Happened)
+    → (after_events journal_sight number p events).notes ≡ fold (λ notes h. with_note notes (noted p.told.scope h.event)) p.notes events
+events_notes number p [] = refl
+events_notes number p (h ∷ events) = events_notes number (journal_sight.with_event p number h) events
+
+events_told : (number : ℕ) (p : Printed) (events : List Happened) → (after_events journal_sight number p events).told ≡ p.told
+events_told number p [] = refl
+events_told number p (h ∷ events) = events_told number (journal_sight.with_event p number h) events
+
 fault_text : (number : ℕ) (p : Printed) (fault : Option Fault) → (after_fault journal_sight number p fault).text ≡ p.text ++ fault_lines number fault
 fault_text number p None = sym (append-nil p.text)
 fault_text number p (Some fault) = refl
@@ -39,20 +54,46 @@ fault_amiss : (number : ℕ) (p : Printed) (fault : Option Fault) → (after_fau
 fault_amiss number p None = refl
 fault_amiss number p (Some fault) = refl
 
-step_text : (number : ℕ) (p : Printed) (s : Step) → (after_step journal_sight number p s).text ≡ p.text ++ text_of number s
+fault_notes : (number : ℕ) (p : Printed) (fault : Option Fault) → (after_fault journal_sight number p fault).notes ≡ p.notes
+fault_notes number p None = refl
+fault_notes number p (Some fault) = refl
+
+fault_told : (number : ℕ) (p : Printed) (fault : Option Fault) → (after_fault journal_sight number p fault).told ≡ p.told
+fault_told number p None = refl
+fault_told number p (Some fault) = refl
+
+pub step_text : (number : ℕ) (p : Printed) (s : Step) → (after_step journal_sight number p s).text ≡ p.text ++ text_of number s
 step_text number p s =
     fault_text number (after_events journal_sight number p s.events) s.fault
     ∙ ap (λ t. t ++ fault_lines number s.fault) (events_text number p s.events)
     ∙ append_assoc p.text (lines s.events) (fault_lines number s.fault)
 
-step_amiss : (number : ℕ) (p : Printed) (s : Step) → (after_step journal_sight number p s).is_amiss ≡ (p.is_amiss || any_amiss s.events)
+pub step_amiss : (number : ℕ) (p : Printed) (s : Step) → (after_step journal_sight number p s).is_amiss ≡ (p.is_amiss || any_amiss s.events)
 step_amiss number p s = fault_amiss number (after_events journal_sight number p s.events) s.fault ∙ events_amiss number p s.events
 
--- what a journal holds that saw a step
-pub printed_text : {A E : Type 0} (r : Result A E) (number : ℕ) (p q : Printed) (s : Step) → OnOk r (q ≡ after_step journal_sight number p s) → OnOk r (q.text ≡ p.text ++ text_of number s)
-printed_text (Ok x) number p q s seen = ap (λ (x : Printed). x.text) seen ∙ step_text number p s
-printed_text (Err e) number p q s seen = tt
+-- what a journal notes that sees a step, with no note before it
+step_notes : (number : ℕ) (p : Printed) (s : Step) → p.notes ≡ [] → (after_step journal_sight number p s).notes ≡ notes_of p.told.scope s.events
+step_notes number p s none =
+    fault_notes number (after_events journal_sight number p s.events) s.fault ∙ events_notes number p s.events
+    ∙ ap (λ notes. fold (λ notes h. with_note notes (noted p.told.scope h.event)) notes s.events) none
 
-pub printed_amiss : {A E : Type 0} (r : Result A E) (number : ℕ) (p q : Printed) (s : Step) → OnOk r (q ≡ after_step journal_sight number p s) → OnOk r (q.is_amiss ≡ (p.is_amiss || any_amiss s.events))
-printed_amiss (Ok x) number p q s seen = ap (λ (x : Printed). x.is_amiss) seen ∙ step_amiss number p s
-printed_amiss (Err e) number p q s seen = tt
+step_told : (number : ℕ) (p : Printed) (s : Step) → (after_step journal_sight number p s).told ≡ p.told
+step_told number p s = fault_told number (after_events journal_sight number p s.events) s.fault ∙ events_told number p s.events
+
+-- the remarks on a step, if its notes are folded in
+pub noted_told : (number : ℕ) (bytes : List ℕ) (stage : Stage) (p q : Printed) (s : Step) (told : Remarks) (notes : List Note) → p.notes ≡ [] → q ≡ after_step journal_sight number p s
+    → stage ≡ s.stage → notes ≡ q.notes → told ≡ fold (remarks.with_note stage number bytes) q.told notes → told ≡ remarks.remarked p.told number bytes s
+noted_told number bytes stage p q s told notes none seen at here folded =
+    folded ∙ ap (λ (x : Stage). fold (remarks.with_note x number bytes) q.told notes) at
+    ∙ ap (λ (r : Remarks). fold (remarks.with_note s.stage number bytes) r notes) (ap (λ (x : Printed). x.told) seen ∙ step_told number p s)
+    ∙ ap (fold (remarks.with_note s.stage number bytes) p.told) (here ∙ ap (λ (x : Printed). x.notes) seen ∙ step_notes number p s none)
+
+-- there are none, if nothing was noted
+pub nothing_told : (number : ℕ) (bytes : List ℕ) (p q : Printed) (s : Step) → p.notes ≡ [] → q ≡ after_step journal_sight number p s → q.notes ≡ [] → q.told ≡ remarks.remarked p.told number bytes s
+nothing_told number bytes p q s none seen empty =
+    ap (λ (x : Printed). x.told) seen ∙ step_told number p s
+    ∙ ap (fold (remarks.with_note s.stage number bytes) p.told) (sym empty ∙ ap (λ (x : Printed). x.notes) seen ∙ step_notes number p s none)
+
+pub nothing_left : {A : Type 0} (xs : List A) (b : Bool) → b ≡ (length xs == 0) → b ≡ true → xs ≡ []
+nothing_left [] b e is = refl
+nothing_left (x ∷ xs) b e is = let zero : length (x ∷ xs) ≡ 0 = grind (arith, nat_tests) in absurd (omega arith)

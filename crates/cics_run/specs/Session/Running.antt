@@ -8,7 +8,9 @@ use Rattle.cics_run.specs.Stage.Journal.{script_line, text_of}
 use Rattle.cics_run.specs.Stage.Stages.{step, Step, initial_stage, listing_at, replay_at}
 use Rattle.cics_run.specs.Session.Printing.{AppendsFront}
 use Rattle.cics_run.specs.Session.Streams.{Tells}
+use Rattle.cics_run.specs.Told.Remarks.{no_remarks, remarked}
 use Rattle.cics_run.specs.declared.session.running.TheConstants.{CHUNK}
+use Rattle.cics_run.specs.declared.stage.notes.Scope.{Scope}
 use Rattle.cics_run.specs.declared.stage.stage.Fault.{Fault}
 use Rattle.cics_run.specs.declared.stage.stage.Stage.{Stage}
 use Rattle.cics_run.specs.declared.session.running.Status.{Status}
@@ -16,10 +18,11 @@ use Rattle.cics_run.specs.declared.session.running.Status.TheVariants as status
 use Rattle.cics_run.specs.declared.session.running.RunFault.{RunFault}
 use Rattle.cics_run.specs.declared.session.running.RunFault.TheVariants as faults
 use Rattle.cics_run.specs.declared.session.running.Options.{Options}
+use Rattle.cics_run.specs.declared.told.remarks.Remarks.{Remarks}
 
 -- The state after some lines: the stage, their number, the last of them, its fault, if any, and
 -- whether an event was amiss. The journal is there twice, once with each line in front of its
--- journal lines.
+-- journal lines. The remarks depend on which events are told.
 pub record Played : Type 0 where
   pub stage : Stage
   pub number : ℕ
@@ -27,6 +30,7 @@ pub record Played : Type 0 where
   pub journal : List ℕ
   pub shown : List ℕ
   pub is_amiss : Bool
+  pub told : Scope → Remarks
   pub fault : Option Fault
 
 -- whether the last line was a fault
@@ -44,6 +48,7 @@ stepped p line s =
       journal = p.journal ++ text_of (p.number + 1) s;
       shown = p.shown ++ (script_line line ++ text_of (p.number + 1) s);
       is_amiss = p.is_amiss || any_amiss s.events;
+      told = λ scope. remarked (p.told scope) (p.number + 1) line s;
       fault = s.fault;
     }
 
@@ -57,25 +62,26 @@ most_bytes = 16777216
 
 -- before the first line
 abbrev pub start : Played
-start = record { stage = initial_stage; number = 0; line = []; journal = []; shown = []; is_amiss = false; fault = None }
+start = record { stage = initial_stage; number = 0; line = []; journal = []; shown = []; is_amiss = false; told = no_remarks; fault = None }
 
 -- some lines, in their order
 abbrev pub play : List (List ℕ) → Played
 play lines = fold next start lines
 
 -- what a run prints: whether each line of the script comes in front of its journal lines; and the
--- text behind the last event, from the stage at the end
+-- text behind the last event, from the stage at the end; and which events it tells of then
 pub record Form : Type 0 where
   pub with_script : Bool
   pub ending : Stage → List ℕ
+  pub scope : Scope
 
 -- the text behind the last event: the listing, unless it is left out, then the replay, if wanted
 abbrev pub listed : Options → Stage → List ℕ
 listed options stage = (if options.no_list then [] else listing_at stage) ++ (if options.replay then replay_at stage else [])
 
--- no line of the script is printed
+-- no line of the script is printed, and only abends by a condition and commands of no task are told
 abbrev pub plain : Options → Form
-plain options = record { with_script = false; ending = listed options }
+plain options = record { with_script = false; ending = listed options; scope = record { strict = false; why = false } }
 
 -- the journal of some lines, with the script if that is printed
 abbrev pub journal_of : Form → Played → List ℕ

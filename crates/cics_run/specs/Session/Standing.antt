@@ -8,6 +8,7 @@ use Rattle.cics_run.specs.Stage.Journal.{script_line, text_of}
 use Rattle.cics_run.specs.Stage.Stages.{step, Step, initial_stage, region_of}
 use Rattle.cics_run.specs.Session.Running.{Form, Played, play, has_fault, journal_of, journal, output, is_faulty}
 use Rattle.cics_run.specs.Session.Printing.{AppendsFront, Prints}
+use Rattle.cics_run.specs.Told.Remarks.{no_remarks, remarked}
 use Rattle.cics_run.specs.declared.session.running.RunFault.{RunFault}
 use Rattle.cics_run.specs.declared.session.running.RunFault.TheVariants as faults
 use Rattle.cics_run.specs.declared.session.writing.Stop.{Stop}
@@ -15,6 +16,7 @@ use Rattle.cics_run.specs.declared.session.writing.Stop.TheVariants as stops
 use Rattle.cics_run.specs.declared.session.running.Status.{Status}
 use Rattle.cics_run.specs.declared.session.running.Status.TheVariants as status
 use Rattle.cics_run.specs.declared.session.session.Session.{Session}
+use Rattle.cics_run.specs.declared.stage.notes.Scope.{Scope}
 use Rattle.cics_run.specs.declared.stage.stage.Stage.{Stage}
 use Rattle.cics_run.specs.declared.stage.stage.Stage.TheVariants.{Running}
 
@@ -25,6 +27,7 @@ pub record IsNew (s : Session) : Type 0 where
   pub line : s.line.items ≡ []
   pub pending : s.journal.text.items ≡ []
   pub calm : s.journal.is_amiss ≡ false
+  pub silent : s.journal.told ≡ no_remarks (record { strict = false; why = false })
   pub fault : s.fault ≡ None
 
 -- the step of a line that a session runs next
@@ -42,6 +45,7 @@ pub record Ran (s : Session) (line : List ℕ) (t : Session) : Type 0 where
   pub number : t.number ≡ s.number + 1
   pub fault : t.fault ≡ (next_step s line).fault
   pub amiss : t.journal.is_amiss ≡ (s.journal.is_amiss || any_amiss (next_step s line).events)
+  pub told : t.journal.told ≡ remarked s.journal.told (s.number + 1) line (next_step s line)
   pub shows : t.with_script ≡ s.with_script
 
 -- the line whose LF comes next
@@ -55,6 +59,7 @@ pub record Stands (form : Form) (bytes : List ℕ) (before now : Option (List �
   pub line : session.line.items ≡ unfinished bytes
   pub going : has_fault (play (completed bytes)) ≡ false
   pub amiss : session.journal.is_amiss ≡ (play (completed bytes)).is_amiss
+  pub told : session.journal.told ≡ (play (completed bytes)).told form.scope
   pub shows : session.with_script ≡ form.with_script
   pub printed : Prints before now [] session.journal.text.items (journal form bytes)
 
@@ -68,11 +73,16 @@ pub record Keeps (session : Session) (p : Played) : Type 0 where
   pub number : session.number ≡ p.number
   pub fault : session.fault ≡ p.fault
 
+-- a session has the remarks on these lines
+abbrev pub HasTold : Scope → Session → Played → Type 0
+HasTold scope session p = session.journal.told ≡ p.told scope
+
 -- A line of these bytes was a fault: their journal is written, and the line is kept.
 pub record Stopped (form : Form) (bytes : List ℕ) (before now : Option (List ℕ)) (session : Session) : Type 0 where
   pub fault : has_fault (play (completed bytes)) ≡ true
   pub written : Appends before now (journal form bytes)
   pub kept : Keeps session (play (completed bytes))
+  pub told : HasTold form.scope session (play (completed bytes))
 
 -- whether a line was a fault, the session goes on or has stopped
 abbrev pub Comes : Form → List ℕ → Option (List ℕ) → Option (List ℕ) → Session → Bool → Type 0
@@ -95,6 +105,7 @@ pub record IsClosed (form : Form) (bytes : List ℕ) (before now : Option (List 
   pub fault : has_fault (play (all_lines bytes)) ≡ is_fault
   pub stage : (play (all_lines bytes)).stage ≡ session.stage
   pub amiss : session.journal.is_amiss ≡ (play (all_lines bytes)).is_amiss
+  pub told : HasTold form.scope session (play (all_lines bytes))
   pub printed : Prints before now [] session.journal.text.items (journal_of form (play (all_lines bytes)))
   pub kept : is_fault ≡ true → Keeps session (play (all_lines bytes))
 
@@ -116,19 +127,19 @@ pub record HasEnd (session : Session) (p : Played) : Type 0 where
 -- the input's end came
 abbrev pub Finishes : {E : Type 0} → Form → List ℕ → Option (List ℕ) → Option (List ℕ) → Session → Result Status E → Type 0
 Finishes form bytes before now session (Ok status.Done) =
-    Appends before now (output form bytes) × (is_faulty bytes ≡ false) × HasEnd session (play (all_lines bytes))
+    Appends before now (output form bytes) × (is_faulty bytes ≡ false) × HasEnd session (play (all_lines bytes)) × HasTold form.scope session (play (all_lines bytes))
 Finishes form bytes before now session (Ok status.LineFault) =
-    Appends before now (output form bytes) × (is_faulty bytes ≡ true) × Keeps session (play (all_lines bytes))
+    Appends before now (output form bytes) × (is_faulty bytes ≡ true) × Keeps session (play (all_lines bytes)) × HasTold form.scope session (play (all_lines bytes))
 Finishes form bytes before now session (Err e) = AppendsFront before now (output form bytes)
 
 -- What a run over some bytes leaves in its session: the end of their lines, or the line that has a
--- fault.
-abbrev pub KeepsEnd : Option (List ℕ) → Option (List ℕ) → Session → Result Status RunFault → Type 0
-KeepsEnd input rest session (Ok status.Done) =
-    (bytes : List ℕ) × Consumes input rest bytes × (is_faulty bytes ≡ false) × HasEnd session (play (all_lines bytes))
-KeepsEnd input rest session (Ok status.LineFault) =
-    (bytes : List ℕ) × Consumes input rest bytes × (is_faulty bytes ≡ true) × Keeps session (play (all_lines bytes))
-KeepsEnd input rest session _ = ⊤
+-- fault; and the remarks on the lines.
+abbrev pub KeepsEnd : Scope → Option (List ℕ) → Option (List ℕ) → Session → Result Status RunFault → Type 0
+KeepsEnd scope input rest session (Ok status.Done) =
+    (bytes : List ℕ) × Consumes input rest bytes × (is_faulty bytes ≡ false) × HasEnd session (play (all_lines bytes)) × HasTold scope session (play (all_lines bytes))
+KeepsEnd scope input rest session (Ok status.LineFault) =
+    (bytes : List ℕ) × Consumes input rest bytes × (is_faulty bytes ≡ true) × Keeps session (play (all_lines bytes)) × HasTold scope session (play (all_lines bytes))
+KeepsEnd scope input rest session _ = ⊤
 
 -- the fault of a run that stopped
 abbrev pub fault_of : Stop → RunFault

@@ -23,7 +23,7 @@ is_abended_amiss _ = false
 -- whether an event is amiss: a request was refused, or a task was abended so
 abbrev pub is_amiss : Event → Bool
 is_amiss (Attached label transaction) = false
-is_amiss (Issued label outcome) = is_abended_amiss outcome
+is_amiss (Issued label outcome reason) = is_abended_amiss outcome
 is_amiss (Woken w) = is_abended_amiss w.outcome
 is_amiss (Expired e) = is_time_out e.code
 is_amiss (ClockSet now) = false

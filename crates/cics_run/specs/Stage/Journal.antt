@@ -92,10 +92,14 @@ subject_text (subject.Task label) = bare label
 subject_text subject.Clock = codes "CLOCK"
 subject_text subject.Shutdown = codes "SHUTDOWN"
 
+-- a command that was issued, with its outcome
+abbrev pub issued_text : List ℕ → Outcome → List ℕ
+issued_text label outcome = bare label ++ (codes " " ++ outcome_text outcome)
+
 -- an event
 abbrev pub event_text : Event → List ℕ
 event_text (event.Attached label transaction) = bare label ++ (codes " ATTACHED " ++ name_text transaction)
-event_text (event.Issued label outcome) = bare label ++ (codes " " ++ outcome_text outcome)
+event_text (event.Issued label outcome reason) = issued_text label outcome
 event_text (event.Woken w) = bare w.label ++ (codes " WOKEN " ++ outcome_text w.outcome)
 event_text (event.Expired e) = bare e.label ++ (codes " " ++ abend_text e.code None)
 event_text (event.ClockSet now) = codes "CLOCK " ++ decimal now
@@ -108,7 +112,7 @@ event_line e = line (event_text e)
 
 -- the line of a command that was issued
 abbrev pub outcome_line : List ℕ → Outcome → List ℕ
-outcome_line label outcome = event_line (event.Issued label outcome)
+outcome_line label outcome = line (issued_text label outcome)
 
 -- the names of the faults of definitions
 abbrev pub define_title : DefineFault → List ℕ

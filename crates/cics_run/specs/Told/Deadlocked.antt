@@ -6,7 +6,7 @@ use Rattle.cics_names.specs.declared.commands.Command.{Command}
 use Rattle.cics_names.specs.declared.commands.Verb.{Verb}
 use Rattle.cics_names.specs.declared.commands.Verb.TheVariants.{Read, Write, Delete, WriteqTs, DeleteqTs, WriteqTd, ReadqTd, DeleteqTd, Enq}
 use Rattle.cics_dispatch.specs.Machine.Machine.{Machine}
-use Rattle.cics_dispatch.specs.Machine.Blockers.{blocker_of, waiting_command}
+use Rattle.cics_dispatch.specs.Machine.Blockers.{waiting_command}
 use Rattle.cics_dispatch.specs.Deadlocks.Deadlocks.{deadlocks}
 use Rattle.cics_script.specs.Texts.{text_of, name_text, bare}
 use Rattle.cics_run.specs.Stage.Journal.{line}
@@ -41,23 +41,23 @@ abbrev pub awaited_text : Option Command → List ℕ
 awaited_text None = []
 awaited_text (Some c) = codes " (" ++ (resource_text c.verb ++ codes ")")
 
--- the task that blocks another one
-abbrev pub blocker_text : Option Bytes → List ℕ
-blocker_text None = []
-blocker_text (Some label) = bare label
+-- a task, another one that blocks it, and what it waits for
+abbrev pub wait_text : Machine → Bytes → Bytes → List ℕ
+wait_text m label blocker = bare label ++ (codes " waits for " ++ (bare blocker ++ awaited_text (waiting_command m label)))
 
--- a task, the one that blocks it, and what it waits for
-abbrev pub wait_text : Machine → Bytes → List ℕ
-wait_text m label = bare label ++ (codes " waits for " ++ (blocker_text (blocker_of m label) ++ awaited_text (waiting_command m label)))
+-- the same before further ones
+abbrev pub link_text : Machine → Bytes → Bytes → List ℕ
+link_text m label blocker = wait_text m label blocker ++ codes ", "
 
--- the same of a task behind another one
-abbrev pub next_wait_text : Machine → Bytes → List ℕ
-next_wait_text m label = codes ", " ++ wait_text m label
+-- a task that waits for the first of others, each of these for the next, the last for a given one
+abbrev pub waits_text : Machine → Bytes → List Bytes → Bytes → List ℕ
+waits_text m label [] last = wait_text m label last
+waits_text m label (next ∷ others) last = link_text m label next ++ waits_text m next others last
 
--- the line on the tasks of a deadlock, from the first one on
+-- the line on a circle of tasks, from the first one on
 abbrev pub deadlock_line : Machine → List Bytes → List ℕ
 deadlock_line m [] = []
-deadlock_line m (first ∷ others) = line (codes "cicsrun: deadlock: " ++ (wait_text m first ++ flat_map (next_wait_text m) others))
+deadlock_line m (first ∷ others) = line (codes "cicsrun: deadlock: " ++ waits_text m first others first)
 
 -- a line for each deadlock
 abbrev pub deadlock_lines : Machine → List ℕ

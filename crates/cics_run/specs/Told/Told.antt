@@ -1,14 +1,15 @@
 -- What a person is told of a run when it has ended.
 use Rattle.std.specs.Prelude.{◌≡◌, ◌⊎◌, ℕ, ◌+◌, ◌-◌, ◌==◌, ◌||◌, nat_lt, if◌then◌else◌, Option, Some, None, List, [], ◌++◌, length}
+use Rattle.std.specs.Borrow.{Bor}
 use Rattle.cics_script.specs.Tokens.{after_blanks}
 use Rattle.cics_script.specs.Columns.{IsFoundIn}
 use Rattle.cics_script.specs.declared.columns.Placed.{Placed}
 use Rattle.cics_script.specs.declared.faults.LineFault.{LineFault}
 use Rattle.cics_units.specs.Opening.Faults.{fault_number}
 use Rattle.cics_dispatch.specs.Machine.Machine.{Machine}
-use Rattle.cics_dispatch.specs.Deadlocks.Circles.{waiting_count}
-use Rattle.cics_dispatch.specs.Deadlocks.Deadlocks.{waits_of}
+use Rattle.cics_dispatch.specs.Deadlocks.Deadlocks.{waiting_count}
 use Rattle.cics_script.specs.Advice.Advice.{Advises}
+use Rattle.cics_script.specs.declared.advice.origin.Origin.{Origin}
 use Rattle.cics_script.specs.declared.advice.messages.Cause.{Cause}
 use Rattle.cics_script.specs.declared.advice.messages.Cause.TheVariants as causes
 use Rattle.cics_run.specs.declared.stage.stage.Fault.{Fault}
@@ -17,6 +18,9 @@ use Rattle.cics_run.specs.declared.stage.stage.Stage.{Stage}
 use Rattle.cics_run.specs.declared.stage.stage.Stage.TheVariants.{Opening, Running}
 use Rattle.cics_run.specs.declared.session.session.Session.{Session}
 use Rattle.cics_run.specs.Told.Deadlocked.{deadlock_lines}
+use Rattle.cics_run.specs.Told.Remarks.{remark_lines}
+use Rattle.cics_run.specs.Told.Waiting.{waiting_line}
+use Rattle.cics_run.specs.declared.stage.notes.Scope.{Scope}
 use Rattle.cics_run.specs.declared.told.told.TheConstants.{MOST_WAITING}
 
 -- the column of the first byte that is no blank
@@ -35,20 +39,34 @@ IsCauseOf bytes (faults.Line fault) (causes.Line placed) = IsPlaced bytes fault 
 IsCauseOf bytes (faults.Definition fault) (causes.Definition number) = number ≡ fault_number fault
 IsCauseOf bytes fault cause = ⊥
 
--- what is told of the line that a session keeps: nothing without a fault
-abbrev pub IsToldOf : Session → Option Fault → List ℕ → Type 0
-IsToldOf s None text = text ≡ []
-IsToldOf s (Some fault) text = (cause : Cause) × IsCauseOf s.line.items fault cause × Advises s.number s.line.items cause [] text
+-- what is told of a line with a fault, put behind a text
+abbrev pub TellsFault : Origin → List ℕ → Fault → List ℕ → List ℕ → Type 0
+TellsFault origin bytes fault before now = (cause : Cause) × IsCauseOf bytes fault cause × Advises origin bytes cause before now
+
+-- what is told of a run that ended with a fault, if it did: the remarks, and the line that the
+-- session keeps
+abbrev pub IsToldOf : Option (Bor (List ℕ)) → Session → Option Fault → List ℕ → Type 0
+IsToldOf file s None text = text ≡ remark_lines file s.journal.told
+IsToldOf file s (Some fault) text = TellsFault (record { file = file; line = s.number }) s.line.items fault (remark_lines file s.journal.told) text
 
 -- a line for each deadlock, unless nobody waits or too many tasks do
 abbrev pub few_deadlock_lines : Machine → List ℕ
-few_deadlock_lines m = let waiting = waiting_count (waits_of m) in if waiting == 0 || nat_lt MOST_WAITING waiting then [] else deadlock_lines m
+few_deadlock_lines m = let waiting = waiting_count m in if waiting == 0 || nat_lt MOST_WAITING waiting then [] else deadlock_lines m
 
--- the deadlocks of a region, and behind them some hints
-abbrev pub IsToldOfRegion : Machine → List ℕ → Type 0
-IsToldOfRegion m text = (hints : List ℕ) × (text ≡ few_deadlock_lines m ++ hints)
+-- what a strict run tells of the tasks that still wait
+abbrev pub strict_lines : Scope → Machine → List ℕ
+strict_lines scope m = if scope.strict then waiting_line m else []
 
--- what is told at the end of a run: of definitions alone nothing
-abbrev pub IsToldAtEnd : Stage → List ℕ → Type 0
-IsToldAtEnd (Opening o) text = text ≡ []
-IsToldAtEnd (Running r) text = IsToldOfRegion r.machine text
+-- some text stands behind another
+abbrev pub IsLonger : List ℕ → List ℕ → Type 0
+IsLonger before now = (more : List ℕ) × (now ≡ before ++ more)
+
+-- what is told of the region in which a run ended, and behind it some hints; of definitions alone
+-- nothing
+abbrev pub IsToldOfStage : Scope → Stage → List ℕ → List ℕ → Type 0
+IsToldOfStage scope (Opening o) before now = now ≡ before
+IsToldOfStage scope (Running r) before now = IsLonger (before ++ (strict_lines scope r.machine ++ few_deadlock_lines r.machine)) now
+
+-- what is told at the end of a run: the remarks, and then the region
+abbrev pub IsToldAtEnd : Option (Bor (List ℕ)) → Session → List ℕ → Type 0
+IsToldAtEnd file s text = IsToldOfStage s.journal.told.scope s.stage (remark_lines file s.journal.told) text

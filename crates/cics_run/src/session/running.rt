@@ -4,12 +4,13 @@ ghost use Rattle.std.specs.Prelude.{◌≡◌, None};
 ghost use Rattle.cics_run.specs.Session.Streams.{Rises, RisesAtMost, failures};
 ghost use Rattle.cics_run.specs.Session.Running.{RunsOver, plain, most_reads, read_failures};
 ghost use Rattle.cics_run.specs.Session.Running.{write_failures};
-ghost use Rattle.cics_run.specs.Session.Wanted.{form_of};
+ghost use Rattle.cics_run.specs.Session.Wanted.{form_of, scope_of};
 ghost use Rattle.cics_run.specs.Session.Standing.{IsNew, KeepsEnd, ended, fault_of};
 
 use crate::session::session::Session;
 use crate::session::streams::{Sink, Source};
 use crate::session::writing::Stop;
+use crate::stage::Scope;
 use std::alloc::Global;
 use std::io::{Read, Write};
 use thiserror::Error;
@@ -57,7 +58,7 @@ pub struct Options {
     pub no_list: bool,
 }
 
-/// What the program prints: the options of a run, the serial run, and the script.
+/// What the program does in a run: its options, and what goes beyond them.
 #[derive(Clone, Copy)]
 pub struct Wanted {
     pub options: Options,
@@ -65,6 +66,35 @@ pub struct Wanted {
     pub serial: bool,
     /// Print each line of the script in front of its journal lines.
     pub with_script: bool,
+    /// End with a status of its own if something is amiss (`strict_status`).
+    pub strict: bool,
+    /// Tell a person also why tasks were answered conditions that they handle.
+    pub why: bool,
+}
+
+impl Wanted {
+    /// Returns a `Wanted` with these options and nothing else.
+    pub fn plain(options: Options) -> Wanted
+        ensures { form_of result ≡ plain options }
+    {
+        Wanted {
+            options,
+            serial: false,
+            with_script: false,
+            strict: false,
+            why: false,
+        }
+    }
+
+    // Returns which events are told.
+    fn scope(self) -> Scope
+        ensures { result ≡ scope_of self }
+    {
+        Scope {
+            strict: self.strict,
+            why: self.why,
+        }
+    }
 }
 
 /// The options of a report on the orders in which a script's tasks may give their lines.
@@ -72,11 +102,13 @@ pub struct Wanted {
 /// - `told`: whether endings with different answers are different.
 /// - `limit`: about how many states of the region and its lanes are followed.
 /// - `ending`: the number of the ending to print as a script, if one is given.
+/// - `strict`: whether the answer says that an ending is a deadlock, or has no serial order.
 #[derive(Clone, Copy)]
 pub struct Orders {
     pub told: bool,
     pub limit: u64,
     pub ending: Option<u64>,
+    pub strict: bool,
 }
 
 /// Runs the script that a reader gives, and writes its journal and what follows it.
@@ -92,13 +124,8 @@ pub fn run<R: Read, W: Write>(
     ensures whole_run { RunsOver (plain options) (R.remaining reader.old)
         (R.remaining reader.new) None (W.contents writer.old) (W.contents writer.new) result }
 {
-    let wanted = Wanted {
-        options,
-        serial: false,
-        with_script: false,
-    };
     let mut session = Session::new(alloc);
-    run_over(&mut session, reader, writer, wanted)
+    run_over(&mut session, reader, writer, Wanted::plain(options))
 }
 
 /// Runs the script that a source gives, and writes its journal and what follows it.
@@ -110,8 +137,9 @@ pub fn run<R: Read, W: Write>(
 /// It returns a read or a write fault only if that very call failed, and tries none again.
 ///
 /// The session is a new one, and is left to its owner, who drops it. At the end it has the region
-/// in which the lines ended, and after a fault the line that has it. A process that ends right
-/// after the run may forget it.
+/// in which the lines ended, and after a fault the line that has it. It also has the remarks on the
+/// lines, of which `told_at_end` and `told_of` make what a person is told. A process that ends
+/// right after the run may forget it.
 pub fn run_over<S: Source, K: Sink>(
     session: &mut Session,
     source: &mut S,
@@ -124,11 +152,13 @@ pub fn run_over<S: Source, K: Sink>(
     ensures write_faults { Rises (K.failed sink.old) (K.failed sink.new)
         (failures write_failures result) }
     ensures asked { RisesAtMost (S.asked source.old) (S.asked source.new) most_reads }
-    ensures kept { KeepsEnd (S.remaining source.old) (S.remaining source.new) session.new result }
+    ensures kept { KeepsEnd (scope_of wanted) (S.remaining source.old) (S.remaining source.new)
+        session.new result }
     ensures whole_run { RunsOver (form_of wanted) (S.remaining source.old) (S.remaining source.new)
         (S.last source.new) (K.contents sink.old) (K.contents sink.new) result }
 {
     session.with_script = wanted.with_script;
+    session.journal.told.scope = wanted.scope();
     let mut buffer = [0u8; CHUNK];
     let mut room = LIMIT;
     'reads: loop {
@@ -155,8 +185,8 @@ fn fault_of(stop: Stop) -> RunFault
     }
 }
 
-// Returns the answer of a run that came to the input's end.
-fn ended(answer: Result<Status, Stop>) -> Result<Status, RunFault>
+/// Returns the answer of a run that came to the input's end.
+pub(crate) fn ended(answer: Result<Status, Stop>) -> Result<Status, RunFault>
     ensures { result ≡ ended answer }
 {
     match answer {

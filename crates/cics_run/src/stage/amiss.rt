@@ -9,7 +9,8 @@ use cics_names::AbendCode;
 // AKCS, the code of a time-out.
 const TIME_OUT: [u8; 4] = [0xC1, 0xD2, 0xC3, 0xE2];
 
-fn is_time_out(code: AbendCode) -> bool
+/// Returns whether a code is that of a time-out.
+pub fn is_time_out(code: AbendCode) -> bool
     ensures { result ≡ is_time_out code }
 {
     code.0.bytes() == TIME_OUT
@@ -36,7 +37,7 @@ pub fn is_amiss(event: &Event) -> bool
     ensures { result ≡ is_amiss event.now }
 {
     match event {
-        Event::Issued(_, outcome) => is_abended_amiss(outcome),
+        Event::Issued(_, outcome, _) => is_abended_amiss(outcome),
         Event::Woken(woken) => is_abended_amiss(&woken.outcome),
         Event::Expired(expired) => is_time_out(expired.code),
         Event::Refused(_, _) => true,

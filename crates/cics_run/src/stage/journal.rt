@@ -3,10 +3,10 @@
 
 ghost use Rattle.std.specs.Prelude.{◌≡◌, ◌++◌, OnOk};
 ghost use Rattle.cics_run.specs.Stage.Journal.{numbered, condition_text, part, number_part, reply_text};
-ghost use Rattle.cics_run.specs.Stage.Journal.{abend_text, outcome_text, outcome_line, script_line};
+ghost use Rattle.cics_run.specs.Stage.Journal.{abend_text, outcome_text, issued_text, outcome_line};
 ghost use Rattle.cics_run.specs.Stage.Journal.{refusal_title, refusal_text, subject_text, define_title};
 ghost use Rattle.cics_run.specs.Stage.Journal.{event_text, event_line, fault_text, fault_line};
-ghost use Rattle.cics_dispatch.specs.declared.machine.events.Event.TheVariants.{Issued as IssuedEvent};
+ghost use Rattle.cics_run.specs.Stage.Journal.{script_line};
 
 use crate::stage::Fault;
 use cics_dispatch::{Event, Number, Outcome, Refused, Reply, Subject};
@@ -70,7 +70,7 @@ fn push_event_text(out: &mut Vec<u8>, event: &Event) -> Result<(), NoMemory>
     ensures { OnOk result (out.new.items ≡ out.old.items ++ event_text event.now) }
 {
     match event {
-        Event::Issued(label, outcome) => push_issued(out, *label, outcome),
+        Event::Issued(label, outcome, _) => push_issued(out, *label, outcome),
         Event::Attached(label, transaction) => {
             push_bare(out, &label.bytes())?;
             push_str(out, " ATTACHED ")?;
@@ -105,8 +105,7 @@ fn push_event_text(out: &mut Vec<u8>, event: &Event) -> Result<(), NoMemory>
 // Appends a task and the outcome of a command that it issued.
 #[inline(always)]
 fn push_issued(out: &mut Vec<u8>, label: Name8, outcome: &Outcome) -> Result<(), NoMemory>
-    ensures { OnOk result (out.new.items
-        ≡ out.old.items ++ event_text (IssuedEvent label outcome.now)) }
+    ensures { OnOk result (out.new.items ≡ out.old.items ++ issued_text label outcome.now) }
 {
     push_bare(out, &label.bytes())?;
     push_str(out, " ")?;

@@ -1,6 +1,7 @@
 //! The journal of a run, as it is printed.
 
 ghost use Rattle.std.specs.Prelude.{◌≡◌, ◌++◌, ◌||◌, [], false, OnOk, IfOk};
+ghost use Rattle.cics_run.specs.Told.Remarks.{no_remarks, remarked};
 ghost use Rattle.cics_run.specs.Stage.Amiss.{any_amiss};
 ghost use Rattle.cics_run.specs.Stage.Journal.{text_of};
 ghost use Rattle.cics_run.specs.Stage.Printed.{printed_in};
@@ -8,8 +9,10 @@ ghost use Rattle.cics_run.specs.Stage.Stages.{step, IsPlayed};
 
 use crate::stage::amiss::is_amiss;
 use crate::stage::journal::{push_event, push_fault};
+use crate::stage::notes::{Note, push_noted};
 use crate::stage::undefined::tells_undefined;
 use crate::stage::{Fault, Observer, Stage};
+use crate::told::{Remarks, keep_alone};
 use cics_dispatch::{Event, Region};
 use cics_names::NoMemory;
 use std::alloc::Global;
@@ -23,22 +26,37 @@ pub struct Journal {
     pub is_amiss: bool,
     /// Whether a command was answered that what it names isn't defined.
     pub is_undefined: bool,
+    /// What is told of the events of the last line.
+    pub notes: Vec<Note>,
+    /// What is told of the events of the lines before.
+    pub told: Remarks,
+    /// The numbers of lines whose command has RESP2 alone, and was answered a condition: at most
+    /// 64.
+    pub alone: Vec<u64>,
 }
 
 impl Journal {
     /// Returns an empty journal.
     pub fn new(alloc: Global) -> Journal
-        ensures { printed_in result ≡ record { text = []; is_amiss = false } }
+        ensures { printed_in result ≡ record {
+          text = [];
+          is_amiss = false;
+          notes = [];
+          told = no_remarks (record { strict = false; why = false });
+        } }
     {
         Journal {
             text: Vec::new(alloc),
             is_amiss: false,
             is_undefined: false,
+            notes: Vec::new(alloc),
+            told: Remarks::new(alloc),
+            alone: Vec::new(alloc),
         }
     }
 
     /// Runs the line with this number on a stage, prints its journal lines, and returns its fault,
-    /// if it has one.
+    /// if it has one. Keeps what a person is told of its events.
     ///
     /// Errors: `NoMemory`.
     pub fn print_line(
@@ -52,8 +70,17 @@ impl Journal {
             ≡ self.old.text.items ++ text_of number (step stage.old line.now)) }
         ensures amiss { OnOk result (self.new.is_amiss
             ≡ (self.old.is_amiss || any_amiss (step stage.old line.now).events)) }
+        ensures told { OnOk result (self.new.told
+            ≡ remarked self.old.told number line.now (step stage.old line.now)) }
     {
-        stage.run_line(*self.text.allocator(), number, line, self)
+        self.notes.clear();
+        let fault = stage.run_line(*self.text.allocator(), number, line, self)?;
+        let notes = self.notes.as_slice();
+        if !notes.is_empty() {
+            self.told.add_all(stage, number, line, notes)?;
+            keep_alone(&mut self.alone, number, line, notes)?;
+        }
+        Ok(fault)
     }
 }
 
@@ -67,8 +94,12 @@ impl Observer for Journal {
     ghost sight = { journal_sight };
 
     fn see(&mut self, _number: u64, event: &Event, _region: &Region) -> Result<(), NoMemory> {
-        self.is_amiss |= is_amiss(event);
+        let is_amiss = is_amiss(event);
+        self.is_amiss |= is_amiss;
         self.is_undefined |= tells_undefined(event);
+        if is_amiss || self.told.scope.why {
+            push_noted(&mut self.notes, self.told.scope, event)?;
+        }
         push_event(&mut self.text, event)
     }
 

@@ -55,6 +55,14 @@ impl Stage {
         Stage::Opening(Opening::new(alloc))
     }
 
+    /// Returns the allocator of what is defined.
+    pub fn allocator(&self) -> Global {
+        match self {
+            Stage::Opening(opening) => opening.allocator(),
+            Stage::Running(region) => region.units().opening().allocator(),
+        }
+    }
+
     /// Runs the line with this number, and returns its fault, if it has one. A fault ends the run.
     /// The observer sees the line's events in their order, and then its fault.
     ///
@@ -132,11 +140,7 @@ impl Stage {
                 Stage::Opening(opening) => told(opening.load_td(name, content)),
                 Stage::Running(_) => Ok(Some(TOO_LATE)),
             },
-            Line::Attach {
-                label,
-                transaction,
-                dtimout,
-            } => {
+            Line::Attach(label, transaction, dtimout) => {
                 let request = Request::Attach {
                     label,
                     transaction,

@@ -34,8 +34,8 @@ impl Named {
 /// Returns whether a command was answered that what it names isn't defined.
 pub fn tells_undefined(event: &Event) -> bool {
     let condition = match event {
-        Event::Issued(_, Outcome::Replied(reply)) => reply.condition,
-        Event::Issued(_, Outcome::Abended(_, Some(reply))) => reply.condition,
+        Event::Issued(_, Outcome::Replied(reply), _) => reply.condition,
+        Event::Issued(_, Outcome::Abended(_, Some(reply)), _) => reply.condition,
         _ => return false,
     };
     matches!(condition, Condition::Dsiderr | Condition::Qiderr)

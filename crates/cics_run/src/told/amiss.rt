@@ -1,6 +1,9 @@
 //! Whether something is amiss at the end of a strict run.
 
-ghost use Rattle.std.specs.Prelude.{◌≡◌};
+ghost use Rattle.std.specs.Prelude.{◌≡◌, Bool, true, is_some};
+ghost use Rattle.cics_dispatch.specs.declared.machine.events.Event.{Event as EventOf};
+ghost use Rattle.cics_run.specs.Stage.Amiss.{is_amiss as is_event_amiss};
+ghost use Rattle.cics_run.specs.Stage.Notes.{noted};
 ghost use Rattle.cics_run.specs.Session.Running.{Played};
 ghost use Rattle.cics_run.specs.Session.Standing.{HasEnd};
 ghost use Rattle.cics_run.specs.Told.Amiss.{ends_amiss};
@@ -18,3 +21,9 @@ pub fn is_amiss(session: &Session) -> bool
 {
     session.journal.is_amiss || is_left_waiting(session)
 }
+
+/// With `strict` a person is told of each event that is amiss.
+pub fn strict_tells_all()
+    ensures { (why : Bool) (e : EventOf) → is_event_amiss e ≡ true
+        → is_some (noted (record { strict = true; why = why }) e) ≡ true }
+{}

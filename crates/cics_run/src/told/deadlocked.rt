@@ -3,9 +3,9 @@
 ghost use Rattle.std.specs.Prelude.{◌≡◌, ◌∷◌, ◌++◌, take, OnOk};
 ghost use Rattle.std.specs.List.{flat_map};
 ghost use Rattle.cics_run.specs.Told.Deadlocked.{keys_text, queue_text, value_text, resource_text};
-ghost use Rattle.cics_run.specs.Told.Deadlocked.{wait_text, next_wait_text, deadlock_line};
-ghost use Rattle.cics_run.specs.Told.Deadlocked.{deadlock_lines, blocker_text, awaited_text};
-ghost use Rattle.cics_dispatch.specs.Machine.Blockers.{blocker_of, waiting_command};
+ghost use Rattle.cics_run.specs.Told.Deadlocked.{wait_text, link_text, waits_text, deadlock_line};
+ghost use Rattle.cics_run.specs.Told.Deadlocked.{deadlock_lines, awaited_text};
+ghost use Rattle.cics_dispatch.specs.Machine.Blockers.{waiting_command};
 
 use cics_dispatch::Region;
 use cics_dispatch::deadlocks::deadlocks;
@@ -81,17 +81,6 @@ fn push_resource(out: &mut Vec<u8>, verb: &Verb) -> Result<(), NoMemory>
     }
 }
 
-// Appends the task that blocks another one.
-fn push_blocker(out: &mut Vec<u8>, region: &Region, label: &Name8) -> Result<(), NoMemory>
-    ensures { OnOk result (out.new.items
-        ≡ out.old.items ++ blocker_text (blocker_of region.now.machine label.now)) }
-{
-    match region.blocker(label) {
-        Some(blocker) => push_bare(out, &blocker.bytes()),
-        None => Ok(()),
-    }
-}
-
 // Appends what a task waits for, in parentheses.
 fn push_awaited(out: &mut Vec<u8>, region: &Region, label: &Name8) -> Result<(), NoMemory>
     ensures { OnOk result (out.new.items
@@ -105,40 +94,57 @@ fn push_awaited(out: &mut Vec<u8>, region: &Region, label: &Name8) -> Result<(),
     push_str(out, ")")
 }
 
-// Appends a task, the one that blocks it, and what it waits for.
-fn push_wait(out: &mut Vec<u8>, region: &Region, label: &Name8) -> Result<(), NoMemory>
+/// Appends a task, another one that blocks it, and what it waits for.
+pub fn push_wait(
+    out: &mut Vec<u8>,
+    region: &Region,
+    label: &Name8,
+    blocker: &Name8,
+) -> Result<(), NoMemory>
     ensures { OnOk result (out.new.items
-        ≡ out.old.items ++ wait_text region.now.machine label.now) }
+        ≡ out.old.items ++ wait_text region.now.machine label.now blocker.now) }
 {
     push_bare(out, &label.bytes())?;
     push_str(out, " waits for ")?;
-    push_blocker(out, region, label)?;
+    push_bare(out, &blocker.bytes())?;
     push_awaited(out, region, label)?;
     Ok(())
 }
 
-// Appends the same of a task behind another one.
-fn push_next_wait(out: &mut Vec<u8>, region: &Region, label: &Name8) -> Result<(), NoMemory>
+// Appends such a wait, and a comma.
+fn push_link(
+    out: &mut Vec<u8>,
+    region: &Region,
+    label: &Name8,
+    blocker: &Name8,
+) -> Result<(), NoMemory>
     ensures { OnOk result (out.new.items
-        ≡ out.old.items ++ next_wait_text region.now.machine label.now) }
+        ≡ out.old.items ++ link_text region.now.machine label.now blocker.now) }
 {
+    push_wait(out, region, label, blocker)?;
     push_str(out, ", ")?;
-    push_wait(out, region, label)?;
     Ok(())
 }
 
-fn push_next_waits(out: &mut Vec<u8>, region: &Region, labels: &[Name8]) -> Result<(), NoMemory>
+// Appends tasks that wait for each other: each for the next one, the last for the first.
+fn push_waits(
+    out: &mut Vec<u8>,
+    region: &Region,
+    first: &Name8,
+    others: &[Name8],
+) -> Result<(), NoMemory>
     ensures { OnOk result (out.new.items
-        ≡ out.old.items ++ flat_map (next_wait_text region.now.machine) labels.now) }
+        ≡ out.old.items ++ waits_text region.now.machine first.now others.now first.now) }
 {
-    for label in labels {
-        push_next_wait(out, region, label)?;
+    let mut at = *first;
+    for next in others {
+        push_link(out, region, &at, next)?;
+        at = *next;
     }
-    Ok(())
+    push_wait(out, region, &at, first)
 }
 
-// Appends a line on a task and others that wait for each other: each for the next one, the last for
-// it.
+// Appends a line on a task and others that wait for each other.
 fn push_circle(
     out: &mut Vec<u8>,
     region: &Region,
@@ -149,8 +155,7 @@ fn push_circle(
         ≡ out.old.items ++ deadlock_line region.now.machine (first.now ∷ others.now)) }
 {
     push_str(out, "cicsrun: deadlock: ")?;
-    push_wait(out, region, first)?;
-    push_next_waits(out, region, others)?;
+    push_waits(out, region, first, others)?;
     push_str(out, "\n")?;
     Ok(())
 }
@@ -165,8 +170,8 @@ fn push_deadlock(out: &mut Vec<u8>, region: &Region, labels: &[Name8]) -> Result
     }
 }
 
-/// Appends a line for each deadlock of a region, in the order of `cics_dispatch::deadlocks::deadlocks`: which
-/// task waits for which, and for what.
+/// Appends a line for each deadlock of a region, in the order of
+/// `cics_dispatch::deadlocks::deadlocks`: of one circle, which task waits for which, and for what.
 ///
 /// Errors: `NoMemory`. Cost: that of `deadlocks`.
 pub fn push_deadlocks(out: &mut Vec<u8>, region: &Region) -> Result<(), NoMemory>

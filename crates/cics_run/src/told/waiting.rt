@@ -1,31 +1,41 @@
-//! Whether a run leaves a task waiting.
+//! Whether a run leaves a task waiting, and what is told of that.
 
-ghost use Rattle.std.specs.Prelude.{◌≡◌, length};
-ghost use Rattle.cics_run.specs.Told.Waiting.{waits_at, one_waits_below, is_left_waiting};
+ghost use Rattle.std.specs.Prelude.{◌≡◌, ◌++◌, length, OnOk};
+ghost use Rattle.cics_run.specs.Told.Waiting.{waiting_at, first_waiting_below, first_waiting};
+ghost use Rattle.cics_run.specs.Told.Waiting.{is_left_waiting, waiter_text, first_line};
+ghost use Rattle.cics_run.specs.Told.Waiting.{waiting_line};
 
 use crate::session::Session;
 use crate::stage::Stage;
+use crate::told::deadlocked::push_wait;
 use cics_dispatch::Region;
+use cics_dispatch::deadlocks::waiting_count;
+use cics_names::{Name8, NoMemory};
+use cics_script::spelling::{push_bare, push_number, push_str};
 
-// Returns whether the task of a number waits.
-fn waits_at(region: &Region, number: usize) -> bool
-    ensures { result ≡ waits_at region.now.machine number }
+// Returns the label of the task of a number, if it waits.
+fn waiting_at(region: &Region, number: usize) -> Option<Name8>
+    ensures { result ≡ waiting_at region.now.machine number }
 {
-    match region.label_at(number) {
-        Some(label) => region.waiting_command(&label).is_some(),
-        None => false,
+    let label = region.label_at(number)?;
+    if region.waiting_command(&label).is_some() {
+        Some(label)
+    } else {
+        None
     }
 }
 
-// Returns whether one of the tasks of a region waits.
-fn one_waits(region: &Region) -> bool
-    ensures { result ≡ one_waits_below region.now.machine (length region.now.machine.tasks) }
+// Returns the label of the first task that waits.
+fn first_waiting(region: &Region) -> Option<Name8>
+    ensures { result ≡ first_waiting region.now.machine }
 {
-    let mut waits = false;
+    let mut first = None;
     for number in 0..region.task_count() {
-        waits |= waits_at(region, number);
+        if first.is_none() {
+            first = waiting_at(region, number);
+        }
     }
-    waits
+    first
 }
 
 /// Returns whether a task still waits at the end of a run. The session is the one that was run.
@@ -35,7 +45,44 @@ pub fn is_left_waiting(session: &Session) -> bool
     ensures { result ≡ is_left_waiting session.now.stage }
 {
     match &session.stage {
-        Stage::Running(region) => one_waits(region),
+        Stage::Running(region) => first_waiting(region).is_some(),
         Stage::Opening(_) => false,
+    }
+}
+
+// Appends a task that waits, and for whom and what, if another one blocks it.
+fn push_waiter(out: &mut Vec<u8>, region: &Region, label: &Name8) -> Result<(), NoMemory>
+    ensures { OnOk result (out.new.items
+        ≡ out.old.items ++ waiter_text region.now.machine label.now) }
+{
+    match region.blocker(label) {
+        Some(blocker) => push_wait(out, region, label, &blocker),
+        None => push_bare(out, &label.bytes()),
+    }
+}
+
+// Appends how many tasks of a region wait, and for whom and what one of them does.
+fn push_first(out: &mut Vec<u8>, region: &Region, label: &Name8) -> Result<(), NoMemory>
+    ensures { OnOk result (out.new.items
+        ≡ out.old.items ++ first_line region.now.machine label.now) }
+{
+    push_str(out, "cicsrun: still waiting at the end: ")?;
+    push_number(out, waiting_count(region) as u64)?;
+    push_str(out, "; ")?;
+    push_waiter(out, region, label)?;
+    push_str(out, "\n")?;
+    Ok(())
+}
+
+/// Appends how many tasks of a region wait, and for whom and what the first does. Appends nothing
+/// if none waits.
+///
+/// Cost: O(tasks).
+pub fn push_waiting(out: &mut Vec<u8>, region: &Region) -> Result<(), NoMemory>
+    ensures { OnOk result (out.new.items ≡ out.old.items ++ waiting_line region.now.machine) }
+{
+    match first_waiting(region) {
+        Some(label) => push_first(out, region, &label),
+        None => Ok(()),
     }
 }

@@ -12,7 +12,7 @@ returns-in-Err-clause-finishes g c bytes before at = front-output (form_of c.arg
 
 pub returns-in-Ok-clause-finishes : goal.returns-in-Ok-clause-finishes
 returns-in-Ok-clause-finishes g c bytes before at =
-    end-written (form_of c.args.wanted) bytes before _ _ _ _ (rw c.in-Ok-false.field-0-test at (c.in-Ok-false.ensures.closes (form_of c.args.wanted) bytes before at)) c.in-Ok.ensures.ok c.in-Ok.ensures.stage refl
+    end-written (form_of c.args.wanted) bytes before _ _ _ _ (rw c.in-Ok-false.field-0-test at (c.in-Ok-false.ensures.closes (form_of c.args.wanted) bytes before at)) c.in-Ok.ensures.ok c.in-Ok.ensures.stage refl refl
 
 pub returns-in-Err-write_end-clause-finishes : goal.returns-in-Err-write_end-clause-finishes
 returns-in-Err-write_end-clause-finishes g c bytes before at =

@@ -2,12 +2,8 @@ use Rattle.std.proofs.Common.{◌≡◌, List, ℕ, [], ◌++◌, ◌+◌, ap, �
 use Rattle.cics_run.specs.Session.Printing.{AppendsFront, Prints}
 use Rattle.cics_run.specs.Session.Standing.{next_step}
 use Rattle.cics_run.specs.Stage.Journal.{text_of}
-use Rattle.cics_run.proofs.OfSession.Printing.{on-err}
+use Rattle.cics_run.proofs.OfSession.Printing.{behind-pending, on-err}
 use Rattle.cics_run.proofs.session.session.Session.run_kept.Goals as goal
-
--- a text stands behind what was pending, and some of both may be written
-behind-pending : (a b : Option (List ℕ)) (pending all left text : List ℕ) → all ≡ pending ++ text → Prints a b all left [] → Prints a b pending left text
-behind-pending a b pending all left text pushed (written, parts, took) = (written, sym pushed ∙ sym (append-nil all) ∙ parts, took)
 
 -- two texts, one behind the other, stand behind what was pending
 both-behind : (pending shown text front all : List ℕ) → all ≡ front ++ text → front ≡ pending ++ shown → all ≡ pending ++ (shown ++ text)
@@ -19,9 +15,10 @@ returns-then-is_fault g c =
     let played = rw c.deref-2.ensures.value at c.in_ok-self.ensures.played in
     let text = rw c.deref-2.ensures.value at c.in_ok-self.ensures.text in
     let amiss = rw c.deref-2.ensures.value at c.in_ok-self.ensures.amiss in
+    let told = rw c.deref-2.ensures.value at c.in_ok-self.ensures.told in
     let shown = rw c.deref.ensures.value at c.in_ok-push_wanted_line.ensures in
     record {
-      ran = record { stage = played.0; number = refl; fault = played.1; amiss = amiss; shows = refl };
+      ran = record { stage = played.0; number = refl; fault = played.1; amiss = amiss; told = told; shows = refl };
       line = refl;
       fault = c.if-is_fault.ensures;
       printed = behind-pending _ _ s.journal.text.items _ _ _ (both-behind s.journal.text.items _ (text_of (s.number + 1) (next_step s s.line.items)) _ _ text shown) c.in_ok-write_printed.ensures.printed;
@@ -36,9 +33,10 @@ returns g c =
     let played = rw c.deref-2.ensures.value at c.in_ok-self.ensures.played in
     let text = rw c.deref-2.ensures.value at c.in_ok-self.ensures.text in
     let amiss = rw c.deref-2.ensures.value at c.in_ok-self.ensures.amiss in
+    let told = rw c.deref-2.ensures.value at c.in_ok-self.ensures.told in
     let shown = rw c.deref.ensures.value at c.in_ok-push_wanted_line.ensures in
     record {
-      ran = record { stage = played.0; number = refl; fault = played.1; amiss = amiss; shows = refl };
+      ran = record { stage = played.0; number = refl; fault = played.1; amiss = amiss; told = told; shows = refl };
       line = c.clear.ensures.items;
       fault = c.if-is_fault.ensures;
       printed = behind-pending _ _ s.journal.text.items _ _ _ (both-behind s.journal.text.items _ (text_of (s.number + 1) (next_step s s.line.items)) _ _ text shown) c.in_ok-write_printed.ensures.printed;

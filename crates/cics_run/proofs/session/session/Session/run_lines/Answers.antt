@@ -16,7 +16,7 @@ pub returns-in_default-clause-feeds : goal.returns-in_default-clause-feeds
 returns-in_default-clause-feeds g c form bytes before at =
     let cut = cut-line c.lines.rest.now c.split_at.result.0.now c.split_at.result.1.now _ c.line_len.ensures.value c.split_at.ensures.front c.split_at.ensures.back in
     let (done, whole, bound, counted, stands) = c.lines.invariant in
-    let came = stands-bytes form (bytes ++ done) c.split_at.result.0.now before (g.K.Sink.contents c.lines.sink) c.lines.self (record c.lines.self { line = c.extend_from_slice.new.self }) cut.in_line (stands form bytes before at) refl refl c.in-Ok.ensures.items refl refl refl in
+    let came = stands-bytes form (bytes ++ done) c.split_at.result.0.now before (g.K.Sink.contents c.lines.sink) c.lines.self (record c.lines.self { line = c.extend_from_slice.new.self }) cut.in_line (stands form bytes before at) refl refl c.in-Ok.ensures.items refl refl in
     let all = all-came bytes done c.split_at.result.0.now c.split_at.result.1.now c.lines.rest.now c.args.chunk.now cut.whole whole c.in_default.ensures.cases in
     let there = subst (λ x. Stands form x before (g.K.Sink.contents c.lines.sink) (record c.lines.self { line = c.extend_from_slice.new.self })) all came in
     there
@@ -26,7 +26,7 @@ returns-in-Ok-true-clause-feeds g c form bytes before at =
     let cut = cut-line c.lines.rest.now c.split_at.result.0.now c.split_at.result.1.now _ c.line_len.ensures.value c.split_at.ensures.front c.split_at.ensures.back in
     let (done, whole, bound, counted, stands) = c.lines.invariant in
     let first = c.in-Some.ensures.cases.0 in
-    let came = stands-bytes form (bytes ++ done) c.split_at.result.0.now before (g.K.Sink.contents c.lines.sink) c.lines.self (record c.lines.self { line = c.extend_from_slice.new.self }) cut.in_line (stands form bytes before at) refl refl c.in-Ok.ensures.items refl refl refl in
+    let came = stands-bytes form (bytes ++ done) c.split_at.result.0.now before (g.K.Sink.contents c.lines.sink) c.lines.self (record c.lines.self { line = c.extend_from_slice.new.self }) cut.in_line (stands form bytes before at) refl refl c.in-Ok.ensures.items refl refl in
     let e = line-came bytes done c.split_at.result.0.now c.split_at.result.1.now c.in-Some.after.now c.lines.rest.now c.args.chunk.now c.in-Some.field-0-0.now cut.whole whole first (cut.lf _ _ first) in
     let s = record c.lines.self { line = c.extend_from_slice.new.self } in
     let t = c.run_kept.new.self in
@@ -51,7 +51,7 @@ lines-preserved g c =
           let s = record c.lines.self { line = c.extend_from_slice.new.self } in
           let t = c.run_kept.new.self in
           let line = c.drop_cr.new.line in
-          let came = stands-bytes form (bytes ++ done) c.split_at.result.0.now before (g.K.Sink.contents c.lines.sink) c.lines.self (record c.lines.self { line = c.extend_from_slice.new.self }) cut.in_line (stands form bytes before at) refl refl c.in-Ok.ensures.items refl refl refl in
+          let came = stands-bytes form (bytes ++ done) c.split_at.result.0.now before (g.K.Sink.contents c.lines.sink) c.lines.self (record c.lines.self { line = c.extend_from_slice.new.self }) cut.in_line (stands form bytes before at) refl refl c.in-Ok.ensures.items refl refl in
           rw (behind-line bytes done c.split_at.result.0.now (10 ∷ []))
           (stands-line form _ _ _ _ s t came (ran-cut s line c.drop_cr.ensures t c.in-Ok-false.ensures.ran) (rw c.in-Ok-false.field-0-test at c.in-Ok-false.ensures.line)
           (prints-cut s line c.drop_cr.ensures t _ _ _ c.in-Ok-false.ensures.printed) (sym c.in-Ok-false.field-0-test ∙ c.in-Ok-false.ensures.fault)),
@@ -62,7 +62,7 @@ returns-in-Err-run_kept-clause-feeds g c form bytes before at =
     let cut = cut-line c.lines.rest.now c.split_at.result.0.now c.split_at.result.1.now _ c.line_len.ensures.value c.split_at.ensures.front c.split_at.ensures.back in
     let (done, whole, bound, counted, stands) = c.lines.invariant in
     let first = c.in-Some.ensures.cases.0 in
-    let came = stands-bytes form (bytes ++ done) c.split_at.result.0.now before (g.K.Sink.contents c.lines.sink) c.lines.self (record c.lines.self { line = c.extend_from_slice.new.self }) cut.in_line (stands form bytes before at) refl refl c.in-Ok.ensures.items refl refl refl in
+    let came = stands-bytes form (bytes ++ done) c.split_at.result.0.now before (g.K.Sink.contents c.lines.sink) c.lines.self (record c.lines.self { line = c.extend_from_slice.new.self }) cut.in_line (stands form bytes before at) refl refl c.in-Ok.ensures.items refl refl in
     let e = line-came bytes done c.split_at.result.0.now c.split_at.result.1.now c.in-Some.after.now c.lines.rest.now c.args.chunk.now c.in-Some.field-0-0.now cut.whole whole first (cut.lf _ _ first) in
     let s = record c.lines.self { line = c.extend_from_slice.new.self } in
     subst (λ b. AppendsFront before (g.K.Sink.contents c.run_kept.new.sink) (journal form b)) e

@@ -1,0 +1,143 @@
+//! Which events of a run are told to a person at its end.
+
+ghost use Rattle.std.specs.Prelude.{◌≡◌, OnOk};
+ghost use Rattle.cics_run.specs.Stage.Notes.{raised_by, noted_abend, noted_late, is_no_task};
+ghost use Rattle.cics_run.specs.Stage.Notes.{refused_note, noted_refusal, noted_on, with_note};
+
+use crate::stage::amiss::is_time_out;
+use cics_dispatch::{Event, Outcome, Reason, Refused, Subject};
+use cics_names::{AbendCode, Condition, Name8, NoMemory};
+
+/// Which events are told beside abends by a condition and commands of no task.
+#[derive(Clone, Copy, PartialEq, Eq)]
+pub struct Scope {
+    /// Every event that is amiss.
+    pub strict: bool,
+    /// Conditions that their tasks handle.
+    pub why: bool,
+}
+
+/// A condition that came up, and the check that failed, if one did.
+#[derive(Clone, Copy, PartialEq, Eq)]
+pub struct Raised {
+    pub condition: Condition,
+    pub reason: Option<Reason>,
+}
+
+/// What is told of an event.
+#[derive(Clone, Copy, PartialEq, Eq)]
+pub enum Note {
+    /// A condition came up as a task issued the line's command.
+    Issued(Raised),
+    /// A condition came up as the waiting command of a task resumed.
+    Resumed(Name8, Condition),
+    /// A task was abended with the code of a time-out.
+    TimedOut(Name8),
+    /// A request of a task was refused.
+    Refused(Name8, Refused),
+    /// The clock was refused.
+    ClockRefused(Refused),
+    /// The shutdown was refused.
+    ShutdownRefused(Refused),
+}
+
+// Returns the condition of a command's outcome, if it is another than NORMAL.
+fn raised_by(outcome: &Outcome) -> Option<Condition>
+    ensures { result ≡ raised_by outcome.now }
+{
+    match outcome {
+        Outcome::Replied(reply) => match reply.condition {
+            Condition::Normal => None,
+            condition => Some(condition),
+        },
+        Outcome::Abended(_, Some(reply)) => Some(reply.condition),
+        _ => None,
+    }
+}
+
+// Returns the note on an abend without a condition.
+fn noted_abend(scope: Scope, label: Name8, code: AbendCode) -> Option<Note>
+    ensures { result ≡ noted_abend scope label code }
+{
+    if scope.strict && is_time_out(code) {
+        Some(Note::TimedOut(label))
+    } else {
+        None
+    }
+}
+
+// Returns the note on an outcome without a condition.
+fn noted_late(scope: Scope, label: Name8, outcome: &Outcome) -> Option<Note>
+    ensures { result ≡ noted_late scope label outcome.now }
+{
+    match outcome {
+        Outcome::Abended(code, None) => noted_abend(scope, label, *code),
+        _ => None,
+    }
+}
+
+// Returns whether a request was refused since no task has its label.
+fn is_no_task(refusal: Refused) -> bool
+    ensures { result ≡ is_no_task refusal }
+{
+    matches!(refusal, Refused::NoTask)
+}
+
+// Returns what is told of a refused request.
+fn refused_note(subject: Subject, refusal: Refused) -> Note
+    ensures { result ≡ refused_note subject refusal }
+{
+    match subject {
+        Subject::Task(label) => Note::Refused(label, refusal),
+        Subject::Clock => Note::ClockRefused(refusal),
+        Subject::Shutdown => Note::ShutdownRefused(refusal),
+    }
+}
+
+// Returns the note on a refused request, if it is told.
+fn noted_refusal(scope: Scope, subject: Subject, refusal: Refused) -> Option<Note>
+    ensures { result ≡ noted_refusal scope subject refusal }
+{
+    if scope.strict || is_no_task(refusal) {
+        Some(refused_note(subject, refusal))
+    } else {
+        None
+    }
+}
+
+// Returns what is told of an event that is amiss, or of one of a run with `why`.
+fn noted_on(scope: Scope, event: &Event) -> Option<Note>
+    ensures { result ≡ noted_on scope event.now }
+{
+    match event {
+        Event::Issued(label, outcome, reason) => match raised_by(outcome) {
+            Some(condition) => Some(Note::Issued(Raised {
+                condition,
+                reason: *reason,
+            })),
+            None => noted_late(scope, *label, outcome),
+        },
+        Event::Woken(woken) => match raised_by(&woken.outcome) {
+            Some(condition) => Some(Note::Resumed(woken.label, condition)),
+            None => noted_late(scope, woken.label, &woken.outcome),
+        },
+        Event::Expired(expired) => noted_abend(scope, expired.label, expired.code),
+        Event::Refused(subject, refusal) => noted_refusal(scope, *subject, *refusal),
+        Event::Attached(_, _) | Event::ClockSet(_) | Event::ShutDown(_) => None,
+    }
+}
+
+/// Adds what is told of an event that is amiss, or of one of a run with `why`:
+///
+/// - always an abend by a condition, and a command of no task;
+/// - with `strict` any other refused request, and an abend with the code of a time-out;
+/// - with `why` also a condition other than NORMAL that a task handles.
+#[cold]
+pub fn push_noted(notes: &mut Vec<Note>, scope: Scope, event: &Event) -> Result<(), NoMemory>
+    ensures { OnOk result (notes.new.items ≡ with_note notes.old.items (noted_on scope event.now)) }
+{
+    if let Some(note) = noted_on(scope, event) {
+        notes.push(note)?;
+    }
+    Ok(())
+}

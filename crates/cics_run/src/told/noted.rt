@@ -1,0 +1,179 @@
+//! What is told of an event that was noted.
+
+ghost use Rattle.std.specs.Prelude.{◌≡◌, ◌++◌, Some, None, unwrap_or, IfOk, OnOk};
+ghost use Rattle.std.specs.Option.{option_copied};
+ghost use Rattle.cics_run.specs.Told.Noted.{undefined, definition_in, condition_head, raised_text};
+ghost use Rattle.cics_run.specs.Told.Noted.{issued_text, resumed_text, refusal_words, near_text};
+ghost use Rattle.cics_run.specs.Told.Noted.{hint_text, refused_text, note_text};
+ghost use Rattle.cics_run.specs.Told.Nearest.{nearest_label};
+ghost use Rattle.cics_script.specs.Lines.{line as line_of};
+
+use crate::stage::{Note, Raised, Stage};
+use crate::told::causes::{general_text, push_cause};
+use crate::told::nearest::nearest_label;
+use crate::told::reasons::push_reason;
+use cics_dispatch::{Refused, Region};
+use cics_ksds::FileDef;
+use cics_names::{Condition, Name8, NoMemory, Verb};
+use cics_script::spelling::{push_bare, push_str};
+use cics_script::{Line, LineFault, read_line};
+
+// The definition that stands for an undefined file.
+const UNDEFINED: FileDef = FileDef {
+    key_length: 0,
+    key_offset: 0,
+    record_size: 0,
+    recoverable: false,
+};
+
+// Returns the definition of the file that a command names.
+fn definition_in(stage: &Stage, verb: &Verb) -> FileDef
+    ensures { result ≡ definition_in stage.now verb.now }
+{
+    let Stage::Running(region) = stage else {
+        return UNDEFINED;
+    };
+    let Some(name) = verb.file() else {
+        return UNDEFINED;
+    };
+    match region.units().file(name) {
+        Some(file) => file.definition(),
+        None => UNDEFINED,
+    }
+}
+
+fn push_condition_name(out: &mut Vec<u8>, condition: Condition) -> Result<(), NoMemory>
+    ensures { OnOk result (out.new.items ≡ out.old.items ++ condition_head condition) }
+{
+    push_str(out, condition.name())?;
+    push_str(out, ": ")
+}
+
+// Appends what is told of a condition that a command was answered.
+fn push_raised(
+    out: &mut Vec<u8>,
+    stage: &Stage,
+    verb: &Verb,
+    raised: Raised,
+) -> Result<(), NoMemory>
+    ensures { OnOk result (out.new.items
+        ≡ out.old.items ++ raised_text stage.now verb.now raised) }
+{
+    match raised.reason {
+        Some(reason) => push_reason(out, definition_in(stage, verb), verb, reason),
+        None => push_cause(out, verb, raised.condition),
+    }
+}
+
+// Appends what is told of a condition that the command of a line was answered.
+fn push_issued(
+    out: &mut Vec<u8>,
+    stage: &Stage,
+    line: &[u8],
+    raised: Raised,
+) -> Result<(), NoMemory>
+    ensures { OnOk result (out.new.items
+        ≡ out.old.items ++ issued_text stage.now (line_of line.now) raised) }
+{
+    push_condition_name(out, raised.condition)?;
+    match read_line(stage.allocator(), line) {
+        Ok(Line::Issue(_, command)) => push_raised(out, stage, &command.verb, raised),
+        Err(LineFault::NoMemory) => Err(NoMemory),
+        _ => push_str(out, general_text(raised.condition)),
+    }
+}
+
+// Appends what is told of a condition that a command was answered as it resumed.
+fn push_resumed(out: &mut Vec<u8>, label: Name8, condition: Condition) -> Result<(), NoMemory>
+    ensures { OnOk result (out.new.items ≡ out.old.items ++ resumed_text label condition) }
+{
+    push_bare(out, &label.bytes())?;
+    push_str(out, "'s command resumed: ")?;
+    push_condition_name(out, condition)?;
+    push_str(out, general_text(condition))
+}
+
+// Returns why a request was refused, behind its subject.
+fn refusal_words(refusal: Refused) -> &'static str
+    ensures { result.now ≡ refusal_words refusal }
+{
+    match refusal {
+        Refused::NoMemory => " had no memory",
+        Refused::NoTask => " was never attached",
+        Refused::TaskWaiting => " still waits, and issues no command",
+        Refused::TaskEnded => " has ended",
+        Refused::DuplicateLabel => " was attached before",
+        Refused::ClockBack => " doesn't go back",
+        Refused::RegionDown => " comes after the shutdown",
+    }
+}
+
+// Appends the label of a task that was attached, if one is almost the label of no task.
+fn push_near(out: &mut Vec<u8>, region: &Region, label: &Name8) -> Result<(), NoMemory>
+    ensures { OnOk result (out.new.items
+        ≡ out.old.items ++ near_text (nearest_label region.now.machine label.now)) }
+{
+    match nearest_label(region, label) {
+        Some(near) => {
+            push_str(out, "; ")?;
+            push_bare(out, &near.bytes())?;
+            push_str(out, " was")
+        }
+        None => Ok(()),
+    }
+}
+
+// Appends such a label, if no task has that of a command.
+fn push_hint(
+    out: &mut Vec<u8>,
+    stage: &Stage,
+    label: &Name8,
+    refusal: Refused,
+) -> Result<(), NoMemory>
+    ensures { OnOk result (out.new.items
+        ≡ out.old.items ++ hint_text stage.now label.now refusal) }
+{
+    match (refusal, stage) {
+        (Refused::NoTask, Stage::Running(region)) => push_near(out, region, label),
+        _ => Ok(()),
+    }
+}
+
+// Appends what is told of a refused request of a task.
+fn push_refused(
+    out: &mut Vec<u8>,
+    stage: &Stage,
+    label: &Name8,
+    refusal: Refused,
+) -> Result<(), NoMemory>
+    ensures { OnOk result (out.new.items
+        ≡ out.old.items ++ refused_text stage.now label.now refusal) }
+{
+    push_bare(out, &label.bytes())?;
+    push_str(out, refusal_words(refusal))?;
+    push_hint(out, stage, label, refusal)
+}
+
+/// Appends what is told of an event of a line. The stage is that behind the line.
+pub fn push_note(out: &mut Vec<u8>, stage: &Stage, line: &[u8], note: &Note) -> Result<(), NoMemory>
+    ensures { OnOk result (out.new.items
+        ≡ out.old.items ++ note_text stage.now line.now note.now) }
+{
+    match note {
+        Note::Issued(raised) => push_issued(out, stage, line, *raised),
+        Note::Resumed(label, condition) => push_resumed(out, *label, *condition),
+        Note::TimedOut(label) => {
+            push_bare(out, &label.bytes())?;
+            push_str(out, " was abended with AKCS, as by a time-out")
+        }
+        Note::Refused(label, refusal) => push_refused(out, stage, label, *refusal),
+        Note::ClockRefused(refusal) => {
+            push_str(out, "CLOCK")?;
+            push_str(out, refusal_words(*refusal))
+        }
+        Note::ShutdownRefused(refusal) => {
+            push_str(out, "SHUTDOWN")?;
+            push_str(out, refusal_words(*refusal))
+        }
+    }
+}

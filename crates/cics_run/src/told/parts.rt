@@ -1,0 +1,185 @@
+//! The options of a command that a person is told of, whatever its verb.
+
+ghost use Rattle.std.specs.Prelude.{◌≡◌, ◌++◌, OnOk};
+ghost use Rattle.std.specs.Option.{option_copied};
+ghost use Rattle.cics_run.specs.Told.Parts.{key_in, from_in, length_in, used_in, key_length_in};
+ghost use Rattle.cics_run.specs.Told.Parts.{number_or_none, first_bytes, file_text, name_in};
+ghost use Rattle.cics_run.specs.Told.Parts.{about_text, counted_text, bytes_word, sized_text};
+ghost use Rattle.cics_run.specs.Told.Parts.{quoted_text};
+
+use cics_names::{Name8, NoMemory, Verb};
+use cics_script::spelling::{push_bare, push_number, push_str, push_text};
+
+/// Returns RIDFLD, or no byte.
+pub fn key_in(verb: &Verb) -> &[u8]
+    ensures { result.now ≡ key_in verb.now }
+{
+    match verb {
+        Verb::Read { ridfld, .. }
+        | Verb::Write { ridfld, .. }
+        | Verb::StartBr { ridfld, .. }
+        | Verb::ResetBr { ridfld, .. } => ridfld.bytes(),
+        Verb::Delete {
+            ridfld: Some(key),
+            ..
+        } => key.bytes(),
+        _ => &[],
+    }
+}
+
+/// Returns FROM or RESOURCE, or no byte.
+pub fn from_in(verb: &Verb) -> &[u8]
+    ensures { result.now ≡ from_in verb.now }
+{
+    match verb {
+        Verb::Write { from, .. }
+        | Verb::Rewrite { from, .. }
+        | Verb::WriteqTs { from, .. }
+        | Verb::WriteqTd { from, .. } => from.bytes(),
+        Verb::Enq { resource, .. } | Verb::Deq { resource, .. } => resource.bytes(),
+        _ => &[],
+    }
+}
+
+// Returns a number, or 0 if it isn't given.
+fn number_or_none(number: Option<u64>) -> u64
+    ensures { result ≡ number_or_none number }
+{
+    number.unwrap_or(0)
+}
+
+// Returns LENGTH, if it is given.
+fn length_given(verb: &Verb) -> Option<u64>
+    ensures { result ≡ length_in verb.now }
+{
+    match verb {
+        Verb::Write { length, .. } => *length,
+        Verb::Rewrite { length, .. } => *length,
+        Verb::WriteqTs { length, .. } => *length,
+        Verb::WriteqTd { length, .. } => *length,
+        Verb::Enq { length, .. } => Some(*length),
+        Verb::Deq { length, .. } => Some(*length),
+        _ => verb.length(),
+    }
+}
+
+/// Returns LENGTH, or 0.
+pub fn length_in(verb: &Verb) -> u64
+    ensures { result ≡ number_or_none (length_in verb.now) }
+{
+    number_or_none(length_given(verb))
+}
+
+/// Returns KEYLENGTH, or 0.
+pub fn key_length_in(verb: &Verb) -> u64
+    ensures { result ≡ number_or_none (key_length_in verb.now) }
+{
+    match verb {
+        Verb::Read { key_length, .. } => number_or_none(*key_length),
+        Verb::Write { key_length, .. } => number_or_none(*key_length),
+        Verb::Delete { key_length, .. } => number_or_none(*key_length),
+        Verb::StartBr { key_length, .. } => number_or_none(*key_length),
+        Verb::ResetBr { key_length, .. } => number_or_none(*key_length),
+        _ => 0,
+    }
+}
+
+// Returns the first bytes of a text, as many as are given, or all.
+fn first_bytes(text: &[u8], length: Option<u64>) -> &[u8]
+    ensures { result.now ≡ first_bytes text.now length }
+{
+    match length {
+        Some(length) if length < text.len() as u64 => &text[..length as usize],
+        _ => text,
+    }
+}
+
+/// Returns the bytes of FROM or RESOURCE that LENGTH uses.
+pub fn used_in(verb: &Verb) -> &[u8]
+    ensures { result.now ≡ used_in verb.now }
+{
+    first_bytes(from_in(verb), length_given(verb))
+}
+
+fn push_file(out: &mut Vec<u8>, file: Option<&Name8>) -> Result<(), NoMemory>
+    ensures { OnOk result (out.new.items ≡ out.old.items ++ file_text (option_copied file.entry)) }
+{
+    match file {
+        Some(name) => push_bare(out, &name.bytes()),
+        None => Ok(()),
+    }
+}
+
+// Appends the name of the file or queue that a command names.
+fn push_name_in(out: &mut Vec<u8>, verb: &Verb) -> Result<(), NoMemory>
+    ensures { OnOk result (out.new.items ≡ out.old.items ++ name_in verb.now) }
+{
+    match verb {
+        Verb::WriteqTs { queue, .. } => push_bare(out, &queue.bytes()),
+        Verb::ReadqTs { queue, .. } => push_bare(out, &queue.bytes()),
+        Verb::DeleteqTs { queue } => push_bare(out, &queue.bytes()),
+        Verb::WriteqTd { queue, .. } => push_bare(out, &queue.bytes()),
+        Verb::ReadqTd { queue, .. } => push_bare(out, &queue.bytes()),
+        Verb::DeleteqTd { queue } => push_bare(out, &queue.bytes()),
+        _ => push_file(out, verb.file()),
+    }
+}
+
+/// Appends the name of the file or queue that a command names, between two texts.
+pub fn push_about(
+    out: &mut Vec<u8>,
+    before: &str,
+    verb: &Verb,
+    behind: &str,
+) -> Result<(), NoMemory>
+    ensures { OnOk result (out.new.items
+        ≡ out.old.items ++ about_text before.now verb.now behind.now) }
+{
+    push_str(out, before)?;
+    push_name_in(out, verb)?;
+    push_str(out, behind)
+}
+
+/// Appends a number between two texts.
+pub fn push_counted(
+    out: &mut Vec<u8>,
+    before: &str,
+    number: u64,
+    behind: &str,
+) -> Result<(), NoMemory>
+    ensures { OnOk result (out.new.items
+        ≡ out.old.items ++ counted_text before.now number behind.now) }
+{
+    push_str(out, before)?;
+    push_number(out, number)?;
+    push_str(out, behind)
+}
+
+// Returns the word for some bytes, behind their number.
+fn bytes_word(count: usize) -> &'static str
+    ensures { result.now ≡ bytes_word count }
+{
+    if count == 1 { " byte" } else { " bytes" }
+}
+
+/// Appends how many bytes there are, behind a text.
+pub fn push_sized(out: &mut Vec<u8>, before: &str, bytes: &[u8]) -> Result<(), NoMemory>
+    ensures { OnOk result (out.new.items ≡ out.old.items ++ sized_text before.now bytes.now) }
+{
+    push_counted(out, before, bytes.len() as u64, bytes_word(bytes.len()))
+}
+
+/// Appends bytes as a literal, between two texts.
+pub fn push_quoted(
+    out: &mut Vec<u8>,
+    before: &str,
+    bytes: &[u8],
+    behind: &str,
+) -> Result<(), NoMemory>
+    ensures { OnOk result (out.new.items
+        ≡ out.old.items ++ quoted_text before.now bytes.now behind.now) }
+{
+    push_str(out, before)?;
+    push_text(out, bytes)?;
+    push_str(out, behind)
+}

@@ -1,0 +1,148 @@
+//! What is told of the check that a command failed.
+
+ghost use Rattle.std.specs.Prelude.{◌≡◌, ◌++◌, OnOk};
+ghost use Rattle.cics_run.specs.Told.Reasons.{key_in_from, plain_reason, state_reason, size_reason};
+ghost use Rattle.cics_run.specs.Told.Reasons.{length_reason, record_reason, reason_text};
+
+use crate::told::parts::{
+    from_in, key_in, key_length_in, length_in, push_about, push_counted, push_quoted, push_sized,
+    used_in,
+};
+use cics_dispatch::Reason;
+use cics_ksds::FileDef;
+use cics_names::{NoMemory, Verb};
+use cics_script::spelling::push_str;
+
+// Returns the key in what is written, or no byte if that doesn't fit the file.
+fn key_in_from(definition: FileDef, content: &[u8]) -> &[u8]
+    ensures { result.now ≡ key_in_from definition content.now }
+{
+    if definition.fits(content) {
+        definition.key_in(content)
+    } else {
+        &[]
+    }
+}
+
+// Returns what is told of a check of options alone.
+fn plain_reason(reason: Reason) -> &'static str
+    ensures { result.now ≡ plain_reason reason }
+{
+    match reason {
+        Reason::UpdateNotByKey => "UPDATE goes with neither GTEQ nor GENERIC",
+        Reason::PrefixEmpty => "DELETE GENERIC needs a RIDFLD of 1 byte or more",
+        Reason::NoRidfld => "KEYLENGTH and GENERIC need a RIDFLD",
+        Reason::BrowseIsGeneric => "READPREV can't follow a start with GENERIC",
+        _ => "",
+    }
+}
+
+// Appends what is told of a check of the file or queue, or of the task's reads of it.
+fn push_state_reason(out: &mut Vec<u8>, verb: &Verb, reason: Reason) -> Result<(), NoMemory>
+    ensures { OnOk result (out.new.items ≡ out.old.items ++ state_reason verb.now reason) }
+{
+    match reason {
+        Reason::FileNotDefined => push_about(out, "the file ", verb, " isn't defined"),
+        Reason::QueueNotDefined => push_about(out, "the queue ", verb, " isn't defined"),
+        Reason::UpdateReadOpen => {
+            push_about(out, "a record of ", verb, " is read for update already")
+        }
+        Reason::NoUpdateRead => push_about(out, "no record of ", verb, " is read for update"),
+        Reason::BrowseOpen => push_about(out, "a browse of ", verb, " is open already"),
+        Reason::NoBrowse => push_about(out, "no browse of ", verb, " is open"),
+        _ => push_str(out, plain_reason(reason)),
+    }
+}
+
+// Appends LENGTH, and how many bytes FROM or RESOURCE has.
+fn push_length_reason(out: &mut Vec<u8>, verb: &Verb, before: &str) -> Result<(), NoMemory>
+    ensures { OnOk result (out.new.items
+        ≡ out.old.items ++ length_reason verb.now before.now) }
+{
+    push_counted(out, "LENGTH is ", length_in(verb), ", ")?;
+    push_sized(out, before, from_in(verb))
+}
+
+// Appends what is told of a check of LENGTH, or of the bytes that are written.
+fn push_size_reason(out: &mut Vec<u8>, verb: &Verb, reason: Reason) -> Result<(), NoMemory>
+    ensures { OnOk result (out.new.items ≡ out.old.items ++ size_reason verb.now reason) }
+{
+    match reason {
+        Reason::LengthNotInFrom => push_length_reason(out, verb, "FROM has "),
+        Reason::ItemSize => {
+            push_sized(out, "what is written has ", used_in(verb))?;
+            push_str(out, ", not 1 to 32767")
+        }
+        Reason::ValueSize => {
+            push_counted(out, "LENGTH is ", length_in(verb), ", not from 1 to 255")
+        }
+        Reason::ValueTooShort => push_length_reason(out, verb, "RESOURCE has "),
+        _ => push_state_reason(out, verb, reason),
+    }
+}
+
+// Appends what is told of a check of the record that is written.
+fn push_record_reason(
+    out: &mut Vec<u8>,
+    definition: FileDef,
+    verb: &Verb,
+    reason: Reason,
+) -> Result<(), NoMemory>
+    ensures { OnOk result (out.new.items
+        ≡ out.old.items ++ record_reason definition verb.now reason) }
+{
+    match reason {
+        Reason::RecordTooShort => {
+            push_sized(out, "the record has ", used_in(verb))?;
+            push_counted(out, ", KEYOFFSET(", definition.key_offset, ") and ")?;
+            push_counted(out, "KEYLENGTH(", definition.key_length, ") need more")
+        }
+        Reason::RecordTooLong => {
+            push_sized(out, "the record has ", used_in(verb))?;
+            push_counted(
+                out,
+                ", RECORDSIZE(",
+                definition.record_size,
+                ") allows fewer",
+            )
+        }
+        Reason::KeyIsNotRidfld => {
+            let key = key_in_from(definition, used_in(verb));
+            push_quoted(out, "the key in FROM is ", key, ", ")?;
+            push_quoted(out, "RIDFLD is ", key_in(verb), "")
+        }
+        Reason::KeyIsNotRead => {
+            let key = key_in_from(definition, used_in(verb));
+            push_quoted(
+                out,
+                "the key in FROM is ",
+                key,
+                ", another one was read for update",
+            )
+        }
+        _ => push_size_reason(out, verb, reason),
+    }
+}
+
+/// Appends what is told of the check that a command failed, on a file with this definition.
+pub fn push_reason(
+    out: &mut Vec<u8>,
+    definition: FileDef,
+    verb: &Verb,
+    reason: Reason,
+) -> Result<(), NoMemory>
+    ensures { OnOk result (out.new.items
+        ≡ out.old.items ++ reason_text definition verb.now reason) }
+{
+    match reason {
+        Reason::KeyLengthDiffers => {
+            push_counted(out, "KEYLENGTH is ", key_length_in(verb), ", ")?;
+            push_sized(out, "RIDFLD has ", key_in(verb))
+        }
+        Reason::KeySize | Reason::PrefixTooLong => {
+            push_sized(out, "RIDFLD has ", key_in(verb))?;
+            push_counted(out, ", the file has keys of ", definition.key_length, "")
+        }
+        _ => push_record_reason(out, definition, verb, reason),
+    }
+}

@@ -1,0 +1,129 @@
+//! The remarks of a run: a line for each event that a person is told of at its end.
+
+ghost use Rattle.std.specs.Prelude.{◌≡◌, ◌++◌, [], false, OnOk};
+ghost use Rattle.std.specs.List.{flat_map, fold};
+ghost use Rattle.cics_run.specs.Told.Remarks.{with_remark, with_note, remark_line, more_line};
+ghost use Rattle.cics_run.specs.Told.Remarks.{remark_lines};
+
+use crate::stage::{Note, Scope, Stage};
+use crate::told::noted::push_note;
+use cics_names::{Items, NoMemory};
+use cics_script::advice::{Origin, push_place};
+use cics_script::spelling::{push_number, push_str};
+use std::alloc::Global;
+
+// How many remarks are kept at most.
+const MOST: usize = 64;
+
+/// What is told of an event of the line with this number.
+#[derive(Drop)]
+pub struct Remark {
+    pub number: u64,
+    pub text: Items<u8>,
+}
+
+/// The remarks of a run so far.
+#[derive(Drop)]
+pub struct Remarks {
+    /// Which events are told.
+    pub scope: Scope,
+    /// The first 64 remarks.
+    pub kept: Items<Remark>,
+    /// How many there were beyond these, at most 2^64 - 1.
+    pub more: u64,
+}
+
+impl Remarks {
+    /// Returns empty remarks.
+    pub fn new(alloc: Global) -> Remarks
+        ensures { result ≡ record {
+          scope = record { strict = false; why = false };
+          kept = [];
+          more = 0;
+        } }
+    {
+        Remarks {
+            scope: Scope {
+                strict: false,
+                why: false,
+            },
+            kept: Items::new(alloc),
+            more: 0,
+        }
+    }
+
+    // Adds the remark on a note. Beyond 64 it only counts.
+    fn add(&mut self, stage: &Stage, number: u64, line: &[u8], note: &Note) -> Result<(), NoMemory>
+        ensures { OnOk result (self.new ≡ with_note stage.now number line.now self.old note.now) }
+    {
+        if self.kept.len() >= MOST {
+            if self.more < u64::MAX {
+                self.more += 1;
+            }
+            return Ok(());
+        }
+        let mut text = Vec::new(stage.allocator());
+        push_note(&mut text, stage, line, note)?;
+        self.kept.push(Remark {
+            number,
+            text: Items::from_vec(text),
+        })
+    }
+
+    /// Adds a remark on each note of the line with this number. The stage is that behind the line.
+    ///
+    /// Errors: `NoMemory`.
+    #[cold]
+    pub fn add_all(
+        &mut self,
+        stage: &Stage,
+        number: u64,
+        line: &[u8],
+        notes: &[Note],
+    ) -> Result<(), NoMemory>
+        ensures { OnOk result (self.new
+            ≡ fold (with_note stage.now number line.now) self.old notes.now) }
+    {
+        for note in notes {
+            self.add(stage, number, line, note)?;
+        }
+        Ok(())
+    }
+}
+
+// Appends the line of a remark.
+fn push_remark(out: &mut Vec<u8>, file: Option<&[u8]>, remark: &Remark) -> Result<(), NoMemory>
+    ensures { OnOk result (out.new.items ≡ out.old.items ++ remark_line file.entry remark.now) }
+{
+    let line = remark.number;
+    push_place(out, Origin { file, line }, None)?;
+    out.extend_from_slice(remark.text.as_slice())?;
+    push_str(out, "\n")
+}
+
+// Appends the line on the remarks that aren't kept, if there are any.
+fn push_more(out: &mut Vec<u8>, more: u64) -> Result<(), NoMemory>
+    ensures { OnOk result (out.new.items ≡ out.old.items ++ more_line more) }
+{
+    if more == 0 {
+        return Ok(());
+    }
+    push_str(out, "cicsrun: and ")?;
+    push_number(out, more)?;
+    push_str(out, " more\n")
+}
+
+/// Appends a line for each remark that is kept, and one that says how many more there were. `file`
+/// is the name of the script's file, if it has one.
+pub fn push_remarks(
+    out: &mut Vec<u8>,
+    file: Option<&[u8]>,
+    remarks: &Remarks,
+) -> Result<(), NoMemory>
+    ensures { OnOk result (out.new.items ≡ out.old.items ++ remark_lines file.entry remarks.now) }
+{
+    for remark in remarks.kept.as_slice() {
+        push_remark(out, file, remark)?;
+    }
+    push_more(out, remarks.more)
+}
