@@ -10,7 +10,7 @@ use Rattle.cics_history.specs.declared.ops.UnitState.TheVariants.{BackedOut}
 use Rattle.cics_dispatch.specs.Machine.Machine.{Machine, Task, task_at, replaced, is_waiting, with_waiting, unit_closed, initial_region}
 use Rattle.cics_dispatch.specs.Machine.Blockers.{waiting_command}
 use Rattle.cics_dispatch.specs.Machine.Checks.{fault_of}
-use Rattle.cics_dispatch.specs.Machine.Events.{Happened, happened, played, turn, ended, task_ended}
+use Rattle.cics_dispatch.specs.Machine.Events.{Happened, happened, issued_event, played, turn, ended, task_ended}
 use Rattle.cics_dispatch.specs.Machine.Shutdown.{all_ended, shut_down}
 use Rattle.cics_dispatch.specs.Machine.Steps.{Stepped, new_task, attach_refusal, with_new_task, refused_or, issued_by}
 use Rattle.cics_dispatch.specs.Machine.Waking.{first_free, woken_first, first_late, expired_task, IsAtRest}
@@ -278,7 +278,7 @@ module _ (m : Machine) (has : Bytes → Bool) (stands : Stands has m) (label : B
   found = task_there (task_at m.tasks label) (stands.there label ∙ own)
 
   abbrev event_of : Stepped (Result Outcome Refused) → Event
-  event_of r = (happened m (subject.Task label) (event.Issued label) r.outcome r.machine).event
+  event_of r = (happened m (subject.Task label) (issued_event m label c) r.outcome r.machine).event
 
   unless : (t : Task) (b d : Bool) → b ≡ false → d ≡ false → IsNotRefused (event_of (refused_or m (if b then Some TaskEnded else if d then Some TaskWaiting else None) (step_of m t c)))
   unless t true d over wait = cc

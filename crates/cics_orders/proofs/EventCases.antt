@@ -9,7 +9,7 @@ use Rattle.cics_dispatch.specs.Machine.Steps.{Stepped, attach_refusal, with_new_
 use Rattle.cics_dispatch.specs.Machine.Checks.{fault_of}
 use Rattle.cics_dispatch.specs.Machine.Waking.{woken, expired, clock_refusal}
 use Rattle.cics_dispatch.specs.Machine.Shutdown.{shut_down}
-use Rattle.cics_dispatch.specs.Machine.Events.{Happened, happened, played, late_turn, waking_turn, turn, behind_turn, drained_within}
+use Rattle.cics_dispatch.specs.Machine.Events.{Happened, happened, issued_event, played, late_turn, waking_turn, turn, behind_turn, drained_within}
 use Rattle.cics_dispatch.specs.declared.machine.events.Request.{Request}
 use Rattle.cics_dispatch.specs.declared.machine.events.Request.TheVariants as request
 use Rattle.cics_dispatch.specs.declared.machine.events.Subject.TheVariants as subject
@@ -36,7 +36,7 @@ module _ (P : Machine → Type 0) (m : Machine) (same : P m) where
   issue_cases label c taken = by m.is_down refl
     where
       left : Stepped (Result Outcome Refused) → Machine
-      left r = (happened m (subject.Task label) (event.Issued label) r.outcome r.machine).machine
+      left r = (happened m (subject.Task label) (issued_event m label c) r.outcome r.machine).machine
 
       unless : m.is_down ≡ false → (t : Task) → task_at m.tasks label ≡ Some t → (b d : Bool) → t.has_ended ≡ b → is_waiting m.waiting t.label ≡ d →
           P (left (refused_or m (if b then Some TaskEnded else if d then Some TaskWaiting else None) (step_of m t c)))

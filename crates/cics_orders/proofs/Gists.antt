@@ -38,7 +38,7 @@ gists_hearing xs label (Waiting blocker) = refl
 gists_hearing xs label o = gists_told xs label o
 
 gists_by : (xs : List Lane) (e : Event) → map gist (told_by xs e) ≡ map gist xs
-gists_by xs (event.Issued label o) = gists_hearing xs label o
+gists_by xs (event.Issued label o reason) = gists_hearing xs label o
 gists_by xs (event.Woken w) = gists_hearing xs w.label w.outcome
 gists_by xs (event.Expired e) = gists_hearing xs e.label (Abended e.code None)
 gists_by xs _ = refl

@@ -29,6 +29,7 @@ deadlock = record {
       ∷ record { label = t2; transaction = []; dtimout = 0; attach = (2, []); lines = (5, codes "T2 EXEC CICS ENQ RESOURCE('B') LENGTH(1)") ∷ (6, codes "T2 EXEC CICS ENQ RESOURCE('A') LENGTH(1)") ∷ [] }
       ∷ [];
   clock = [];
+  written = [];
 }
 
 -- The orders of a deadlock. If a task has both values, the other waits for its first. Else each
@@ -73,6 +74,7 @@ lost_update = record {
       }
       ∷ [];
   clock = [];
+  written = [];
 }
 
 -- the contents that a task was told

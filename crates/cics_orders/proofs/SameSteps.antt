@@ -8,7 +8,7 @@ use Rattle.cics_dispatch.specs.Machine.Stamps.{region_stamp}
 use Rattle.cics_dispatch.specs.Machine.Steps.{Stepped, attached, issued}
 use Rattle.cics_dispatch.specs.Machine.Waking.{woken, expired, clock_set}
 use Rattle.cics_dispatch.specs.Machine.Shutdown.{unless_down, shut_down}
-use Rattle.cics_dispatch.specs.Machine.Events.{Happened, happened, told_by, played, late_turn, waking_turn, turn, Drained, behind_turn, drained_within}
+use Rattle.cics_dispatch.specs.Machine.Events.{Happened, happened, told_by, issued_event, played, late_turn, waking_turn, turn, Drained, behind_turn, drained_within}
 use Rattle.cics_dispatch.specs.declared.machine.events.Request.{Request}
 use Rattle.cics_dispatch.specs.declared.machine.events.Request.TheVariants as request
 use Rattle.cics_dispatch.specs.declared.machine.events.Subject.{Subject}
@@ -19,7 +19,7 @@ use Rattle.cics_dispatch.specs.declared.machine.outcomes.Woken.{Woken}
 use Rattle.cics_dispatch.specs.declared.machine.outcomes.Expired.{Expired}
 use Rattle.cics_dispatch.specs.declared.machine.outcomes.Refused.{Refused}
 use Rattle.cics_dispatch.specs.Future.Futures.{IsSteady, HaveSameFuture, AreSameSteps}
-use Rattle.cics_dispatch.proofs.OfFuture.Events.{same_itself, down_same, issued_same, attached_same, clock_same, shut_same, woken_same, expired_same}
+use Rattle.cics_dispatch.proofs.OfFuture.Events.{same_itself, down_same, issued_same, reason_same, attached_same, clock_same, shut_same, woken_same, expired_same}
 use Rattle.cics_script.specs.Lines.{line}
 use Rattle.cics_orders.specs.Plans.Taking.{NumberedLine}
 use Rattle.cics_orders.specs.declared.plans.plans.TaskPlan.{TaskPlan}
@@ -67,7 +67,9 @@ module _ (m n : Machine) (same : HaveSameFuture m n) where
       told_alike (subject.Task label) (λ _. event.Attached label transaction) (attached m label dtimout) (attached n label dtimout) (attached_same m n same label dtimout)
   played_same (request.Clock seconds) = told_alike subject.Clock (λ _. event.ClockSet seconds) (clock_set m seconds) (clock_set n seconds) (clock_same m n same seconds)
   played_same (request.Issue label command) =
-      told_alike (subject.Task label) (event.Issued label) (issued m label command) (issued n label command) (issued_same m n same label command)
+      let who = subject.Task label in
+      subst (λ r. AreSame (played m (request.Issue label command)) (told_by n who (λ outcome. event.Issued label outcome r) (issued n label command))) (reason_same m n same label command.verb)
+      (told_alike who (issued_event m label command) (issued m label command) (issued n label command) (issued_same m n same label command))
   played_same request.Shutdown = told_alike subject.Shutdown event.ShutDown (shut_down m) (shut_down n) (shut_same m n same)
 
   late_same : (o p : Option Expired) (k l : Machine) → o ≡ p → HaveSameFuture k l → AreSameTurns (late_turn o k) (late_turn p l)

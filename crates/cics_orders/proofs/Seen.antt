@@ -71,7 +71,7 @@ module _ (told : Bool) where
     hearing_same label o = with_same label o
 
     event_same : (e : Event) → sees (told_by xs e) ≡ sees (told_by ys e)
-    event_same (event.Issued label o) = hearing_same label o
+    event_same (event.Issued label o reason) = hearing_same label o
     event_same (event.Woken w) = hearing_same w.label w.outcome
     event_same (event.Expired e) = hearing_same e.label (Abended e.code None)
     event_same _ = same

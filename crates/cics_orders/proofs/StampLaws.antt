@@ -1,6 +1,6 @@
 -- States of one stamp go on alike: the same lanes may give, their lines lead to states of one stamp
 -- again, the endings are told the same, and the same lanes break a turn.
-use Rattle.std.proofs.Common.{◌≡◌, ℕ, Bool, true, false, not, ◌&&◌, List, [], map, Option, None, Some, option_map, refl, ap, sym, ◌∙◌}
+use Rattle.std.proofs.Common.{◌≡◌, ℕ, Bool, true, false, not, ◌&&◌, List, map, Option, None, Some, option_map, refl, ap, sym, ◌∙◌}
 use Rattle.std.proofs.lemmas.Option.{slice_get-map}
 use Rattle.std.specs.Prelude.{if◌then◌else◌, ◌==◌, slice_get, option_and_then}
 use Rattle.std.specs.List.{list_any}
@@ -8,6 +8,7 @@ use Rattle.cics_dispatch.proofs.OfFuture.Stamped.{alike_stamps}
 use Rattle.cics_orders.specs.Space.Orders.{Order, after, IsWay, AreStampedAlike}
 use Rattle.cics_orders.specs.Endings.Telling.{parts_at}
 use Rattle.cics_orders.specs.Plans.Proper.{is_proper, proper}
+use Rattle.cics_orders.specs.Plans.Taking.{empty_plan}
 use Rattle.cics_orders.specs.declared.plans.plans.Plan.{Plan}
 use Rattle.cics_orders.specs.Giving.{State, said_at, next_said, given, lanes, frame, initial_lanes, initial_machine, initial_state, initial_of}
 use Rattle.cics_orders.specs.Same.{SameState}
@@ -23,7 +24,7 @@ use Rattle.cics_orders.proofs.SplitStates.{same_after}
 
 -- ---- The initial state
 
-proper_by : (p : Plan) (b : Bool) → is_proper p ≡ b → is_proper (if b then p else record { definitions = []; tasks = []; clock = [] }) ≡ true
+proper_by : (p : Plan) (b : Bool) → is_proper p ≡ b → is_proper (if b then p else empty_plan) ≡ true
 proper_by p true is = is
 proper_by p false is = refl
 
@@ -33,7 +34,7 @@ proper_is p = proper_by p (is_proper p) refl
 
 -- a proper plan stays
 pub proper_stays : (p : Plan) → is_proper p ≡ true → proper p ≡ p
-proper_stays p is = ap (λ b. if b then p else record { definitions = []; tasks = []; clock = [] }) is
+proper_stays p is = ap (λ b. if b then p else empty_plan) is
 
 -- the orders of a proper plan start in its initial state
 pub initial_of_is : (p : Plan) → is_proper p ≡ true → initial_state (proper p) ≡ record { plan = p; machine = initial_machine p; lanes = map frame (initial_lanes p) }

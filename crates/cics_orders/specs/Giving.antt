@@ -64,7 +64,7 @@ hearing lanes label outcome = with_told lanes label outcome
 
 -- an event tells its task the outcome
 abbrev pub told_by : List Lane → Event → List Lane
-told_by lanes (event.Issued label outcome) = hearing lanes label outcome
+told_by lanes (event.Issued label outcome reason) = hearing lanes label outcome
 told_by lanes (event.Woken w) = hearing lanes w.label w.outcome
 told_by lanes (event.Expired e) = hearing lanes e.label (Abended e.code None)
 told_by lanes _ = lanes

@@ -1,4 +1,5 @@
 pub mod Accepts
+pub mod AsWritten
 pub mod Giving
 pub mod Playing
 pub mod Stamps

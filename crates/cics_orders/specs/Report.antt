@@ -1,4 +1,5 @@
 pub mod Along
+pub mod Amiss
 pub mod Leads
 pub mod Open
 pub mod Parts

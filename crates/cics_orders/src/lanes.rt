@@ -141,7 +141,7 @@ pub(crate) fn hear(lanes: &mut Vec<Lane>, event: Event) -> Result<(), NoMemory>
     ensures { OnOk result (lanes.new.items ≡ told_by lanes.old.items event) }
 {
     match event {
-        Event::Issued(label, outcome) => tell_answer(lanes, &label, outcome),
+        Event::Issued(label, outcome, _) => tell_answer(lanes, &label, outcome),
         Event::Woken(woken) => {
             let label = woken.label;
             tell_answer(lanes, &label, woken.outcome)

@@ -2,12 +2,13 @@
 //!
 //! The contract of each function is a law, and its body is empty.
 
-ghost use Rattle.std.specs.Prelude.{◌≡◌, [], All, filter};
+ghost use Rattle.std.specs.Prelude.{◌≡◌, [], Some, All, filter};
 ghost use Rattle.cics_dispatch.specs.Machine.Waking.{IsAtRest};
-ghost use Rattle.cics_orders.specs.Space.Orders.{Order, after, orders};
+ghost use Rattle.cics_orders.specs.Space.Orders.{Order, IsWay, after, orders};
 ghost use Rattle.cics_orders.specs.Space.Orders.{is_serial_order, serial_orders};
 ghost use Rattle.cics_orders.specs.declared.plans.plans.Plan.{Plan};
 ghost use Rattle.cics_orders.specs.Giving.{lanes, initial_state, line_count};
+ghost use Rattle.cics_orders.specs.AsWritten.{written};
 ghost use Rattle.cics_orders.specs.Turns.{breaks};
 ghost use Rattle.cics_orders.specs.Accepts.{AcceptsReady};
 
@@ -28,6 +29,14 @@ pub fn serial_orders_are_walked()
     ensures { (p : Plan) → filter (is_serial_order lanes breaks (initial_state p))
         (orders lanes (line_count p) (initial_state p))
         ≡ serial_orders lanes breaks (line_count p) (initial_state p) }
+{}
+
+/// The order as written is one of the orders: each lane may give when its line comes, and at the
+/// end none may.
+pub fn order_as_written_is_an_order()
+    ensures { (p : Plan) (o : Order) → written (initial_state p) p.written ≡ Some o →
+        IsWay lanes (initial_state p) o
+        × (lanes.givers (after lanes (initial_state p) o) 0 ≡ []) }
 {}
 
 /// After every order no command is refused of a task that may give a line. That is one that has not

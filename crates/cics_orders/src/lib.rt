@@ -17,7 +17,10 @@ mod turns;
 mod walks;
 
 pub use lanes::Lane;
-pub use laws::{lines_are_not_refused, orders_end, orders_rest, serial_orders_are_walked};
+pub use laws::{
+    lines_are_not_refused, order_as_written_is_an_order, orders_end, orders_rest,
+    serial_orders_are_walked,
+};
 pub use lines::Lines;
 pub use search::{ToldPlan, explore_script};
 pub use walks::Walker;

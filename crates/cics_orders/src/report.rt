@@ -1,6 +1,7 @@
 //! The report on the orders of a script's lines, and each order as a script: their bytes.
 
 mod along;
+mod amiss;
 mod counts;
 mod laws;
 mod open;
@@ -8,6 +9,7 @@ mod parts;
 mod report;
 mod scripts;
 
+pub use amiss::is_amiss;
 pub use laws::{faults_are_those_of_runs, scripts_lead_there};
 pub use report::{push_fault, push_report};
 pub use scripts::push_script;

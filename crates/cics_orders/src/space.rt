@@ -13,4 +13,4 @@ mod states;
 
 pub use endings::{Ending, Met, Parts, Tally, endings_of};
 pub use groups::{Join, add};
-pub use states::{Led, Reached, Scope, Stamp, go_to, look, with_lane};
+pub use states::{Led, Reached, Scope, Stamp, go_as_written, go_to, look, with_lane};

@@ -1,11 +1,14 @@
 //! The region of a script, and the lanes that give their lines to it.
 
-ghost use Rattle.std.specs.Prelude.{◌≡◌, ◌++◌, suc, true, Some, IfOk, OnOk, slice_get, option_copied};
+ghost use Rattle.std.specs.Prelude.{◌≡◌, ◌++◌, ◌∷◌, List, suc, true, if◌then◌else◌, None, Some};
+ghost use Rattle.std.specs.Prelude.{IfOk, OnOk, slice_get, option_and_then, option_copied};
 ghost use Rattle.cics_orders.specs.Space.Orders.{IsFirst, numbered_from};
 ghost use Rattle.cics_orders.specs.Giving.{State, initial_state, initial_of, line_count, is_ready};
 ghost use Rattle.cics_orders.specs.Giving.{may_give, givers, counted, given, next_said, IsGivable};
 ghost use Rattle.cics_orders.specs.Giving.{happening, left_by};
+ghost use Rattle.cics_orders.specs.AsWritten.{lane_of, line_ready, written_to};
 ghost use Rattle.cics_orders.specs.Plans.Proper.{is_proper};
+ghost use Rattle.cics_orders.specs.Plans.Taking.{WrittenLine};
 ghost use Rattle.cics_orders.specs.Stamps.{state_stamp};
 ghost use Rattle.cics_orders.specs.Turns.{breaks};
 ghost use Rattle.cics_orders.specs.Endings.Telling.{parts_at};
@@ -102,6 +105,40 @@ fn giver_from(region: &Region, lanes: &[Lane], from: usize) -> Option<usize>
         }
     }
     None
+}
+
+// Returns the number of a task's lane, or of the clock's, which is the last.
+fn lane_of(plan: &Plan, task: Option<usize>) -> usize
+    ensures { result ≡ lane_of plan.now task }
+{
+    match task {
+        Some(at) => at,
+        None => plan.tasks.len(),
+    }
+}
+
+// Returns the number of the line that a lane may give.
+fn line_ready(region: &Region, lane: &Lane) -> Option<u64>
+    ensures { result ≡ line_ready region.now.machine lane.now }
+{
+    if !is_ready(region, lane) {
+        return None;
+    }
+    match lane.lines.as_slice().get(lane.given) {
+        Some((number, _)) => Some(*number),
+        None => None,
+    }
+}
+
+// Returns the number of the line that the lane of a number may give.
+fn next_number(region: &Region, lanes: &[Lane], number: usize) -> Option<u64>
+    ensures { result ≡ option_and_then (line_ready region.now.machine)
+        (slice_get lanes.now number) }
+{
+    match lanes.get(number) {
+        Some(lane) => line_ready(region, lane),
+        None => None,
+    }
 }
 
 // Returns what the lane of a number says next, if it has a line left.
@@ -239,6 +276,36 @@ impl Walker {
         match request {
             Some(request) => self.ask(request),
             None => Ok(()),
+        }
+    }
+
+    /// Returns the lines of tasks and of the clock in the script's order: the index of each line's
+    /// task, which the clock has not, and its number.
+    pub fn written(&self) -> &[(Option<usize>, u64)]
+        ensures { result.now ≡ self.now.plan.written }
+    {
+        self.plan.written.as_slice()
+    }
+
+    /// Follows a line of the script. Gives it if it is its lane's next one, and passes it over if
+    /// the lane may not give. Returns whether it did either.
+    ///
+    /// Errors: `NoMemory`. Cost: that of `give`.
+    pub fn follow(&mut self, line: (Option<usize>, u64)) -> Result<bool, NoMemory>
+        ensures written { IfOk result (λ goes_on. (rest : List WrittenLine) →
+            written_to self.old (line ∷ rest)
+            ≡ (if goes_on then written_to self.new rest else None)) }
+        ensures plan { OnOk result (self.new.plan ≡ self.old.plan) }
+    {
+        let (task, number) = line;
+        let lane = lane_of(&self.plan, task);
+        match next_number(&self.region, self.lanes.as_slice(), lane) {
+            Some(next) if next == number => {
+                self.give(lane)?;
+                Ok(true)
+            }
+            Some(_) => Ok(false),
+            None => Ok(true),
         }
     }
 

@@ -1,7 +1,7 @@
 -- States that are the same have the same ending.
 use Rattle.std.proofs.Common.{◌≡◌, ℕ, zero, suc, ◌-◌, Bool, true, false, List, [], ◌∷◌, ◌++◌, map, length, Option, None, Some, option_map, refl, ap, sym, ◌∙◌}
 use Rattle.std.proofs.lemmas.List.{length-map}
-use Rattle.std.specs.Prelude.{if◌then◌else◌, nat_lt, slice_get, option_and_then, codes}
+use Rattle.std.specs.Prelude.{if◌then◌else◌, nat_lt, slice_get, unwrap_or, codes}
 use Rattle.std.specs.List.{flat_map, filter_map}
 use Rattle.cics_names.specs.Keyed.{Bytes, is_same}
 use Rattle.cics_names.specs.declared.commands.Command.{Command}
@@ -13,9 +13,9 @@ use Rattle.cics_dispatch.specs.declared.machine.outcomes.Outcome.{Outcome}
 use Rattle.cics_dispatch.specs.declared.machine.outcomes.Outcome.TheVariants.{Replied, Waiting, Abended, Ended}
 use Rattle.cics_dispatch.specs.Future.Futures.{HaveSameFuture, unnumbered}
 use Rattle.cics_dispatch.proofs.OfFuture.Acting.{same_store_now}
-use Rattle.cics_dispatch.proofs.OfFuture.Events.{command_same, blocker_same}
-use Rattle.cics_dispatch.specs.Deadlocks.Circles.{circles}
-use Rattle.cics_dispatch.specs.Deadlocks.Deadlocks.{blocker_at, waits_below, deadlocks}
+use Rattle.cics_dispatch.proofs.OfFuture.Events.{command_same}
+use Rattle.cics_dispatch.specs.Deadlocks.Searches.{circles}
+use Rattle.cics_dispatch.specs.Deadlocks.Deadlocks.{blockers_at, waits_below, deadlocks}
 use Rattle.cics_script.specs.Texts.{bare}
 use Rattle.cics_run.specs.Listing.Listings.{file_text, storage_text, transient_text}
 use Rattle.cics_orders.specs.Plans.Taking.{NumberedLine}
@@ -24,6 +24,7 @@ use Rattle.cics_orders.specs.Giving.{State}
 use Rattle.cics_orders.specs.Stamps.{end_told, seen}
 use Rattle.cics_orders.specs.Same.{SameState}
 use Rattle.cics_orders.proofs.Seen.{ended_same, units_same}
+use Rattle.cics_orders.proofs.OfEndings.Blocked.{blockers_same}
 use Rattle.cics_orders.specs.declared.lanes.Lane.{Lane}
 use Rattle.cics_orders.specs.Endings.Telling.{blocks, end_text, blocker_text, number_text, stand_text, state_text, told_parts, lane_parts, parts_at}
 
@@ -50,8 +51,8 @@ module _ (m n : Machine) (same : HaveSameFuture m n) where
   long : length m.tasks ≡ length n.tasks
   long = sym (length-map m.tasks unnumbered) ∙ ap length same.alike.tasks ∙ length-map n.tasks unnumbered
 
-  blockers : (k : ℕ) → blocker_at m k ≡ blocker_at n k
-  blockers k = λ i. option_and_then (λ x. numbers x i) (option_and_then (λ l. blocker_same m n same l i) (labels k i))
+  blockers : (k : ℕ) → blockers_at m k ≡ blockers_at n k
+  blockers k = λ i. filter_map (λ x. numbers x i) (unwrap_or (option_map (λ l. blockers_same m n same l i) (labels k i)) [])
 
   waits : (k : ℕ) → waits_below m k ≡ waits_below n k
   waits zero = refl
@@ -70,7 +71,7 @@ module _ (m n : Machine) (same : HaveSameFuture m n) where
   -- ---- Lanes
 
   stands : (label : Bytes) (last : Option NumberedLine) (o : Option Command) → stand_text m label last o ≡ stand_text n label last o
-  stands label last (Some command) = ap (λ b. codes " WAITING " ++ (blocker_text b ++ (codes " LINE " ++ number_text last))) (blocker_same m n same label)
+  stands label last (Some command) = ap (λ ls. codes " WAITING" ++ (flat_map blocker_text ls ++ (codes " LINE " ++ number_text last))) (blockers_same m n same label)
   stands label last None = ap (λ b. if b then codes " OPEN" else codes " IDLE") (units_same m n same label)
 
   states : (label : Bytes) (x : Lane) → state_text m label x ≡ state_text n label x

@@ -1,5 +1,5 @@
--- The first element of a list that is one is changed; each element is.
-use Rattle.std.proofs.Common.{◌≡◌, ◌<◌, ℕ, zero, suc, Bool, true, false, List, [], ◌∷◌, ◌++◌, map, length, take, drop, get_or, Option, None, Some, option_map, refl, ap, sym, ◌∙◌, arith}
+-- The first element of a list that is one is changed.
+use Rattle.std.proofs.Common.{◌≡◌, ◌<◌, ℕ, zero, suc, Bool, true, false, List, [], ◌∷◌, length, get_or, Option, None, Some, option_map, refl, ap, sym, ◌∙◌, arith}
 use Rattle.std.specs.Prelude.{slice_set, if◌then◌else◌}
 use Rattle.cics_orders.specs.Plans.Firsts.{first_index, with_first}
 
@@ -46,10 +46,3 @@ module _ {X : Type 0} (is : X → Bool) (xs seen : List X) (same : seen ≡ xs) 
 
   pub unchanged : (change : X → X) → first_index is seen ≡ None → xs ≡ with_first is change xs
   unchanged change none = sym (first_none is change xs (ap (first_index is) (sym same) ∙ none))
-
--- a list whose elements are changed one after the other, a step further
-pub map_step : {X : Type 0} (f : X → X) (xs : List X) (i : ℕ) (d : X) → i < length xs →
-    slice_set (map f (take i xs) ++ drop i xs) i (f (get_or (map f (take i xs) ++ drop i xs) i d)) ≡ map f (take (suc i) xs) ++ drop (suc i) xs
-map_step f [] i d short = absurd (omega (arith, short))
-map_step f (x ∷ xs) zero d short = refl
-map_step f (x ∷ xs) (suc i) d short = ap (λ ys. f x ∷ ys) (map_step f xs i d (omega (arith, short)))

@@ -1,6 +1,8 @@
 -- A script is taken apart into a proper plan: no two tasks have the same label, and each lane has
 -- lines of its own.
 use Rattle.std.proofs.Common.{◌≡◌, ℕ, suc, ◌+◌, Bool, true, false, not, ◌&&◌, List, [], ◌∷◌, ◌++◌, Option, None, Some, option_map, is_some, Result, Ok, Err, refl, ap, sym, ◌∙◌, subst}
+use Rattle.std.proofs.lemmas.Bool.{and_parts}
+use Rattle.std.proofs.lemmas.List.Folds.{list_all-append}
 use Rattle.std.specs.Prelude.{if◌then◌else◌}
 use Rattle.std.specs.List.{list_all}
 use Rattle.cics_names.specs.Keyed.{Bytes, is_same}
@@ -14,7 +16,7 @@ use Rattle.cics_script.specs.declared.faults.LineFault.{LineFault}
 use Rattle.cics_script.specs.declared.faults.LineFault.TheVariants.{DefineTooLate}
 use Rattle.cics_orders.specs.Plans.Firsts.{first_index}
 use Rattle.cics_orders.specs.Plans.Defining.{define_fault, defined_by}
-use Rattle.cics_orders.specs.Plans.Taking.{NumberedLine, Taken, initial_taken, accepted, defined, faulty, is_task, has_task, with_line, line_added, with_refused, attached, issued, timed, taken_more, behind, taken_apart, planned}
+use Rattle.cics_orders.specs.Plans.Taking.{NumberedLine, Taken, initial_taken, accepted, defined, faulty, is_task, has_task, with_line, line_added, with_command, with_refused, attached, issued, timed, taken_more, behind, taken_apart, planned}
 use Rattle.cics_orders.specs.Plans.Proper.{is_command_of, is_timing, has_own_lines, are_distinct, is_proper}
 use Rattle.cics_orders.specs.declared.plans.plans.TaskPlan.{TaskPlan}
 use Rattle.cics_orders.specs.declared.plans.plans.Plan.{Plan}
@@ -25,14 +27,7 @@ use Rattle.cics_orders.specs.declared.plans.plans.ScriptFault.TheVariants as fau
 -- ---- Both
 
 both : (a b : Bool) → a ≡ true → b ≡ true → a && b ≡ true
-both true true p q = refl
-both true false p q = q
-both false b p q = cc
-
-parts : (a b : Bool) → a && b ≡ true → (a ≡ true) × (b ≡ true)
-parts true true all = (refl, refl)
-parts true false all = cc
-parts false b all = cc
+both a b p q = λ i. p i && q i
 
 -- what is_proper says, each for itself
 pub record Proper (p : Plan) : Type 0 where
@@ -42,8 +37,8 @@ pub record Proper (p : Plan) : Type 0 where
 
 pub proper_parts : (p : Plan) → is_proper p ≡ true → Proper p
 proper_parts p is =
-    let outer = parts (are_distinct p.tasks && list_all has_own_lines p.tasks) (list_all (λ next. is_timing (line next.1)) p.clock) is in
-    let inner = parts (are_distinct p.tasks) (list_all has_own_lines p.tasks) outer.0 in
+    let outer = and_parts (are_distinct p.tasks && list_all has_own_lines p.tasks) (list_all (λ next. is_timing (line next.1)) p.clock) is in
+    let inner = and_parts (are_distinct p.tasks) (list_all has_own_lines p.tasks) outer.0 in
     record { distinct = inner.0; own = inner.1; clock = outer.1 }
 
 proper_whole : (p : Plan) → Proper p → is_proper p ≡ true
@@ -54,9 +49,7 @@ proper_whole p proper =
 -- ---- Lists
 
 all_more : {X : Type 0} (test : X → Bool) (xs : List X) (x : X) → list_all test xs ≡ true → test x ≡ true → list_all test (xs ++ x ∷ []) ≡ true
-all_more test [] x all one = both (test x) true one refl
-all_more test (y ∷ ys) x all one =
-    let split = parts (test y) (list_all test ys) all in both (test y) (list_all test (ys ++ x ∷ [])) split.0 (all_more test ys x split.1 one)
+all_more test xs x all one = list_all-append test xs (x ∷ []) ∙ (λ i. all i && (one i && true))
 
 -- ---- Labels
 
@@ -91,7 +84,7 @@ distinct_more [] u distinct none = refl
 distinct_more (t ∷ ts) u distinct none = by (distinct_more ts u) (is_same t.label u.label) refl (sym (has_first t ts u.label) ∙ none)
   where
     split : (not (has_task ts t.label) ≡ true) × (are_distinct ts ≡ true)
-    split = parts (not (has_task ts t.label)) (are_distinct ts) distinct
+    split = and_parts (not (has_task ts t.label)) (are_distinct ts) distinct
 
     off : (b : Bool) → not b ≡ true → b ≡ false
     off true is = cc
@@ -125,10 +118,10 @@ distinct_added (t ∷ ts) label next = by (distinct_added ts label next) (is_tas
 own_added : (ts : List TaskPlan) (label : Bytes) (next : NumberedLine) → is_command_of label (line next.1) ≡ true → list_all has_own_lines ts ≡ true →
     list_all has_own_lines (line_added ts label next) ≡ true
 own_added [] label next one all = refl
-own_added (t ∷ ts) label next one all = by (own_added ts label next one (parts (has_own_lines t) (list_all has_own_lines ts) all).1) (is_task t label) refl
+own_added (t ∷ ts) label next one all = by (own_added ts label next one (and_parts (has_own_lines t) (list_all has_own_lines ts) all).1) (is_task t label) refl
   where
     split : (has_own_lines t ≡ true) × (list_all has_own_lines ts ≡ true)
-    split = parts (has_own_lines t) (list_all has_own_lines ts) all
+    split = and_parts (has_own_lines t) (list_all has_own_lines ts) all
 
     by : list_all has_own_lines (line_added ts label next) ≡ true → (b : Bool) → is_task t label ≡ b →
         list_all has_own_lines (if b then with_line t next ∷ ts else t ∷ line_added ts label next) ≡ true
@@ -155,7 +148,7 @@ module _ (t : Taken) (next : NumberedLine) (proper : Proper t.plan) where
   issue : (label : Bytes) → is_command_of label (line next.1) ≡ true → Proper (issued t next label).plan
   issue label one = by (has_task t.plan.tasks label)
     where
-      by : (b : Bool) → Proper (if b then record t { is_opening = false; plan = record (t.plan) { tasks = line_added t.plan.tasks label next } } else with_refused t next.0 label refused.NoTask).plan
+      by : (b : Bool) → Proper (if b then record t { is_opening = false; plan = with_command t.plan next label } else with_refused t next.0 label refused.NoTask).plan
       by true = record {
         distinct = distinct_added t.plan.tasks label next ∙ proper.distinct;
         own = own_added t.plan.tasks label next one proper.own;

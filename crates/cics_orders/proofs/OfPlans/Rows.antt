@@ -1,5 +1,5 @@
 -- Worked rows: scripts taken apart.
-use Rattle.std.proofs.Common.{◌≡◌, [], ◌∷◌, refl, Ok, Err}
+use Rattle.std.proofs.Common.{◌≡◌, [], ◌∷◌, refl, None, Some, Ok, Err}
 use lib.Chars.{codes}
 use Rattle.cics_names.specs.Ebcdic.{code_of}
 use Rattle.cics_names.specs.Keyed.{Bytes}
@@ -36,6 +36,7 @@ apart : planned (taken_apart initial_taken 1
         tasks =
             record { label = a; transaction = t; dtimout = 5; attach = (4, codes "ATTACH A TRANSID('T') DTIMOUT(5)"); lines = (6, codes "a exec cics return") ∷ [] } ∷ [];
         clock = (5, codes "CLOCK 5") ∷ (8, codes "SHUTDOWN IMMEDIATE") ∷ [];
+        written = (None, 5) ∷ (Some 0, 6) ∷ (None, 8) ∷ [];
       };
       refused = record { number = 3; label = a; refusal = NoTask } ∷ record { number = 7; label = a; refusal = DuplicateLabel } ∷ [];
     })

@@ -20,7 +20,7 @@ use Rattle.cics_run.specs.Stage.Stages as stages
 use Rattle.cics_run.specs.declared.stage.stage.Stage.TheVariants.{Opening}
 use Rattle.cics_run.specs.Session.Running.{Played, next, stepped}
 use Rattle.cics_orders.specs.Plans.Defining.{define_fault, defined_by}
-use Rattle.cics_orders.specs.Plans.Taking.{Taken, NumberedLine, initial_taken, accepted, defined, faulty, is_task, has_task, with_line, line_added, with_refused, attached, issued, taken_more, behind, taken_apart, planned}
+use Rattle.cics_orders.specs.Plans.Taking.{Taken, NumberedLine, initial_taken, accepted, defined, faulty, is_task, has_task, with_line, line_added, with_command, with_refused, attached, issued, taken_more, behind, taken_apart, planned}
 use Rattle.cics_orders.specs.declared.plans.plans.Plan.{Plan}
 use Rattle.cics_orders.specs.declared.plans.plans.Planned.{Planned}
 use Rattle.cics_orders.specs.declared.plans.plans.TaskPlan.{TaskPlan}
@@ -113,7 +113,7 @@ module _ (q : Played) (t : Taken) (next : NumberedLine) (sound : Sound q t.openi
   issue label = by (has_task t.plan.tasks label)
     where
       by : (b : Bool) →
-          IsSound (if b then record t { is_opening = false; plan = record (t.plan) { tasks = line_added t.plan.tasks label next } } else with_refused t next.0 label NoTask)
+          IsSound (if b then record t { is_opening = false; plan = with_command t.plan next label } else with_refused t next.0 label NoTask)
       by true = record { opening = sound.opening; defines = sound.defines; attaches = each_added t.plan.tasks label next sound.attaches }
       by false = record { opening = sound.opening; defines = sound.defines; attaches = sound.attaches }
 

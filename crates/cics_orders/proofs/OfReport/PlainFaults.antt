@@ -22,7 +22,7 @@ use Rattle.cics_run.specs.declared.stage.stage.Fault.{Fault}
 use Rattle.cics_run.specs.declared.stage.stage.Stage.{Stage}
 use Rattle.cics_run.specs.declared.stage.stage.Stage.TheVariants.{Opening, Running}
 use Rattle.cics_orders.specs.Plans.Defining.{defined_by}
-use Rattle.cics_orders.specs.Plans.Taking.{Taken, NumberedLine, initial_taken, accepted, has_task, with_refused, attached, line_added, issued, timed, taken_more, taken_apart, behind}
+use Rattle.cics_orders.specs.Plans.Taking.{Taken, NumberedLine, initial_taken, accepted, has_task, with_refused, attached, with_command, issued, timed, taken_more, taken_apart, behind}
 use Rattle.cics_orders.specs.declared.plans.plans.ScriptFault.{ScriptFault}
 use Rattle.cics_orders.specs.declared.plans.plans.TaskPlan.{TaskPlan}
 use Rattle.cics_orders.specs.Report.Reporting.{as_fault}
@@ -56,7 +56,7 @@ on_issue : (t : Taken) (l : NumberedLine) (stage : Stage) (label : Bytes) (comma
 on_issue t l stage label command = ran (issued t l label) (by (has_task t.plan.tasks label)) stage (request.Issue label command)
   where
     by : (b : Bool) →
-        (if b then record t { is_opening = false; plan = record (t.plan) { tasks = line_added t.plan.tasks label l } }
+        (if b then record t { is_opening = false; plan = with_command t.plan l label }
         else with_refused t l.0 label NoTask).is_opening ≡ false
     by true = refl
     by false = refl

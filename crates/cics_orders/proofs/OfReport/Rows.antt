@@ -8,6 +8,7 @@ use Rattle.cics_dispatch.specs.declared.machine.outcomes.Refused.TheVariants.{No
 use Rattle.cics_orders.specs.Space.Endings.{greatest}
 use Rattle.cics_orders.specs.declared.search.exploring.Report.{Report}
 use Rattle.cics_orders.specs.declared.plans.plans.Planned.{Planned}
+use Rattle.cics_orders.specs.Report.Amiss.{is_amiss}
 use Rattle.cics_orders.specs.Report.Parts.{mark}
 use Rattle.cics_orders.specs.Report.Reporting.{report_text, every_text, endings_text, script_at}
 
@@ -28,11 +29,12 @@ planned = record {
         record { label = a; transaction = []; dtimout = 0; attach = (2, codes "ATTACH A TRANSID('T')"); lines = (5, codes "A EXEC CICS SYNCPOINT") ∷ (8, codes "A EXEC CICS RETURN") ∷ [] }
         ∷ record { label = b; transaction = []; dtimout = 0; attach = (3, codes "ATTACH B TRANSID('T')"); lines = (7, codes "b exec cics return") ∷ [] } ∷ [];
     clock = (6, codes "CLOCK 5") ∷ (9, codes "SHUTDOWN IMMEDIATE") ∷ [];
+    written = [];
   };
   refused = record { number = 4; label = b; refusal = NoTask } ∷ [];
 }
 
--- two endings, the second a deadlock
+-- two endings, the second a deadlock, and as written
 abbrev two : Report
 two = record {
   endings =
@@ -40,14 +42,16 @@ two = record {
       ∷ record { order = 1 ∷ []; ending = mark true ∷ codes "BOTH\n" ∷ codes "OTHER\n" ∷ []; orders = 9; serial = 2 } ∷ [];
   is_whole = true;
   has_all_serial = true;
+  written = Some (mark true ∷ codes "BOTH\n" ∷ codes "OTHER\n" ∷ []);
 }
 
--- one ending, and orders that were left out, serial ones too
+-- one ending, and orders that were left out, serial ones too, and the ending as written
 abbrev cut : Report
 cut = record {
   endings = record { order = []; ending = mark false ∷ codes "ONE\n" ∷ []; orders = 7; serial = 7 } ∷ [];
   is_whole = false;
   has_all_serial = false;
+  written = Some (mark false ∷ codes "OTHER\n" ∷ []);
 }
 
 -- one ending, and orders that were left out, but no serial ones
@@ -56,6 +60,7 @@ cut_but_serial = record {
   endings = record { order = []; ending = mark false ∷ codes "ONE\n" ∷ []; orders = 7; serial = 2 } ∷ [];
   is_whole = false;
   has_all_serial = true;
+  written = None;
 }
 
 -- two endings, the first of as many orders as are counted
@@ -66,6 +71,7 @@ many = record {
       ∷ record { order = 1 ∷ []; ending = mark false ∷ codes "OTHER\n" ∷ []; orders = 18446744073709551616; serial = 0 } ∷ [];
   is_whole = true;
   has_all_serial = true;
+  written = None;
 }
 
 -- the parts of every ending are told once
@@ -78,7 +84,7 @@ two_endings : report_text planned 200000 two ≡
     ++ codes "ENDING 1 ORDERS 3 SERIAL 0\n"
     ++ codes "ORDER A CLOCK B A SHUTDOWN\n"
     ++ codes "ONE\n"
-    ++ codes "ENDING 2 ORDERS 9 SERIAL 2 DEADLOCK\n"
+    ++ codes "ENDING 2 ORDERS 9 SERIAL 2 DEADLOCK AS WRITTEN\n"
     ++ codes "ORDER B\n"
     ++ codes "OTHER\n"
 unfolding every_text endings_text digits code_of character_of
@@ -124,7 +130,7 @@ counted_far = refl
 
 -- the lines of an order stand behind those that define and attach
 as_script : script_at planned.plan two 2 ≡ Some (
-    codes "* ENDING 2 OF 2 ORDERS 9 SERIAL 2 DEADLOCK\n"
+    codes "* ENDING 2 OF 2 ORDERS 9 SERIAL 2 DEADLOCK AS WRITTEN\n"
     ++ codes "DEFINE TDQUEUE('Q') LOGICAL\n"
     ++ codes "ATTACH A TRANSID('T')\n"
     ++ codes "ATTACH B TRANSID('T')\n"
@@ -135,3 +141,9 @@ as_script = refl
 -- endings are numbered from 1 on
 no_such : (script_at planned.plan two 0 ≡ None) × (script_at planned.plan two 3 ≡ None)
 no_such = (refl, refl)
+
+-- A deadlock is amiss, and an ending without serial orders. But if serial orders were left out, the
+-- latter isn't known.
+amiss : (is_amiss two ≡ true) × (is_amiss many ≡ true) × (is_amiss cut_but_serial ≡ false)
+    × (is_amiss (record many { has_all_serial = false }) ≡ false) × (is_amiss (record two { has_all_serial = false }) ≡ true)
+amiss = (refl, refl, refl, refl, refl)

@@ -10,8 +10,8 @@ use Rattle.cics_script.specs.declared.lines.Line.TheVariants.{Blank}
 use Rattle.cics_script.specs.declared.faults.LineFault.TheVariants.{TooLong, NotAscii}
 use Rattle.cics_orders.specs.Space.Endings.{Reported, greatest}
 use Rattle.cics_orders.specs.declared.search.exploring.Report.{Report}
-use Rattle.cics_orders.specs.Report.Parts.{mark, mark_in}
-use Rattle.cics_orders.specs.Report.Reporting.{bound_text, count_text, both_text, title_text}
+use Rattle.cics_orders.specs.Report.Parts.{mark, mark_in, written_mark}
+use Rattle.cics_orders.specs.Report.Reporting.{bound_text, count_text, both_text, has_parts, title_text}
 use Rattle.cics_orders.specs.Report.Leads.{IsTitled}
 use Rattle.cics_orders.proofs.OfReport.ScriptLines.{IsText, with_lf}
 
@@ -60,11 +60,18 @@ marked : (b : Bool) → IsShort 9 (mark b)
 marked true = record { text = refl; short = omega arith }
 marked false = record { text = refl; short = omega arith }
 
+marked_written : (b : Bool) → IsShort 11 (written_mark b)
+marked_written true = record { text = refl; short = omega arith }
+marked_written false = record { text = refl; short = omega arith }
+
 -- ---- The title
 
 module _ (r : Report) (k : ℕ) (e : Reported) where
+  abbrev written : Bytes
+  written = written_mark (has_parts e r.written)
+
   abbrev heading : Bytes
-  heading = codes " ORDERS " ++ (both_text r e.orders e.serial ++ mark_in e.ending)
+  heading = codes " ORDERS " ++ (both_text r e.orders e.serial ++ (mark_in e.ending ++ written))
 
   abbrev counted : Bytes
   counted = codes " OF " ++ (count_text r.is_whole (length r.endings) ++ heading)
@@ -80,18 +87,19 @@ module _ (r : Report) (k : ℕ) (e : Reported) where
       let endings = count_text r.is_whole (length r.endings) in
       sym (ap (λ t. codes "* ENDING " ++ t) (append_assoc (decimal k) counted lf)
       ∙ ap (λ t. codes "* ENDING " ++ (decimal k ++ (codes " OF " ++ t))) (append_assoc endings heading lf)
-      ∙ ap (λ t. codes "* ENDING " ++ (decimal k ++ (codes " OF " ++ (endings ++ (codes " ORDERS " ++ t))))) (append_assoc all (mark_in e.ending) lf))
+      ∙ ap (λ t. codes "* ENDING " ++ (decimal k ++ (codes " OF " ++ (endings ++ (codes " ORDERS " ++ t))))) (append_assoc all (mark_in e.ending ++ written) lf)
+      ∙ ap (λ t. codes "* ENDING " ++ (decimal k ++ (codes " OF " ++ (endings ++ (codes " ORDERS " ++ (all ++ t)))))) (append_assoc (mark_in e.ending) written lf))
 
   module _ (titled : IsTitled r k e) where
-    short : IsShort 321 title
+    short : IsShort 332 title
     short =
-        behind 9 312 (codes "* ENDING ") (decimal k ++ counted) (record { text = refl; short = omega arith })
-        (behind 64 248 (decimal k) counted (number k titled.number)
-        (behind 4 244 (codes " OF ") (count_text r.is_whole (length r.endings) ++ heading) (record { text = refl; short = omega arith })
-        (behind 73 171 (count_text r.is_whole (length r.endings)) heading (count r.is_whole (length r.endings) titled.endings)
-        (behind 8 163 (codes " ORDERS ") (both_text r e.orders e.serial ++ mark_in e.ending) (record { text = refl; short = omega arith })
-        (behind 154 9 (both_text r e.orders e.serial) (mark_in e.ending) (both r e.orders e.serial titled.orders titled.serial)
-        (subst (IsShort 9) (sym titled.mark.1) (marked titled.mark.0)))))))
+        behind 9 323 (codes "* ENDING ") (decimal k ++ counted) (record { text = refl; short = omega arith })
+        (behind 64 259 (decimal k) counted (number k titled.number)
+        (behind 4 255 (codes " OF ") (count_text r.is_whole (length r.endings) ++ heading) (record { text = refl; short = omega arith })
+        (behind 73 182 (count_text r.is_whole (length r.endings)) heading (count r.is_whole (length r.endings) titled.endings)
+        (behind 8 174 (codes " ORDERS ") (both_text r e.orders e.serial ++ (mark_in e.ending ++ written)) (record { text = refl; short = omega arith })
+        (behind 154 20 (both_text r e.orders e.serial) (mark_in e.ending ++ written) (both r e.orders e.serial titled.orders titled.serial)
+        (behind 9 11 (mark_in e.ending) written (subst (IsShort 9) (sym titled.mark.1) (marked titled.mark.0)) (marked_written (has_parts e r.written))))))))
 
     -- the title says nothing
     pub is_comment : line title ≡ Ok Blank

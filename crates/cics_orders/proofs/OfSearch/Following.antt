@@ -1,5 +1,5 @@
 -- A state and a level are followed, entry by entry.
-use Rattle.std.proofs.Common.{◌≡◌, ◌<◌, ◌≤◌, ◌⊎◌, ℕ, zero, suc, ◌+◌, ◌^◌, min, Bool, true, false, not, cond, Some, None, if◌then◌else◌, List, [], ◌∷◌, ◌++◌, map, length, take, drop, get_or, arith, inl, inr, refl, ap, sym, ◌∙◌, append-nil, append_assoc, subst}
+use Rattle.std.proofs.Common.{◌≡◌, ◌<◌, ◌≤◌, ℕ, zero, suc, ◌+◌, ◌^◌, min, Bool, true, false, not, cond, Some, None, List, [], ◌∷◌, ◌++◌, map, length, take, drop, get_or, arith, inl, inr, refl, ap, sym, ◌∙◌, append-nil, append_assoc, subst}
 use Rattle.std.specs.List.{flat_map, slice_get}
 use Rattle.std.specs.Int.{from_bool}
 use Rattle.std.proofs.lemmas.List.Sums.{sum_by_more, sum_by-append}
@@ -12,7 +12,7 @@ use Rattle.cics_names.specs.Keyed.{Bytes}
 use Rattle.cics_orders.specs.Space.Orders.{Order, Lanes, AreAmong, after}
 use Rattle.cics_orders.specs.Space.Groups.{added, added_all}
 use Rattle.cics_orders.specs.Space.States.{led_joined}
-use Rattle.cics_orders.specs.Search.Levels.{led_on, live, spread, IsNext}
+use Rattle.cics_orders.specs.Search.Levels.{live, spread}
 use Rattle.cics_orders.specs.declared.space.states.Led.{Led}
 use Rattle.cics_orders.proofs.OfSearch.Regrouping.{added_all-append}
 
@@ -48,12 +48,6 @@ lane_next f [] zero x xs is = absurd cc
 lane_next f [] (suc i) x xs is = absurd cc
 lane_next f (l ∷ ls) zero x xs is = (omega arith, cc, cc)
 lane_next f (l ∷ ls) (suc i) x xs is = let rest = lane_next f ls i x xs is in (omega (arith, rest.0), rest.1, rest.2)
-
-pub lanes_end : {X : Type 0} (f : ℕ → X) (ls : List ℕ) (i : ℕ) → [] ≡ map f (drop i ls) → take i ls ≡ ls
-lanes_end f [] zero is = refl
-lanes_end f [] (suc i) is = refl
-lanes_end f (l ∷ ls) zero is = absurd cc
-lanes_end f (l ∷ ls) (suc i) is = ap (λ ks. l ∷ ks) (lanes_end f ls i is)
 
 -- a state more is counted if a lane may give there
 pub live_more : (es : List (Bytes × Led)) (i : ℕ) (e : Bytes × Led) → slice_get es i ≡ Some e → live (take (i + 1) es) ≡ live (take i es) + cond (not e.1.has_ended) 1 0
@@ -131,27 +125,3 @@ module _ {S : Type 0} (lanes : Lanes S) (breaks : S → ℕ → Bool) (stamp : S
       ∙ ap (added_all bytes_eq led_joined [])
       (ap (λ es. flat_map (spread lanes breaks stamp b s) some ++ es) (sym (append-nil (spread lanes breaks stamp b s e)))
       ∙ sym (flat_map-append (spread lanes breaks stamp b s) some (e ∷ [])))
-
-  -- an entry where no lane may give stays
-  pub spread_ended : (k : Bytes) (led : Led) → led.has_ended ≡ true → spread lanes breaks stamp b s (k, led) ≡ (k, led) ∷ []
-  spread_ended k led ended = ap (λ c. if c then (k, led) ∷ [] else led_on lanes breaks stamp b s led) ended
-
-  -- the lanes of another one are followed
-  pub spread_led : (k : Bytes) (led : Led) → led.has_ended ≡ false → spread lanes breaks stamp b s (k, led) ≡ led_on lanes breaks stamp b s led
-  spread_led k led ended = ap (λ c. if c then (k, led) ∷ [] else led_on lanes breaks stamp b s led) ended
-
-  -- all entries are followed or left out
-  pub part_end : (w v : Bool) (es left some next : List (Bytes × Led)) → left ≡ [] → IsPart w v es left some →
-      (1 ≤ length es → (1 ≤ length some) ⊎ (1 ≤ length left)) →
-      next ≡ added_all bytes_eq led_joined [] (flat_map (spread lanes breaks stamp b s) some) → IsNext lanes breaks stamp b s w v es next
-  part_end w v es left some next none part kept is = record {
-    some = some;
-    among = subst (λ os. AreAmong os es) (append-nil some) (part.among [] (subst (AreAmong []) (sym none) refl));
-    whole = λ all. let both = part.whole all in (both.0, sym (append-nil some) ∙ ap (λ os. some ++ os) (sym none) ∙ both.1);
-    kept = λ any. by (kept any);
-    leads = is;
-  }
-    where
-      by : (1 ≤ length some) ⊎ (1 ≤ length left) → 1 ≤ length some
-      by (inl there) = there
-      by (inr more) = let none_left : length left ≡ 0 = ap length none in absurd (omega (arith, more, none_left))

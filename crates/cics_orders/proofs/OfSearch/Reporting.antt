@@ -1,5 +1,5 @@
 -- The report of what two searches told.
-use Rattle.std.proofs.Common.{◌≡◌, ◌≤◌, ℕ, Bool, true, false, List, [], ◌∷◌, map, length, refl, ap, sym, ◌∙◌, arith, subst}
+use Rattle.std.proofs.Common.{◌≡◌, ◌≤◌, ℕ, Bool, true, false, List, [], ◌∷◌, map, length, Option, refl, ap, sym, ◌∙◌, arith, subst}
 use Rattle.std.specs.List.{flat_map}
 use Rattle.std.specs.Str.{bytes_eq}
 use Rattle.cics_names.specs.Keyed.{Bytes}
@@ -69,11 +69,11 @@ module _ {S : Type 0} (lanes : Lanes S) (breaks : S → ℕ → Bool) (stamp : S
   some_runs (o ∷ os) any = omega arith
 
   -- what two searches told is the report
-  pub searched : (n : ℕ) (w v : Bool) (es fs : List (Bytes × Led)) (endings : List Reported) →
+  pub searched : (n : ℕ) (w v : Bool) (es fs : List (Bytes × Led)) (endings : List Reported) (written : Option Parts) →
       IsLevel lanes breaks stamp false s n w es → IsLevel lanes breaks stamp true s n v fs →
       endings ≡ map ending_of (added_all are_same tally_joined (added_all are_same tally_joined [] (map (tallied lanes ending false s) es)) (map (tallied lanes ending true s) fs)) →
-      IsReport lanes ending breaks n s (record { endings = endings; is_whole = w; has_all_serial = v })
-  searched n w v es fs endings all some is =
+      IsReport lanes ending breaks n s (record { endings = endings; is_whole = w; has_all_serial = v; written = written })
+  searched n w v es fs endings written all some is =
       let serials : serial_of lanes breaks s (orders lanes n s) ≡ followed lanes breaks true n s = serial_followed lanes breaks n s in
       let every : followed lanes breaks false n s ≡ orders lanes n s = all_followed lanes breaks n s in
       let reported : endings ≡ report_of_both (runs lanes ending breaks s all.orders) (runs lanes ending breaks s some.orders)

@@ -1,5 +1,5 @@
 -- The orders that a search follows, line by line, are those that it is to follow.
-use Rattle.std.proofs.Common.{◌≡◌, ◌<◌, length, get_or, inl, inr, ℕ, zero, suc, Bool, true, false, not, ◌&&◌, if◌then◌else◌, List, [], ◌∷◌, ◌++◌, map, All, refl, ap, sym, ◌∙◌, arith, append-nil, append_assoc, subst}
+use Rattle.std.proofs.Common.{◌≡◌, ◌<◌, length, get_or, inl, inr, ℕ, zero, suc, Bool, true, false, not, ◌&&◌, if◌then◌else◌, List, [], ◌∷◌, ◌++◌, map, refl, ap, sym, ◌∙◌, arith, append-nil, append_assoc, subst}
 use Rattle.std.specs.List.{flat_map, filter}
 use Rattle.std.proofs.lemmas.Grind.{flat_map-append}
 use Rattle.std.proofs.lemmas.List.{map-append}
@@ -19,25 +19,13 @@ filter_map_both {X} {Y} f p (x ∷ xs) = by (filter_map_both f p xs) (p (f x)) r
     by rest true is = rw is (ap (λ ys. f x ∷ ys) rest)
     by rest false is = rw is rest
 
-pub each_all : {X : Type 0} (P : X → Type 0) (xs : List X) → All P xs → Each P xs
-each_all P [] all = tt
-each_all P (x ∷ xs) all = (all 0 x (omega arith), each_all P xs (λ k d short. all (suc k) d (omega (arith, short))))
-
 pub each_append : {X : Type 0} (P : X → Type 0) (xs ys : List X) → Each P xs → Each P ys → Each P (xs ++ ys)
 each_append P [] ys first second = second
 each_append P (x ∷ xs) ys first second = (first.0, each_append P xs ys first.1 second)
 
-pub each_front : {X : Type 0} (P : X → Type 0) (xs ys : List X) → Each P (xs ++ ys) → Each P xs × Each P ys
-each_front P [] ys all = (tt, all)
-each_front P (x ∷ xs) ys all = let rest = each_front P xs ys all.1 in ((all.0, rest.0), rest.1)
-
 pub each_mapped : {X Y : Type 0} (P : Y → Type 0) (f : X → Y) (xs : List X) → Each (λ x. P (f x)) xs → Each P (map f xs)
 each_mapped P f [] all = tt
 each_mapped P f (x ∷ xs) all = (all.0, each_mapped P f xs all.1)
-
-each_unmapped : {X Y : Type 0} (P : Y → Type 0) (f : X → Y) (xs : List X) → Each P (map f xs) → Each (λ x. P (f x)) xs
-each_unmapped P f [] all = tt
-each_unmapped P f (x ∷ xs) all = (all.0, each_unmapped P f xs all.1)
 
 pub each_on : {X : Type 0} (P Q : X → Type 0) (xs : List X) → ((x : X) → P x → Q x) → Each P xs → Each Q xs
 each_on P Q [] on all = tt

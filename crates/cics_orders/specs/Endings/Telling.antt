@@ -8,7 +8,7 @@ use Rattle.cics_history.specs.Holding.{store_of}
 use Rattle.cics_units.specs.Replay.Listings.{listing_of}
 use Rattle.cics_dispatch.specs.Machine.Machine.{Machine}
 use Rattle.cics_dispatch.specs.Machine.Events.{task_ended}
-use Rattle.cics_dispatch.specs.Machine.Blockers.{waiting_command, blocker_of, unit_of}
+use Rattle.cics_dispatch.specs.Machine.Blockers.{waiting_command, blockers_of, unit_of}
 use Rattle.cics_dispatch.specs.declared.machine.outcomes.Outcome.{Outcome}
 use Rattle.cics_dispatch.specs.declared.machine.outcomes.Outcome.TheVariants.{Abended, Ended}
 use Rattle.cics_dispatch.specs.Deadlocks.Deadlocks.{deadlocks}
@@ -35,19 +35,19 @@ end_text (Some Ended) = codes " ENDED"
 end_text (Some (Abended code reply)) = codes " ABEND " ++ bare code.0
 end_text _ = codes " SHUTDOWN"
 
--- the task that blocks another one
-abbrev pub blocker_text : Option Bytes → List ℕ
-blocker_text None = []
-blocker_text (Some label) = bare label
+-- a task that blocks another one
+abbrev pub blocker_text : Bytes → List ℕ
+blocker_text label = codes " " ++ bare label
 
 -- the number of a line
 abbrev pub number_text : Option NumberedLine → List ℕ
 number_text None = []
 number_text (Some next) = decimal next.0
 
--- a task that has not ended waits with the line that it gave last, or has an open unit, or is idle
+-- A task that has not ended waits with the line that it gave last, or has an open unit, or is idle.
+-- If it waits, all its blockers are named, in the order of attach.
 abbrev pub stand_text : Machine → Bytes → Option NumberedLine → Option Command → List ℕ
-stand_text m label last (Some command) = codes " WAITING " ++ (blocker_text (blocker_of m label) ++ (codes " LINE " ++ number_text last))
+stand_text m label last (Some command) = codes " WAITING" ++ (flat_map blocker_text (blockers_of m label) ++ (codes " LINE " ++ number_text last))
 stand_text m label last None = if is_some (unit_of m label) then codes " OPEN" else codes " IDLE"
 
 -- what a task does

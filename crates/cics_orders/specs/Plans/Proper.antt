@@ -7,7 +7,7 @@ use Rattle.cics_script.specs.Lines.{line}
 use Rattle.cics_script.specs.declared.lines.Line.{Line}
 use Rattle.cics_script.specs.declared.lines.Line.TheVariants.{Clock, Issue, Shutdown}
 use Rattle.cics_script.specs.declared.faults.LineFault.{LineFault}
-use Rattle.cics_orders.specs.Plans.Taking.{has_task}
+use Rattle.cics_orders.specs.Plans.Taking.{has_task, empty_plan}
 use Rattle.cics_orders.specs.declared.plans.plans.TaskPlan.{TaskPlan}
 use Rattle.cics_orders.specs.declared.plans.plans.Plan.{Plan}
 
@@ -39,4 +39,4 @@ is_proper p = are_distinct p.tasks && list_all has_own_lines p.tasks && list_all
 
 -- a plan if it is proper, else one without a line
 abbrev pub proper : Plan → Plan
-proper p = if is_proper p then p else record { definitions = []; tasks = []; clock = [] }
+proper p = if is_proper p then p else empty_plan

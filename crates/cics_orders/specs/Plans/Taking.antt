@@ -25,6 +25,10 @@ use Rattle.cics_orders.specs.declared.plans.plans.ScriptFault.TheVariants as fau
 abbrev pub NumberedLine : Type 0
 NumberedLine = ℕ × Bytes
 
+-- a line of a task or of the clock: the task's index, and the line's number
+abbrev pub WrittenLine : Type 0
+WrittenLine = Option ℕ × ℕ
+
 -- the lines so far: what they define, whether all are definitions or blank, the plan, and the
 -- refused lines
 pub record Taken : Type 0 where
@@ -38,9 +42,13 @@ pub record Step : Type 0 where
   pub taken : Taken
   pub fault : Option ScriptFault
 
+-- a plan without a line
+abbrev pub empty_plan : Plan
+empty_plan = record { definitions = []; tasks = []; clock = []; written = [] }
+
 -- before the first line
 abbrev pub initial_taken : Taken
-initial_taken = record { opening = initial_opening; is_opening = true; plan = record { definitions = []; tasks = []; clock = [] }; refused = [] }
+initial_taken = record { opening = initial_opening; is_opening = true; plan = empty_plan; refused = [] }
 
 -- a line without a fault
 abbrev pub good : Taken → Step
@@ -70,9 +78,13 @@ defined t next definition =
 abbrev pub is_task : TaskPlan → Bytes → Bool
 is_task task label = is_same task.label label
 
+-- the index of the task of a label
+abbrev pub task_index : List TaskPlan → Bytes → Option ℕ
+task_index tasks label = first_index (λ task. is_task task label) tasks
+
 -- whether one of these tasks has a label
 abbrev pub has_task : List TaskPlan → Bytes → Bool
-has_task tasks label = is_some (first_index (λ task. is_task task label) tasks)
+has_task tasks label = is_some (task_index tasks label)
 
 -- a task with a line more
 abbrev pub with_line : TaskPlan → NumberedLine → TaskPlan
@@ -95,16 +107,20 @@ attached t task =
     then with_refused t task.attach.0 task.label DuplicateLabel
     else record t { is_opening = false; plan = record (t.plan) { tasks = t.plan.tasks ++ task ∷ [] } }
 
+-- a plan with a command more of the task of a label
+abbrev pub with_command : Plan → NumberedLine → Bytes → Plan
+with_command p next label = record p { tasks = line_added p.tasks label next; written = p.written ++ (task_index p.tasks label, next.0) ∷ [] }
+
 -- a command is a line of its task, if that is attached
 abbrev pub issued : Taken → NumberedLine → Bytes → Taken
 issued t next label =
     if has_task t.plan.tasks label
-    then record t { is_opening = false; plan = record (t.plan) { tasks = line_added t.plan.tasks label next } }
+    then record t { is_opening = false; plan = with_command t.plan next label }
     else with_refused t next.0 label NoTask
 
 -- a line of the clock
 abbrev pub timed : Taken → NumberedLine → Taken
-timed t next = record t { is_opening = false; plan = record (t.plan) { clock = t.plan.clock ++ next ∷ [] } }
+timed t next = record t { is_opening = false; plan = record (t.plan) { clock = t.plan.clock ++ next ∷ []; written = t.plan.written ++ (None, next.0) ∷ [] } }
 
 -- a line that was read
 abbrev pub followed : Taken → NumberedLine → Line → Step

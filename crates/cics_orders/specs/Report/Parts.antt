@@ -21,6 +21,10 @@ abbrev pub told_in : Parts → Parts
 told_in [] = []
 told_in (m ∷ parts) = parts
 
+-- the mark of the ending that the order as written leads to
+abbrev pub written_mark : Bool → Bytes
+written_mark is_written = if is_written then codes " AS WRITTEN" else []
+
 -- whether a part is among these
 abbrev pub is_in : Parts → Bytes → Bool
 is_in parts part = list_any (λ p. pointwise (λ x y. x == y) p part) parts

@@ -13,7 +13,7 @@ use Rattle.cics_run.specs.Stage.Journal.{event_line, fault_line}
 use Rattle.cics_run.specs.declared.stage.stage.Fault.{Fault}
 use Rattle.cics_run.specs.declared.stage.stage.Fault.TheVariants as faults
 use Rattle.cics_orders.specs.Space.Orders.{Order}
-use Rattle.cics_orders.specs.Space.Endings.{Parts, Reported, greatest, kept_number}
+use Rattle.cics_orders.specs.Space.Endings.{Parts, Reported, are_same, greatest, kept_number}
 use Rattle.cics_orders.specs.declared.search.exploring.Report.{Report}
 use Rattle.cics_orders.specs.Plans.Taking.{NumberedLine}
 use Rattle.cics_orders.specs.declared.plans.plans.Plan.{Plan}
@@ -24,7 +24,7 @@ use Rattle.cics_orders.specs.declared.plans.plans.ScriptFault.{ScriptFault}
 use Rattle.cics_orders.specs.declared.plans.plans.ScriptFault.TheVariants as fault
 use Rattle.cics_orders.specs.Report.Along.{lines_along}
 use Rattle.cics_orders.specs.Report.Open.{open_text}
-use Rattle.cics_orders.specs.Report.Parts.{mark_in, told_in, shared, own_text}
+use Rattle.cics_orders.specs.Report.Parts.{mark_in, written_mark, told_in, shared, own_text}
 
 -- ---- What a plain run prints too
 
@@ -96,9 +96,15 @@ word_text next = codes " " ++ word_of (line next.1)
 abbrev pub order_text : Plan → Order → List ℕ
 order_text p o = codes "ORDER" ++ (flat_map word_text (lines_along p o) ++ codes "\n")
 
--- how many orders lead to an ending, and its mark
+-- an ending has these parts
+abbrev pub has_parts : Reported → Option Parts → Bool
+has_parts e None = false
+has_parts e (Some parts) = are_same parts e.ending
+
+-- how many orders lead to an ending, and its marks
 abbrev pub heading_text : Report → Reported → List ℕ
-heading_text r e = codes " ORDERS " ++ (both_text r e.orders e.serial ++ (mark_in e.ending ++ codes "\n"))
+heading_text r e =
+    codes " ORDERS " ++ (both_text r e.orders e.serial ++ (mark_in e.ending ++ (written_mark (has_parts e r.written) ++ codes "\n")))
 
 -- the ending of a number
 abbrev pub numbered_text : Report → ℕ → Reported → List ℕ

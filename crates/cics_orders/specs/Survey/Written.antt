@@ -1,5 +1,5 @@
 -- What is written of the orders of a script.
-use Rattle.std.specs.Prelude.{◌≡◌, ℕ, ◌+◌, ◌≤◌, Bool, if◌then◌else◌, List, [], ◌++◌, length, Option, Some, None, Result, Ok, Err}
+use Rattle.std.specs.Prelude.{◌≡◌, ℕ, ◌+◌, ◌≤◌, Bool, true, false, ◌&&◌, if◌then◌else◌, List, [], ◌++◌, length, Option, Some, None, Result, Ok, Err}
 use Rattle.std.specs.Io.KnownBytes.{Appends, Consumes, IsAtEnd}
 use Rattle.cics_run.specs.Session.Lines.{all_lines}
 use Rattle.cics_run.specs.Session.Running.{most_bytes}
@@ -10,27 +10,31 @@ use Rattle.cics_run.specs.declared.session.running.RunFault.TheVariants as fault
 use Rattle.cics_orders.specs.Plans.Taking.{initial_taken, taken_apart, planned}
 use Rattle.cics_orders.specs.declared.plans.plans.Planned.{Planned}
 use Rattle.cics_orders.specs.declared.plans.plans.ScriptFault.{ScriptFault}
+use Rattle.cics_orders.specs.declared.search.exploring.Report.{Report}
+use Rattle.cics_orders.specs.Report.Amiss.{is_amiss}
 use Rattle.cics_orders.specs.Report.Reporting.{fault_text, report_text, script_at}
 use Rattle.cics_orders.specs.Survey.Surveys.{IsSurvey}
 use Rattle.cics_orders.specs.declared.survey.surveys.Survey.{Survey}
 use Rattle.cics_orders.specs.declared.survey.running.Surveyed.{Surveyed}
 use Rattle.cics_orders.specs.declared.survey.running.Surveyed.TheVariants as surveyed
 
--- how a script was told, by whether the ending is there
-abbrev pub status_of : Survey → Bool → Surveyed
-status_of s is_there = if is_there then surveyed.Done else surveyed.NoEnding (length s.report.endings)
+-- how a script was told that is there: strictly, that something is amiss, if it is. Else there are
+-- so many endings, and at least so many if orders were left out.
+abbrev pub status_of : Report → Bool → Bool → Surveyed
+status_of r is_strict false = surveyed.NoEnding (length r.endings) r.is_whole
+status_of r is_strict true = if is_strict && is_amiss r then surveyed.Amiss else surveyed.Done
 
 -- the script of an ending stands behind what was there, if there is one
-abbrev pub WritesEnding : Survey → Option (List ℕ) → List ℕ → List ℕ → Surveyed → Type 0
-WritesEnding s None before now status = (now ≡ before) × (status ≡ surveyed.NoEnding (length s.report.endings))
-WritesEnding s (Some text) before now status = (now ≡ before ++ text) × (status ≡ surveyed.Done)
+abbrev pub WritesEnding : Report → Bool → Option (List ℕ) → List ℕ → List ℕ → Surveyed → Type 0
+WritesEnding r is_strict None before now status = (now ≡ before) × (status ≡ status_of r is_strict false)
+WritesEnding r is_strict (Some text) before now status = (now ≡ before ++ text) × (status ≡ status_of r is_strict true)
 
 -- what is wanted of a survey stands behind what was there: the report, or the script of an ending
 abbrev pub Writes : Orders → Survey → List ℕ → List ℕ → Surveyed → Type 0
 Writes w s before now status = by w.ending where
   by : Option ℕ → Type 0
-  by None = (now ≡ before ++ report_text s.planned w.limit s.report) × (status ≡ surveyed.Done)
-  by (Some k) = WritesEnding s (script_at s.planned.plan s.report k) before now status
+  by None = (now ≡ before ++ report_text s.planned w.limit s.report) × (status ≡ status_of s.report w.strict true)
+  by (Some k) = WritesEnding s.report w.strict (script_at s.planned.plan s.report k) before now status
 
 -- a text is what is wanted of the orders of a script that was taken apart, or the line of its fault
 abbrev pub IsPrintedOf : Result Planned (ℕ × ScriptFault) → Orders → List ℕ → Surveyed → Type 0

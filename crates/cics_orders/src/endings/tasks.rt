@@ -1,7 +1,8 @@
 //! The lines of tasks.
 
 ghost use Rattle.std.specs.Prelude.{◌≡◌, ◌++◌, ◌-◌, OnOk, IfOk, length, slice_get};
-ghost use Rattle.cics_dispatch.specs.Machine.Blockers.{blocker_of, waiting_command};
+ghost use Rattle.std.specs.List.{flat_map};
+ghost use Rattle.cics_dispatch.specs.Machine.Blockers.{waiting_command};
 ghost use Rattle.cics_orders.specs.Endings.Telling.{end_text, blocker_text, number_text, stand_text};
 ghost use Rattle.cics_orders.specs.Endings.Telling.{state_text, task_text, told_text};
 
@@ -27,15 +28,23 @@ fn push_end(out: &mut Vec<u8>, told: &[Outcome]) -> Result<(), NoMemory>
     }
 }
 
-// Appends the task that blocks another one.
-fn push_blocker(out: &mut Vec<u8>, region: &Region, label: &Name8) -> Result<(), NoMemory>
-    ensures { OnOk result (out.new.items
-        ≡ out.old.items ++ blocker_text (blocker_of region.now.machine label.now)) }
+// Appends a task that blocks another one.
+fn push_blocker(out: &mut Vec<u8>, blocker: &Name8) -> Result<(), NoMemory>
+    ensures { OnOk result (out.new.items ≡ out.old.items ++ blocker_text blocker.now) }
 {
-    match region.blocker(label) {
-        Some(blocker) => push_bare(out, &blocker.bytes()),
-        None => Ok(()),
+    push_str(out, " ")?;
+    push_bare(out, &blocker.bytes())
+}
+
+// Appends the tasks that block another one.
+fn push_blockers(out: &mut Vec<u8>, blockers: &[Name8]) -> Result<(), NoMemory>
+    ensures { OnOk result (out.new.items
+        ≡ out.old.items ++ flat_map blocker_text blockers.now) }
+{
+    for blocker in blockers {
+        push_blocker(out, blocker)?;
     }
+    Ok(())
 }
 
 // Appends the number of the line that a lane gave last.
@@ -64,8 +73,8 @@ fn push_stand(
         let is_open = region.unit(label).is_some();
         return push_str(out, if is_open { " OPEN" } else { " IDLE" });
     }
-    push_str(out, " WAITING ")?;
-    push_blocker(out, region, label)?;
+    push_str(out, " WAITING")?;
+    push_blockers(out, region.blockers(label)?.as_slice())?;
     push_str(out, " LINE ")?;
     push_last_number(out, lane)
 }

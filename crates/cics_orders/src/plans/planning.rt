@@ -31,6 +31,7 @@ struct Planner {
     definitions: Items<(u64, Record)>,
     tasks: Vec<TaskPlan>,
     clock: Items<(u64, Record)>,
+    written: Items<(Option<usize>, u64)>,
     refused: Items<RefusedLine>,
 }
 
@@ -42,7 +43,12 @@ impl Model for Planner {
     ghost view = { λ p. record {
       opening = p.opening;
       is_opening = p.is_opening;
-      plan = record { definitions = p.definitions; tasks = p.tasks.items; clock = p.clock };
+      plan = record {
+        definitions = p.definitions;
+        tasks = p.tasks.items;
+        clock = p.clock;
+        written = p.written;
+      };
       refused = p.refused;
     } };
 }
@@ -81,6 +87,7 @@ impl Planner {
             definitions: Items::new(alloc),
             tasks: Vec::new(alloc),
             clock: Items::new(alloc),
+            written: Items::new(alloc),
             refused: Items::new(alloc),
         }
     }
@@ -106,6 +113,7 @@ impl Planner {
                 definitions: self.definitions,
                 tasks: Items::from_vec(self.tasks),
                 clock: self.clock,
+                written: self.written,
             },
             refused: self.refused,
         }
@@ -117,11 +125,7 @@ impl Planner {
     {
         match line {
             Line::Blank => Ok(None),
-            Line::Attach {
-                label,
-                transaction,
-                dtimout,
-            } => {
+            Line::Attach(label, transaction, dtimout) => {
                 self.attach(TaskPlan {
                     label,
                     transaction,
@@ -188,10 +192,12 @@ impl Planner {
     fn issue(&mut self, next: (u64, Record), label: Name8) -> Result<(), NoMemory>
         ensures { OnOk result (self.new ≡ issued self.old next label) }
     {
-        if index_of(&self.tasks, &label).is_none() {
+        let at = index_of(&self.tasks, &label);
+        if at.is_none() {
             return self.refuse(next.0, label, Refused::NoTask);
         }
         self.is_opening = false;
+        self.written.push((at, next.0))?;
         add_line(&mut self.tasks, &label, next)
     }
 
@@ -200,6 +206,7 @@ impl Planner {
         ensures { OnOk result (self.new ≡ timed self.old next) }
     {
         self.is_opening = false;
+        self.written.push((None, next.0))?;
         self.clock.push(next)
     }
 }

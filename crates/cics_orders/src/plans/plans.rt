@@ -40,6 +40,9 @@ pub struct Plan {
     pub tasks: Items<TaskPlan>,
     /// The clock's lines: those that set it, and those that shut the region down.
     pub clock: Items<(u64, Record)>,
+    /// The numbers of all these lines in the script's order, each behind its task's index; the
+    /// clock's lines have none.
+    pub written: Items<(Option<usize>, u64)>,
 }
 
 /// A line that is refused in every order: the second ATTACH of a label, or a command of a label

@@ -4,12 +4,13 @@ ghost use Rattle.std.specs.Prelude.{◌≡◌, ◌++◌, OnOk};
 ghost use Rattle.std.specs.Fmt.{decimal};
 ghost use Rattle.cics_orders.specs.Report.Reporting.{bound_text, count_text, both_text, heading_text};
 ghost use Rattle.cics_orders.specs.Report.Reporting.{all_orders, serial_orders, serial_endings};
-ghost use Rattle.cics_orders.specs.Report.Reporting.{limit_text, totals_text};
+ghost use Rattle.cics_orders.specs.Report.Reporting.{limit_text, totals_text, has_parts};
+ghost use Rattle.cics_orders.specs.Report.Parts.{written_mark};
 
 use crate::report::parts::mark_in;
 use crate::search::Report;
 use crate::space::Ending;
-use cics_names::NoMemory;
+use cics_names::{Items, NoMemory, Record};
 use cics_script::spelling::{push_number, push_str};
 
 // Returns the words before a number. It is a lower bound if orders were left out, and so is the
@@ -51,7 +52,24 @@ fn push_both(out: &mut Vec<u8>, report: &Report, all: u128, serial: u128) -> Res
     push_count(out, report.has_all_serial, serial)
 }
 
-/// Appends how many orders lead to an ending, and its mark.
+// Returns whether an ending has these parts.
+fn has_parts(ending: &Ending, parts: &Option<Items<Record>>) -> bool
+    ensures { result ≡ has_parts ending.now parts.now }
+{
+    match parts {
+        Some(parts) => parts.as_slice() == ending.parts(),
+        None => false,
+    }
+}
+
+// Returns the mark of the ending that the order as written leads to.
+fn written_mark(is_written: bool) -> &'static str
+    ensures { result.now ≡ written_mark is_written }
+{
+    if is_written { " AS WRITTEN" } else { "" }
+}
+
+/// Appends how many orders lead to an ending, and its marks.
 pub(crate) fn push_heading(
     out: &mut Vec<u8>,
     report: &Report,
@@ -62,6 +80,7 @@ pub(crate) fn push_heading(
     push_str(out, " ORDERS ")?;
     push_both(out, report, ending.orders(), ending.serial())?;
     out.extend_from_slice(mark_in(ending.parts()))?;
+    push_str(out, written_mark(has_parts(ending, &report.written)))?;
     push_str(out, "\n")
 }
 

@@ -5,7 +5,7 @@
 //! order, unless it is known where each of its lanes leads (`ahead`).
 
 ghost use Rattle.std.specs.Prelude.{◌≡◌, ◌≤◌, ◌<◌, ◌+◌, ◌++◌, ◌∷◌, [], map, ℕ};
-ghost use Rattle.std.specs.Prelude.{true, false, List, IfOk, OnOk};
+ghost use Rattle.std.specs.Prelude.{true, false, List, IfOk, OnOk, option_map};
 ghost use Rattle.std.specs.Str.{bytes_eq};
 ghost use Rattle.cics_orders.specs.Space.Endings.{are_same};
 ghost use Rattle.cics_orders.specs.Space.Groups.{added, added_all};
@@ -20,16 +20,18 @@ ghost use Rattle.cics_orders.specs.Plans.Proper.{is_proper};
 ghost use Rattle.cics_orders.specs.Giving.{lanes, initial_state, initial_of, line_count};
 ghost use Rattle.cics_orders.specs.Stamps.{state_stamp};
 ghost use Rattle.cics_orders.specs.Turns.{breaks};
+ghost use Rattle.cics_orders.specs.AsWritten.{as_written};
 ghost use Rattle.cics_orders.specs.Endings.Telling.{parts_at};
 
 use crate::plans::Plan;
 use crate::search::ahead::{Known, lead_on};
 use crate::search::progress::{Progress, Stand};
 use crate::space::{
-    Ending, Led, Met, Parts, Reached, Scope, Stamp, Tally, add, endings_of, go_to, look, with_lane,
+    Ending, Led, Met, Parts, Reached, Scope, Stamp, Tally, add, endings_of, go_as_written, go_to,
+    look, with_lane,
 };
 use crate::walks::Walker;
-use cics_names::{Items, NoMemory};
+use cics_names::{Items, NoMemory, Record};
 use indexmap::IndexMap;
 use std::alloc::Global;
 
@@ -43,6 +45,8 @@ pub struct Report {
     pub is_whole: bool,
     /// Whether all serial orders were followed.
     pub has_all_serial: bool,
+    /// The parts of the ending that the order as written leads to, if there is one.
+    pub written: Option<Items<Record>>,
 }
 
 // A level: the orders that lead to each of its states, by the stamps of these.
@@ -329,6 +333,18 @@ impl Search {
     }
 }
 
+// Returns the parts of the ending that the order as written leads to, if there is one.
+fn parts_as_written(walk: &mut Walker, told: bool) -> Result<Option<Items<Record>>, NoMemory>
+    ensures { IfOk result (λ parts. parts
+        ≡ option_map (parts_at told) (as_written (initial_of walk.old))) }
+{
+    if go_as_written(walk)? {
+        Ok(Some(walk.parts(told)?))
+    } else {
+        Ok(None)
+    }
+}
+
 // Follows the orders from the initial state of a walker. `wanted` says whether endings have all that
 // tasks were told, and how many states are followed.
 fn explore<P: Progress>(
@@ -345,6 +361,8 @@ fn explore<P: Progress>(
     ensures serial_within { IfOk result (λ report. state_count lanes breaks (state_stamp wanted.0)
         true (initial_of walk.old) (line_count (initial_of walk.old).plan) ≤ wanted.1 →
         report.has_all_serial ≡ true) }
+    ensures written { IfOk result (λ report. report.written
+        ≡ option_map (parts_at wanted.0) (as_written (initial_of walk.old))) }
 {
     let (told, limit) = wanted;
     walk.restart()?;
@@ -366,6 +384,7 @@ fn explore<P: Progress>(
         endings: endings_of(alloc, met)?,
         is_whole,
         has_all_serial,
+        written: parts_as_written(walk, told)?,
     })
 }
 
@@ -411,6 +430,8 @@ pub fn explore_script<P: Progress>(
     ensures serial_within { IfOk result (λ report. state_count lanes breaks (state_stamp told.told)
         true (initial_state told.plan) (line_count told.plan) ≤ limit →
         report.has_all_serial ≡ true) }
+    ensures written { IfOk result (λ report. report.written
+        ≡ option_map (parts_at told.told) (as_written (initial_state told.plan))) }
 {
     let with_told = told.told;
     let mut walk = Walker::new(alloc, told.plan)?;

@@ -1,7 +1,6 @@
 //! Gathers the endings that orders lead to, each once.
 
 ghost use Rattle.std.specs.Prelude.{◌≡◌, if◌then◌else◌, map, IfOk};
-ghost use Rattle.cics_orders.specs.Space.Endings.{are_same};
 ghost use Rattle.cics_orders.specs.Space.Tallies.{tally_joined, ending_of};
 
 use crate::space::groups::Join;
@@ -112,7 +111,7 @@ impl PartialEq for Parts {
     ghost laws = { Prim.search (comparing, rules) };
 
     fn eq(&self, other: &Parts) -> bool {
-        are_same(self.parts.as_slice(), other.parts.as_slice())
+        self.parts.as_slice() == other.parts.as_slice()
     }
 }
 
@@ -135,21 +134,6 @@ impl Hash for Parts {
             state.write(part.bytes());
         }
     }
-}
-
-// Returns whether two endings have the same parts.
-fn are_same(parts: &[Record], others: &[Record]) -> bool
-    ensures { result ≡ are_same parts.now others.now }
-{
-    if parts.len() != others.len() {
-        return false;
-    }
-    for i in 0..parts.len() {
-        if parts[i].bytes() != others[i].bytes() {
-            return false;
-        }
-    }
-    true
 }
 
 /// The orders that lead to an ending: the first, how many were followed, and how many serial ones,

@@ -2,10 +2,12 @@
 //!
 //! No state is kept. It is made again from the initial one, by the first order that leads to it.
 
-ghost use Rattle.std.specs.Prelude.{◌≡◌, ◌&&◌, [], ◌∷◌, ◌++◌, if◌then◌else◌, List, IfOk, OnOk};
+ghost use Rattle.std.specs.Prelude.{◌≡◌, ◌&&◌, [], ◌∷◌, ◌++◌, if◌then◌else◌, List, None, Some};
+ghost use Rattle.std.specs.Prelude.{IfOk, OnOk};
 ghost use Rattle.cics_orders.specs.Space.Orders.{after};
 ghost use Rattle.cics_orders.specs.Space.States.{led_joined, lanes_of, reached};
 ghost use Rattle.cics_orders.specs.Giving.{lanes, initial_of};
+ghost use Rattle.cics_orders.specs.AsWritten.{as_written};
 ghost use Rattle.cics_orders.specs.Stamps.{state_stamp};
 ghost use Rattle.cics_orders.specs.Turns.{breaks};
 
@@ -185,6 +187,27 @@ pub fn go_to(walk: &mut Walker, order: &[usize]) -> Result<(), NoMemory>
         walk.give(order[i])?;
     }
     Ok(())
+}
+
+/// Goes to the state after the order as written: the lines of the script, but for those that its
+/// plain run refuses. Returns whether there is such an order.
+///
+/// There is none if a line is refused because its task waits, and the task gives a later line, or
+/// may give one at the end.
+///
+/// Errors: `NoMemory`. Cost: a restart, and that of the lines.
+pub fn go_as_written(walk: &mut Walker) -> Result<bool, NoMemory>
+    ensures { IfOk result (λ is_there. as_written (initial_of walk.old)
+        ≡ (if is_there then Some walk.new else None)) }
+{
+    walk.restart()?;
+    for i in 0..walk.written().len() {
+        let line = walk.written()[i];
+        if !walk.follow(line)? {
+            return Ok(false);
+        }
+    }
+    Ok(walk.first_giver().is_none())
 }
 
 // Adds a lane that may give to those that are followed, unless `is_serial` and it breaks a turn.

@@ -5,8 +5,8 @@ ghost use Rattle.cics_run.specs.Session.Running.{most_reads, read_failures, writ
 ghost use Rattle.cics_run.specs.Session.Streams.{Rises, RisesAtMost, failures};
 ghost use Rattle.cics_orders.specs.Survey.Written.{status_of, Writes, IsPrinted, Surveys};
 
-use crate::report::{push_fault, push_report, push_script};
-use crate::search::Progress;
+use crate::report::{is_amiss, push_fault, push_report, push_script};
+use crate::search::{Progress, Report};
 use crate::survey::surveys::{Survey, survey_script};
 use cics_names::NoMemory;
 use cics_run::session::{Orders, RunFault, Sink, Source, write_all};
@@ -18,20 +18,29 @@ use std::alloc::Global;
 pub enum Surveyed {
     /// The report is written, or the order that is wanted.
     Done,
+    /// That is written. `strict` is wanted, and the report is amiss (`is_amiss`).
+    Amiss,
     /// The line with the script's first fault is written.
     LineFault,
-    /// No ending has the number that is wanted: there are so many. Nothing is written.
-    NoEnding(u64),
+    /// No ending has the number that is wanted. There are so many, or at least so many if orders
+    /// were left out. Nothing is written.
+    NoEnding { count: u64, has_all: bool },
 }
 
-// Returns how a script was told, by whether the ending is there.
-fn status_of(survey: &Survey, is_there: bool) -> Surveyed
-    ensures { result ≡ status_of survey.now is_there }
+// Returns the answer on a report. `is_there`: whether the wanted ending exists.
+fn status_of(report: &Report, is_strict: bool, is_there: bool) -> Surveyed
+    ensures { result ≡ status_of report.now is_strict is_there }
 {
-    if is_there {
-        Surveyed::Done
+    if !is_there {
+        return Surveyed::NoEnding {
+            count: report.endings.len() as u64,
+            has_all: report.is_whole,
+        };
+    }
+    if is_strict && is_amiss(report) {
+        Surveyed::Amiss
     } else {
-        Surveyed::NoEnding(survey.report.endings.len() as u64)
+        Surveyed::Done
     }
 }
 
@@ -41,10 +50,10 @@ fn push_survey(out: &mut Vec<u8>, survey: &Survey, wanted: Orders) -> Result<Sur
 {
     let Some(number) = wanted.ending else {
         push_report(out, &survey.planned, wanted.limit, &survey.report)?;
-        return Ok(Surveyed::Done);
+        return Ok(status_of(&survey.report, wanted.strict, true));
     };
     let is_there = push_script(out, &survey.planned.plan, &survey.report, number)?;
-    Ok(status_of(survey, is_there))
+    Ok(status_of(&survey.report, wanted.strict, is_there))
 }
 
 // Appends to a text what is wanted of a script's orders.

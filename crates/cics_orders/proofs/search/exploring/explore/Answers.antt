@@ -1,4 +1,4 @@
-use Rattle.std.proofs.Common.{◌≡◌, ◌∙◌, ◌≤◌, ap, subst, map, true, false, [], Bool, List, ℕ}
+use Rattle.std.proofs.Common.{◌≡◌, ◌∙◌, ◌≤◌, ap, subst, map, option_map, true, false, [], Bool, List, ℕ}
 use Rattle.cics_orders.specs.Space.Endings.{are_same}
 use Rattle.cics_orders.specs.Space.Groups.{added_all}
 use Rattle.cics_orders.specs.Search.Levels.{tallied, IsLevel, state_count}
@@ -9,6 +9,7 @@ use Rattle.cics_orders.proofs.OfSearch.Reporting.{searched}
 use Rattle.cics_orders.specs.Giving.{State, lanes, initial_of, line_count}
 use Rattle.cics_orders.specs.Stamps.{state_stamp}
 use Rattle.cics_orders.specs.Turns.{breaks}
+use Rattle.cics_orders.specs.AsWritten.{as_written}
 use Rattle.cics_orders.specs.Endings.Telling.{parts_at}
 use Rattle.cics_orders.proofs.StampLaws.{stamps_tell, initial_initial}
 use Rattle.cics_orders.proofs.search.exploring.explore.Goals as goal
@@ -38,7 +39,7 @@ returns-clause-report g c =
     let both : c.count_orders-2.new.met.entries ≡ added_all are_same tally_joined (added_all are_same tally_joined [] (map (tallied lanes (parts_at told) false s) all.0)) (map (tallied lanes (parts_at told) true s) serial.0)
     = serial.2 ∙ ap (λ es. added_all are_same tally_joined es (map (tallied lanes (parts_at told) true s) serial.0)) first in
     searched lanes breaks stamp (parts_at told) s (stamps_tell told t) (line_count s.plan) c.in_ok-is_whole.is_whole c.in_ok-has_all_serial.has_all_serial all.0 serial.0
-    c.in_ok-endings_of.field-0
+    c.in_ok-endings_of.field-0 c.in_ok-parts_as_written.field-0
     (subst (λ (n : ℕ). IsLevel lanes breaks stamp false s n c.in_ok-is_whole.is_whole all.0) most all.1)
     (subst (λ (n : ℕ). IsLevel lanes breaks stamp true s n c.in_ok-has_all_serial.has_all_serial serial.0) most serial.1) (c.in_ok-endings_of.ensures ∙ ap (map ending_of) both)
 
@@ -62,3 +63,12 @@ returns-clause-serial_within g c =
     let within : (state_count lanes breaks (state_stamp c.new-serial.result.scope.told) c.new-serial.result.scope.is_serial (initial_of c.count_orders.new.walk) lines ≤ c.new-serial.result.limit) ≡ (state_count lanes breaks (state_stamp c.args.wanted.0) true s (line_count s.plan) ≤ c.args.wanted.1)
     = λ i. state_count lanes breaks (state_stamp (c.new-serial.ensures.scope i).told) (c.new-serial.ensures.scope i).is_serial (initial i) (most i) ≤ c.new-serial.ensures.limit i in
     subst (λ (A : Type 0). A → c.in_ok-has_all_serial.has_all_serial ≡ true) within c.in_ok-has_all_serial.ensures.within
+
+-- the order as written is that of the same initial state
+pub returns-clause-written : goal.returns-clause-written
+returns-clause-written g c =
+    let told : Bool = c.args.wanted.0 in
+    let begun : initial_of c.restart.new.self ≡ initial_of c.args.walk.now = ap initial_of c.in_ok-restart.ensures ∙ initial_initial c.args.walk.now in
+    let initial : initial_of c.count_orders-2.new.walk ≡ initial_of c.args.walk.now
+    = c.in_ok-has_all_serial.ensures.initial ∙ c.in_ok-is_whole.ensures.initial ∙ begun in
+    c.in_ok-parts_as_written.ensures ∙ ap (λ s. option_map (parts_at told) (as_written s)) initial
