@@ -29,9 +29,8 @@ use Rattle.cics_dispatch.specs.declared.machine.outcomes.Outcome.{Outcome}
 use Rattle.cics_dispatch.specs.declared.machine.outcomes.Outcome.TheVariants.{Replied, Waiting, Abended, Ended}
 use Rattle.cics_dispatch.specs.declared.machine.outcomes.Refused.{Refused}
 use Rattle.cics_dispatch.specs.declared.machine.outcomes.Refused.TheVariants.{NoTask, RegionDown}
-use Rattle.cics_dispatch.specs.declared.machine.events.Event.TheVariants as event
 use Rattle.cics_dispatch.specs.declared.machine.events.Subject.TheVariants as subject
-use Rattle.cics_dispatch.specs.Machine.Events.{Happened, happened, drained}
+use Rattle.cics_dispatch.specs.Machine.Events.{Happened, happened, issued_event, drained}
 use Rattle.cics_dispatch.proofs.OfMachine.TaskPlaces.{place_of_task}
 use Rattle.cics_dispatch.proofs.OfMachine.Remembered.{not_refused}
 use Rattle.cics_run.specs.Stage.Stages.{step, followed, region_of}
@@ -165,12 +164,12 @@ module _ (rows : List Row) (number : ℕ) (stage : Stage) (line : List ℕ) (w :
   behind = (commanded stage w.label w.command).machine
 
   abbrev wait : Happened
-  wait = record { event = event.Issued w.label (Waiting w.holder); machine = behind }
+  wait = record { event = issued_event (region_of stage).machine w.label w.command (Waiting w.holder); machine = behind }
 
   events : (step stage line).events ≡ wait ∷ (drained behind).turns
   events =
       ap (λ r. (followed stage r).events) w.read
-      ∙ ap (λ o. let first = happened (region_of stage).machine (subject.Task w.label) (event.Issued w.label) o behind in first ∷ (drained first.machine).turns) w.waits
+      ∙ ap (λ o. let first = happened (region_of stage).machine (subject.Task w.label) (issued_event (region_of stage).machine w.label w.command) o behind in first ∷ (drained first.machine).turns) w.waits
 
   no-fault : (step stage line).fault ≡ None
   no-fault = ap (λ r. (followed stage r).fault) w.read

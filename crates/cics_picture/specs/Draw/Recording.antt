@@ -36,7 +36,7 @@ woken_kind other = other
 -- the kind of an event
 abbrev pub kind_of : Event → Kind
 kind_of (event.Attached label transaction) = kind.Attached
-kind_of (event.Issued label outcome) = outcome_kind outcome
+kind_of (event.Issued label outcome reason) = outcome_kind outcome
 kind_of (event.Woken w) = woken_kind (outcome_kind w.outcome)
 kind_of (event.Expired e) = kind.Abended
 kind_of (event.ClockSet now) = kind.Clock
@@ -52,7 +52,7 @@ refused_task subject.Shutdown = None
 -- the task of an event, if it is one of a task
 abbrev pub task_of : Event → Option Bytes
 task_of (event.Attached label transaction) = Some label
-task_of (event.Issued label outcome) = Some label
+task_of (event.Issued label outcome reason) = Some label
 task_of (event.Woken w) = Some w.label
 task_of (event.Expired e) = Some e.label
 task_of (event.ClockSet now) = None
@@ -61,7 +61,7 @@ task_of (event.Refused who refusal) = refused_task who
 
 -- the task that an event names as the blocker
 abbrev pub blocker_in : Event → Option Bytes
-blocker_in (event.Issued label (Waiting holder)) = Some holder
+blocker_in (event.Issued label (Waiting holder) reason) = Some holder
 blocker_in other = None
 
 -- what the row of an event tells
@@ -80,7 +80,7 @@ gives_data other = false
 
 -- what a command was given as it was issued, if that is data
 abbrev pub given_by : Event → Option Given
-given_by (event.Issued label (Replied reply)) = if gives_data reply.condition then Some (record { key = reply.key }) else None
+given_by (event.Issued label (Replied reply) reason) = if gives_data reply.condition then Some (record { key = reply.key }) else None
 given_by other = None
 
 -- the later of two, if there is one

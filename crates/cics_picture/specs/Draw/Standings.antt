@@ -1,8 +1,8 @@
 -- How the tasks with lanes stand: the unit of each, whether it is in a deadlock, and whether it
 -- made a change that stays.
-use Rattle.std.specs.Prelude.{◌≡◌, ℕ, Bool, true, false, not, ◌&&◌, ◌==◌, zero, suc, nat_lt, if◌then◌else◌, Option, Some, None, length, map, drop, List, [], ◌∷◌, ◌++◌}
+use Rattle.std.specs.Prelude.{ℕ, Bool, true, false, not, ◌&&◌, ◌==◌, zero, suc, nat_lt, if◌then◌else◌, Option, Some, None, unwrap_or, slice_get, length, map, drop, List, [], ◌∷◌, ◌++◌}
 use Rattle.std.specs.List.{list_any}
-use Rattle.cics_names.specs.Keyed.{Bytes, is_key_in}
+use Rattle.cics_names.specs.Keyed.{Bytes}
 use Rattle.cics_history.specs.State.{OpeningState}
 use Rattle.cics_history.specs.Store.{is_normal, is_recoverable}
 use Rattle.cics_history.specs.declared.ops.Op.{Op}
@@ -12,7 +12,8 @@ use Rattle.cics_history.specs.declared.ops.UnitState.{UnitState}
 use Rattle.cics_history.specs.declared.ops.UnitState.TheVariants.{Open, Committed, BackedOut}
 use Rattle.cics_dispatch.specs.Machine.Machine.{Machine}
 use Rattle.cics_dispatch.specs.Machine.Blockers.{label_at, unit_of}
-use Rattle.cics_dispatch.specs.Deadlocks.Deadlocks.{deadlocks, IsDeadlock}
+use Rattle.cics_dispatch.specs.Deadlocks.Circles.{Leads}
+use Rattle.cics_dispatch.specs.Deadlocks.Deadlocks.{blockers_at, in_deadlock}
 use Rattle.cics_picture.specs.declared.bars.Standing.{Standing}
 use Rattle.cics_picture.specs.declared.bars.Look.{Look}
 use Rattle.cics_picture.specs.declared.bars.Look.TheVariants.{Open as LooksOpen, Filled, Hollow}
@@ -21,22 +22,23 @@ use Rattle.cics_picture.specs.Bars.{nobody}
 use Rattle.cics_run.specs.declared.stage.stage.Stage.{Stage}
 use Rattle.cics_run.specs.declared.stage.stage.Stage.TheVariants.{Opening, Running}
 
--- the deadlocks that are shown: none if there are more tasks than have lanes
-unfoldable pub shown_deadlocks : Machine → List (List Bytes)
-shown_deadlocks m = if nat_lt most_lanes (length m.tasks) then [] else deadlocks m
+-- of each task, by its number, whether it is in a deadlock; nothing if there are more tasks than have
+-- lanes
+unfoldable pub shown_deadlocks : Machine → List Bool
+shown_deadlocks m = if nat_lt most_lanes (length m.tasks) then [] else in_deadlock m
 
--- the task of a label is one of a deadlock
-abbrev pub IsInDeadlock : Machine → Bytes → Type 0
-IsInDeadlock m label = (labels : List Bytes) × IsDeadlock m labels × (is_key_in label labels ≡ true)
+-- the task of a number is in a deadlock: it waits for itself, through others
+abbrev pub IsInDeadlock : Machine → ℕ → Type 0
+IsInDeadlock m number = Leads (blockers_at m) number number
 
 -- how the task of a label stands, if there is one
-abbrev pub standing_of : Machine → List (List Bytes) → Option Bytes → Standing
-standing_of m found None = nobody
-standing_of m found (Some label) = record { unit = unit_of m label; is_deadlocked = list_any (is_key_in label) found; stays = false; shows = None }
+abbrev pub standing_of : Machine → Bool → Option Bytes → Standing
+standing_of m deadlocked None = nobody
+standing_of m deadlocked (Some label) = record { unit = unit_of m label; is_deadlocked = deadlocked; stays = false; shows = None }
 
 -- how the task of a number stands
-abbrev pub standing_at : Machine → List (List Bytes) → ℕ → Standing
-standing_at m found number = standing_of m found (label_at m.tasks number)
+abbrev pub standing_at : Machine → List Bool → ℕ → Standing
+standing_at m flags number = standing_of m (unwrap_or (slice_get flags number) false) (label_at m.tasks number)
 
 -- whether a command changes something: each one but READ UPDATE. DELETEQ TD counts even if the
 -- queue is empty
@@ -54,14 +56,14 @@ any_stays before m None = false
 any_stays before m (Some unit) = list_any (stays m.units.opening unit) (drop before m.units.trace)
 
 -- how the task of a number stands after a line, before which the history had so many entries
-abbrev pub marked_at : ℕ → Machine → List (List Bytes) → ℕ → Standing
-marked_at before m found number =
-    let s = standing_at m found number in record { unit = s.unit; is_deadlocked = s.is_deadlocked; stays = any_stays before m s.unit; shows = None }
+abbrev pub marked_at : ℕ → Machine → List Bool → ℕ → Standing
+marked_at before m flags number =
+    let s = standing_at m flags number in record { unit = s.unit; is_deadlocked = s.is_deadlocked; stays = any_stays before m s.unit; shows = None }
 
 -- how the tasks below a number stand
-abbrev pub standings_below : ℕ → Machine → List (List Bytes) → ℕ → List Standing
-standings_below before m found zero = []
-standings_below before m found (suc n) = standings_below before m found n ++ marked_at before m found n ∷ []
+abbrev pub standings_below : ℕ → Machine → List Bool → ℕ → List Standing
+standings_below before m flags zero = []
+standings_below before m flags (suc n) = standings_below before m flags n ++ marked_at before m flags n ∷ []
 
 -- how the tasks that have lanes stand
 unfoldable pub standings_of : ℕ → Machine → List Standing

@@ -60,7 +60,7 @@ fn kind_of(event: &Event) -> Kind
 {
     match event {
         Event::Attached(_, _) => Kind::Attached,
-        Event::Issued(_, outcome) => outcome_kind(outcome),
+        Event::Issued(_, outcome, _) => outcome_kind(outcome),
         Event::Woken(woken) => woken_kind(outcome_kind(&woken.outcome)),
         Event::Expired(_) => Kind::Abended,
         Event::ClockSet(_) => Kind::Clock,
@@ -83,7 +83,7 @@ fn task_of(event: &Event) -> Option<Name8>
     ensures { result ≡ task_of event.now }
 {
     match event {
-        Event::Attached(label, _) | Event::Issued(label, _) => Some(*label),
+        Event::Attached(label, _) | Event::Issued(label, _, _) => Some(*label),
         Event::Woken(woken) => Some(woken.label),
         Event::Expired(expired) => Some(expired.label),
         Event::Refused(subject, _) => refused_task(*subject),
@@ -96,7 +96,7 @@ fn blocker_in(event: &Event) -> Option<Name8>
     ensures { result ≡ blocker_in event.now }
 {
     match event {
-        Event::Issued(_, Outcome::Waiting(holder)) => Some(*holder),
+        Event::Issued(_, Outcome::Waiting(holder), _) => Some(*holder),
         _ => None,
     }
 }
@@ -166,7 +166,7 @@ fn given_by(event: &Event) -> Result<Option<Given>, NoMemory>
     ensures { IfOk result (λ given. given ≡ given_by event.now) }
 {
     match event {
-        Event::Issued(_, Outcome::Replied(reply)) if gives_data(reply.condition) => {
+        Event::Issued(_, Outcome::Replied(reply), _) if gives_data(reply.condition) => {
             Ok(Some(Given {
                 key: copy_of(&reply.key)?,
             }))

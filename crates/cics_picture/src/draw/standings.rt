@@ -2,7 +2,7 @@
 
 ghost use Rattle.std.specs.Prelude.{◌≡◌, ◌↔◌, ◌≤◌, ℕ, true, Some, length, IfOk};
 ghost use Rattle.std.specs.List.{list_any};
-ghost use Rattle.cics_names.specs.Keyed.{Bytes, is_key_in};
+ghost use Rattle.cics_names.specs.Keyed.{Bytes};
 ghost use Rattle.cics_dispatch.specs.Machine.Machine.{Machine};
 ghost use Rattle.cics_dispatch.specs.Machine.Blockers.{label_at, unit_of};
 ghost use Rattle.cics_history.specs.Borrowed.{as_op};
@@ -12,58 +12,34 @@ ghost use Rattle.cics_picture.specs.Draw.Standings.{is_change, stays, any_stays,
 ghost use Rattle.cics_picture.specs.Draw.Standings.{standings_at, outcomes_at, look_of, looks_at};
 ghost use Rattle.cics_picture.specs.Draw.Standings.{IsInDeadlock};
 
-use crate::lanes::is_same;
 use crate::{Look, MOST_LANES, NOBODY, Standing};
 use cics_dispatch::Region;
-use cics_dispatch::deadlocks::deadlocks;
+use cics_dispatch::deadlocks::in_deadlock;
 use cics_history::{Entry, OpRef, UnitState};
 use cics_names::{Condition, Items, Name8, NoMemory};
 use cics_run::stage::Stage;
 use cics_units::Opening;
 use std::alloc::Global;
 
-/// If each task has a lane, `is_deadlocked` of a task is true exactly if it is in a deadlock. The
-/// tasks of a deadlock wait in a circle, each for the task that blocks it.
+/// If each task has a lane, `is_deadlocked` of a task is true exactly if it is in a deadlock: it
+/// waits for itself, through others.
 pub fn deadlocks_are_marked()
     ensures { (m : Machine) (number : ℕ) (label : Bytes) → length m.tasks ≤ most_lanes
         → label_at m.tasks number ≡ Some label
         → ((standing_at m (shown_deadlocks m) number).is_deadlocked ≡ true)
-        ↔ IsInDeadlock m label }
+        ↔ IsInDeadlock m number }
 {}
 
-fn has_label(labels: &[Name8], label: &Name8) -> bool
-    ensures { result ≡ is_key_in label.now labels.now }
-{
-    for own in labels {
-        if is_same(label, own) {
-            return true;
-        }
-    }
-    false
-}
-
-// Whether one of these deadlocks has the task of a label.
-fn is_in_one(deadlocks: &[Items<Name8>], label: &Name8) -> bool
-    ensures { result ≡ list_any (is_key_in label.now) deadlocks.now }
-{
-    for labels in deadlocks {
-        if has_label(labels.as_slice(), label) {
-            return true;
-        }
-    }
-    false
-}
-
-// The deadlocks of a region, if each of its tasks has a lane. To look for them among many tasks
-// after each line would take long.
+// Returns for each task of a region, by its number, whether it is in a deadlock. Returns nothing if
+// a task has no lane: to look at many tasks after each line would take long.
 #[tactic(auto, unfolding(crate::specs::Draw::Standings::shown_deadlocks))]
-fn shown_deadlocks(alloc: Global, region: &Region) -> Result<Items<Items<Name8>>, NoMemory>
-    ensures { IfOk result (λ found. found ≡ shown_deadlocks region.now.machine) }
+fn shown_deadlocks(alloc: Global, region: &Region) -> Result<Items<bool>, NoMemory>
+    ensures { IfOk result (λ flags. flags ≡ shown_deadlocks region.now.machine) }
 {
     if region.task_count() > MOST_LANES {
         return Ok(Items::new(alloc));
     }
-    deadlocks(alloc, region)
+    in_deadlock(alloc, region)
 }
 
 /// Returns the number of the open unit of a label's task, if it has one.
@@ -77,13 +53,13 @@ pub fn unit_of(region: &Region, label: &Name8) -> Option<u64>
 }
 
 // How the task of a number stands.
-fn standing_at(region: &Region, deadlocks: &[Items<Name8>], number: usize) -> Standing
-    ensures { result ≡ standing_at region.now.machine deadlocks.now number }
+fn standing_at(region: &Region, flags: &[bool], number: usize) -> Standing
+    ensures { result ≡ standing_at region.now.machine flags.now number }
 {
     match region.label_at(number) {
         Some(label) => Standing {
             unit: unit_of(region, &label),
-            is_deadlocked: is_in_one(deadlocks, &label),
+            is_deadlocked: flags.get(number).copied().unwrap_or(false),
             stays: false,
             shows: None,
         },
@@ -140,10 +116,10 @@ fn any_stays(region: &Region, before: usize, unit: Option<u64>) -> bool
 
 // Returns how the task of a number stands after a line, before which the history had `before`
 // entries.
-fn marked_at(region: &Region, deadlocks: &[Items<Name8>], before: usize, number: usize) -> Standing
-    ensures { result ≡ marked_at before region.now.machine deadlocks.now number }
+fn marked_at(region: &Region, flags: &[bool], before: usize, number: usize) -> Standing
+    ensures { result ≡ marked_at before region.now.machine flags.now number }
 {
-    let standing = standing_at(region, deadlocks, number);
+    let standing = standing_at(region, flags, number);
     Standing {
         unit: standing.unit,
         is_deadlocked: standing.is_deadlocked,
@@ -158,10 +134,10 @@ fn standings_of(alloc: Global, before: usize, region: &Region) -> Result<Items<S
     ensures value { IfOk result (λ standings. standings ≡ standings_of before region.now.machine) }
     ensures few { IfOk result (λ standings. length standings ≤ most_lanes) }
 {
-    let deadlocks = shown_deadlocks(alloc, region)?;
+    let flags = shown_deadlocks(alloc, region)?;
     let mut standings = Items::new(alloc);
     for number in 0..MOST_LANES {
-        standings.push(marked_at(region, deadlocks.as_slice(), before, number))?;
+        standings.push(marked_at(region, flags.as_slice(), before, number))?;
     }
     Ok(standings)
 }
@@ -169,8 +145,8 @@ fn standings_of(alloc: Global, before: usize, region: &Region) -> Result<Items<S
 /// Returns how the tasks that have lanes stand after a line. `before` is the number of entries that
 /// the history had before it. Without a region there are none.
 ///
-/// Errors: `NoMemory`. Cost: O(w * w + e), w the number of waiting tasks, which is at most sixteen,
-/// e the number of the line's entries.
+/// Errors: `NoMemory`. Cost: that of `in_deadlock` for sixteen tasks at most, and O(e), e the
+/// number of the line's entries.
 pub fn standings_at(
     alloc: Global,
     before: usize,
