@@ -1,16 +1,17 @@
 //! Runs the script on standard input, or in a file. Prints its journal and listing on standard
-//! output, or a picture of it, or what the orders of its lines lead to.
+//! output, or a picture of it, or what the orders of its lines lead to; or says what is at fault in
+//! its lines.
 #![tactic(auto)]
 
 mod input;
 mod progress;
 
-use crate::input::Input;
+use crate::input::{Input, Stream};
 use crate::progress::ProgressLines;
 use cics_orders::survey::{Surveyed, Surveyor};
 use cics_picture::draw::{NoPicture, run_picture};
 use cics_run::told::{is_amiss, told_at_end, told_of};
-use cics_run::whole::read_script;
+use cics_run::whole::{check_script, read_script};
 use cics_run::{
     Asked, CommandLine, Options, Orders, RunFault, Session, Status, Wanted, exit_status,
     read_arguments, run_over, strict_status,
@@ -23,130 +24,176 @@ const BAD_ARGUMENTS: u8 = 2;
 
 const TOO_MANY_EVENTS: u8 = 4;
 
+// What is said of a report without `--told`.
+const UNTOLD: &str = "cicsrun: endings that differ only in what tasks were answered count as one; \
+    --told tells them apart";
+
 // The journal alone.
-const JOURNAL: Wanted = Wanted {
-    options: Options {
-        replay: false,
-        no_list: true,
-    },
-    serial: false,
-    with_script: false,
+const JOURNAL: Options = Options {
+    replay: false,
+    no_list: true,
 };
 
-fn main(rt: HostRuntime) -> ExitCode {
-    match called(rt) {
-        Ok(CommandLine { asked, script }) => answer(rt, asked, script),
-        Err(fault) => stopped(rt, fault),
+// Why the program stops: a fault of a run, or that the script can't be opened, which it has said.
+#[derive(Drop)]
+enum Stopped {
+    Fault(RunFault),
+    NoScript,
+}
+
+impl From<RunFault> for Stopped {
+    fn from(fault: RunFault) -> Stopped {
+        Stopped::Fault(fault)
     }
 }
 
-// Does what a command line asks for. It opens the script's file first, if it asks for one.
-fn answer(rt: HostRuntime, asked: Asked, name: Option<String>) -> ExitCode {
+fn main(rt: HostRuntime) -> ExitCode {
+    match command_line(rt) {
+        Ok(line) => ended(rt, answer(rt, line)),
+        Err(fault) => ended(rt, Err(Stopped::Fault(fault))),
+    }
+}
+
+// Returns the exit status of the program. At a fault it says why it stops.
+fn ended(rt: HostRuntime, status: Result<u8, Stopped>) -> ExitCode {
+    ExitCode::from(match status {
+        Ok(status) => status,
+        Err(Stopped::NoScript) => BAD_ARGUMENTS,
+        Err(Stopped::Fault(fault)) => {
+            let _ = eprintln!(rt; "cicsrun: {fault}");
+            exit_status(&Err(fault))
+        }
+    })
+}
+
+// Does what a command line asks for, and returns the exit status.
+fn answer(rt: HostRuntime, line: CommandLine) -> Result<u8, Stopped> {
+    let CommandLine { asked, script } = line;
     match asked {
         Asked::Help(text) => match print!(rt; "{text}") {
-            Ok(()) => ExitCode::SUCCESS,
-            Err(_) => stopped(rt, RunFault::WriteFault),
+            Ok(()) => Ok(exit_status(&Ok(Status::Done))),
+            Err(_) => Err(Stopped::Fault(RunFault::WriteFault)),
         },
-        Asked::Bad(text) => bad(rt, &text),
-        asked => match Input::open(rt, &name) {
-            Ok(script) => print_of(rt, script, asked),
-            Err(error) => {
-                let name = name.as_deref().unwrap_or("-");
-                let _ = eprintln!(rt; "cicsrun: {name}: {error}");
-                ExitCode::from(BAD_ARGUMENTS)
-            }
-        },
+        Asked::Bad(text) => {
+            let _ = eprint!(rt; "{text}");
+            Ok(BAD_ARGUMENTS)
+        }
+        Asked::Run(options) => run_to_the_end(rt, opened(rt, script)?, Wanted::plain(options)),
+        Asked::Extended(wanted) => run_to_the_end(rt, opened(rt, script)?, wanted),
+        Asked::Check => check_to_the_end(rt, opened(rt, script)?),
+        Asked::Picture => draw_to_the_end(rt, opened(rt, script)?),
+        Asked::Orders { wanted, progress } => {
+            follow_orders(rt, opened(rt, script)?, wanted, progress)
+        }
     }
 }
 
-// Says what is wrong with the arguments, and returns the exit status for that.
-fn bad(rt: HostRuntime, text: &str) -> ExitCode {
-    let _ = eprint!(rt; "{text}");
-    ExitCode::from(BAD_ARGUMENTS)
-}
-
-// Prints what is asked for of a script, and returns the exit status.
-fn print_of(rt: HostRuntime, script: Input, asked: Asked) -> ExitCode {
-    match asked {
-        Asked::Run(wanted) => ended(rt, run_to_the_end(rt, script, wanted, false)),
-        Asked::Strict(wanted) => ended(rt, run_to_the_end(rt, script, wanted, true)),
-        Asked::Picture => match draw_to_the_end(rt, script) {
-            Err(NoPicture::TooManyEvents) => {
-                let _ = eprintln!(rt; "cicsrun: {}", NoPicture::TooManyEvents);
-                ExitCode::from(TOO_MANY_EVENTS)
-            }
-            Err(NoPicture::Stopped(fault)) => stopped(rt, fault),
-            Ok(status) => ExitCode::from(exit_status(&Ok(status))),
-        },
-        Asked::Orders { wanted, progress } => follow_orders(rt, script, wanted, progress),
-        Asked::Help(text) | Asked::Bad(text) => bad(rt, &text),
+// Opens the script, or says why it can't be opened.
+fn opened(rt: HostRuntime, name: Option<String>) -> Result<Input, Stopped> {
+    match Stream::open(rt, &name) {
+        Ok(stream) => Ok(Input { name, stream }),
+        Err(error) => {
+            let name = name.as_deref().unwrap_or("-");
+            let _ = eprintln!(rt; "cicsrun: {name}: {error}");
+            Err(Stopped::NoScript)
+        }
     }
 }
 
 // Runs a script, and returns the exit status. The process ends right after the run. So its memory
 // isn't given back piece by piece, which would take up to a tenth of the time.
-fn run_to_the_end(
-    rt: HostRuntime,
-    mut script: Input,
-    wanted: Wanted,
-    is_strict: bool,
-) -> Result<u8, RunFault> {
+fn run_to_the_end(rt: HostRuntime, mut script: Input, wanted: Wanted) -> Result<u8, Stopped> {
     let mut session = Session::new(rt.alloc());
     let answer = run_over(&mut session, &mut script, &mut rt.stdout(), wanted);
     if let Ok(status) = answer {
-        tell(rt, &session, status);
+        tell(rt, &session, script.name(), status);
     }
-    let is_amiss = is_strict && is_amiss(&session);
+    let is_amiss = wanted.strict && is_amiss(&session);
     mem::forget(session);
     Ok(strict_status(&Ok(answer?), is_amiss))
 }
 
-// Draws the run of a script. The process ends right after it, as after a run.
-fn draw_to_the_end(rt: HostRuntime, mut script: Input) -> Result<Status, NoPicture> {
+// Says what is at fault in the lines of a script, and returns the exit status.
+fn check_to_the_end(rt: HostRuntime, mut input: Input) -> Result<u8, Stopped> {
+    let script = read_to_the_end(rt, &mut input)?;
+    let answer = check_script(rt.alloc(), &script, input.name(), &mut rt.stderr());
+    Ok(exit_status(&Ok(answer?)))
+}
+
+// Draws the run of a script, and returns the exit status. The process ends right after it, as after
+// a run.
+fn draw_to_the_end(rt: HostRuntime, mut script: Input) -> Result<u8, Stopped> {
     let mut session = Session::new(rt.alloc());
     let answer = run_picture(&mut session, &mut script, &mut rt.stdout());
     if let Ok(status) = answer {
-        tell(rt, &session, status);
+        tell(rt, &session, script.name(), status);
     }
     mem::forget(session);
-    answer
+    match answer {
+        Ok(status) => Ok(exit_status(&Ok(status))),
+        Err(NoPicture::Stopped(fault)) => Err(Stopped::Fault(fault)),
+        Err(NoPicture::TooManyEvents) => {
+            let _ = eprintln!(rt; "cicsrun: {}", NoPicture::TooManyEvents);
+            Ok(TOO_MANY_EVENTS)
+        }
+    }
 }
 
-// Follows the orders of a script. Prints how far the search is, if that is wanted.
+// Reads all bytes of a script.
+fn read_to_the_end(rt: HostRuntime, input: &mut Input) -> Result<Vec<u8>, RunFault> {
+    let mut script = Vec::new(rt.alloc());
+    read_script(input, &mut script)?;
+    Ok(script)
+}
+
+// Follows the orders of a script, and returns the exit status. Prints how far the search is, if
+// that is wanted.
 fn follow_orders(
     rt: HostRuntime,
     mut input: Input,
     wanted: Orders,
     has_progress: bool,
-) -> ExitCode {
-    let mut script = Vec::new(rt.alloc());
-    if let Err(fault) = read_script(&mut input, &mut script) {
-        return stopped(rt, fault);
-    }
+) -> Result<u8, Stopped> {
+    let script = read_to_the_end(rt, &mut input)?;
     let mut surveyor = Surveyor {
         alloc: rt.alloc(),
         progress: ProgressLines::new(rt, has_progress),
     };
-    match surveyor.run_orders(&mut script.as_slice(), &mut rt.stdout(), wanted) {
-        Ok(Surveyed::Done) => ended(rt, Ok(exit_status(&Ok(Status::Done)))),
-        Ok(Surveyed::LineFault) => {
-            tell_fault(rt, &script);
-            ended(rt, Ok(exit_status(&Ok(Status::LineFault))))
+    match surveyor.run_orders(&mut script.as_slice(), &mut rt.stdout(), wanted)? {
+        Surveyed::Done => Ok(reported(rt, wanted, false)),
+        Surveyed::Amiss => Ok(reported(rt, wanted, true)),
+        Surveyed::LineFault => {
+            tell_fault(rt, &script, input.name());
+            Ok(exit_status(&Ok(Status::LineFault)))
         }
-        Ok(Surveyed::NoEnding(count)) => {
-            let _ = eprintln!(rt; "cicsrun: there are {count} endings");
-            ExitCode::from(BAD_ARGUMENTS)
+        Surveyed::NoEnding { count, has_all } => {
+            let (are, endings) = if count == 1 {
+                ("is", "ending")
+            } else {
+                ("are", "endings")
+            };
+            let least = if has_all { "" } else { "at least " };
+            let _ = eprintln!(rt; "cicsrun: there {are} {least}{count} {endings}");
+            Ok(BAD_ARGUMENTS)
         }
-        Err(fault) => stopped(rt, fault),
     }
 }
 
+// Returns the exit status of a report on orders. Says on standard error if it compares no answers.
+fn reported(rt: HostRuntime, wanted: Orders, is_amiss: bool) -> u8 {
+    if !wanted.told && wanted.ending.is_none() {
+        let _ = eprintln!(rt; "{UNTOLD}");
+    }
+    strict_status(&Ok(Status::Done), is_amiss)
+}
+
 // Says what the faulty line of a script needs, as a run of it does.
-fn tell_fault(rt: HostRuntime, mut script: &[u8]) {
+fn tell_fault(rt: HostRuntime, mut script: &[u8], name: Option<&[u8]>) {
     let mut session = Session::new(rt.alloc());
     let mut journal: Vec<u8> = Vec::new(rt.alloc());
-    if let Ok(status) = run_over(&mut session, &mut script, &mut journal, JOURNAL) {
-        tell(rt, &session, status);
+    let wanted = Wanted::plain(JOURNAL);
+    if let Ok(status) = run_over(&mut session, &mut script, &mut journal, wanted) {
+        tell(rt, &session, name, status);
     }
     mem::forget(session);
 }
@@ -154,10 +201,10 @@ fn tell_fault(rt: HostRuntime, mut script: &[u8]) {
 // Says on standard error what a run leaves a person to know: what its faulty line needs, or its
 // deadlocks and undefined names. Without memory it says nothing: the journal and the listing have
 // it.
-fn tell(rt: HostRuntime, session: &Session, status: Status) {
+fn tell(rt: HostRuntime, session: &Session, name: Option<&[u8]>, status: Status) {
     let told = match status {
-        Status::LineFault => told_of(rt.alloc(), session),
-        Status::Done => told_at_end(rt.alloc(), session),
+        Status::LineFault => told_of(rt.alloc(), session, name),
+        Status::Done => told_at_end(rt.alloc(), session, name),
     };
     if let Ok(text) = told {
         if let Ok(text) = std::str::from_utf8(&text) {
@@ -166,16 +213,8 @@ fn tell(rt: HostRuntime, session: &Session, status: Status) {
     }
 }
 
-// The exit status of a run. If it stopped, it says why on standard error.
-fn ended(rt: HostRuntime, status: Result<u8, RunFault>) -> ExitCode {
-    match status {
-        Ok(status) => ExitCode::from(status),
-        Err(fault) => stopped(rt, fault),
-    }
-}
-
 // Returns the command line. A word that is no text is a bad argument.
-fn called(rt: HostRuntime) -> Result<CommandLine, RunFault> {
+fn command_line(rt: HostRuntime) -> Result<CommandLine, RunFault> {
     let given = match std::env::args(&rt) {
         Ok(given) => given,
         Err(error) if error.kind() == ErrorKind::OutOfMemory => return Err(RunFault::NoMemory),
@@ -199,10 +238,4 @@ fn called(rt: HostRuntime) -> Result<CommandLine, RunFault> {
         Ok(line) => Ok(line),
         Err(_) => Err(RunFault::NoMemory),
     }
-}
-
-// Says on standard error why the program stops, and answers with the exit status for that.
-fn stopped(rt: HostRuntime, fault: RunFault) -> ExitCode {
-    let _ = eprintln!(rt; "cicsrun: {fault}");
-    ExitCode::from(exit_status(&Err(fault)))
 }

@@ -53,7 +53,7 @@ impl Event {
                         | Verb::EndBr { .. }
                 ) && !is_of_checks(&command.verb, answer)
             }
-            Event::Line(Line::Attach { .. }) => !answer.contains(" REFUSED "),
+            Event::Line(Line::Attach(_, _, _)) => !answer.contains(" REFUSED "),
             Event::Line(Line::Clock(_) | Line::Shutdown) | Event::Expire => false,
             _ => true,
         }

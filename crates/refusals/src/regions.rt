@@ -14,11 +14,7 @@ use std::alloc::Global;
 // Returns what a line asks a region for.
 fn request_of(line: Line) -> Option<Request> {
     match line {
-        Line::Attach {
-            label,
-            transaction,
-            dtimout,
-        } => Some(Request::Attach {
+        Line::Attach(label, transaction, dtimout) => Some(Request::Attach {
             label,
             transaction,
             dtimout,

@@ -46,13 +46,9 @@ LINE 2 FAULT 3 UnknownWord
 ";
 
 // The journal alone.
-const WANTED: Wanted = Wanted {
-    options: Options {
-        replay: false,
-        no_list: true,
-    },
-    serial: false,
-    with_script: false,
+const NO_LIST: Options = Options {
+    replay: false,
+    no_list: true,
 };
 
 // The name of an answer.
@@ -137,7 +133,7 @@ impl<'a> Trial<'a> {
             calls: Calls::<W>::new(writes, write),
         };
         let mut session = Session::new(rt.alloc());
-        let answer = run_over(&mut session, &mut source, &mut page, WANTED);
+        let answer = run_over(&mut session, &mut source, &mut page, Wanted::plain(NO_LIST));
         Outcome {
             answer: title(&answer),
             text: page.text,

@@ -232,7 +232,7 @@ pub(super) fn line(line: &Line) {
         Line::DefineTd(name: Name4, recovery: Recovery);
         Line::LoadFile(name: Name8, content: Record);
         Line::LoadTd(name: Name4, content: Record);
-        Line::Attach { label: Name8, transaction: Name4, dtimout: u64 };
+        Line::Attach(label: Name8, transaction: Name4, dtimout: u64);
         Line::Clock(now: u64);
         Line::Issue(label: Name8, command: Command);
         Line::Shutdown)
@@ -260,10 +260,11 @@ pub(super) fn ran(ran: &Result<Status, RunFault>) {
 
 pub(super) fn asked(asked: &Asked) {
     shape!(asked;
-        Asked::Run(wanted: Wanted);
+        Asked::Run(options: Options);
         Asked::Help(text: String);
         Asked::Bad(text: String);
-        Asked::Strict(wanted: Wanted);
+        Asked::Extended(wanted: Wanted);
+        Asked::Check;
         Asked::Picture;
         Asked::Orders { wanted: Orders, progress: bool })
 }
