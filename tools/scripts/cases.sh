@@ -5,7 +5,10 @@
 count=0
 scripts=0
 mkdir -p "$room/cases" "$room/wanted"
+: > "$room/wanted/nothing"
 : > "$room/list"
+echo 'cicsrun: endings that differ only in what tasks were answered count as one;' \
+    '--told tells them apart' > "$room/untold"
 
 # Adds a run: its script, the row's parts but the number, and the options.
 add_case() {
@@ -34,14 +37,24 @@ add_script() {
         add_case "$1" "$title" 0 "$base.journal" same "$said"
         strict=0
         ! is_amiss "$base.journal" || strict=5
-        add_case "$1" "$title --strict" "$strict" "$base.journal" same "$said" --strict
+        strict_said=$said
+        [ ! -f "$base.strict" ] || strict_said=$base.strict
+        add_case "$1" "$title --strict" "$strict" "$base.journal" same "$strict_said" --strict
+        [ ! -f "$base.why" ] ||
+            add_case "$1" "$title --why" 0 "$base.journal" same "$base.why" --why
         add_case "$1" "$title --with-script" 0 "$base.journal" unshown "$said" --with-script
+        add_case "$1" "$title --check" 0 "$room/wanted/nothing" same /dev/null --check
     fi
     if [ -f "$base.fault" ]; then
         of_fault=advice
         [ ! -f "$base.said" ] || of_fault=$said
         add_case "$1" "$title" 1 "$base.fault" same "$of_fault"
         add_case "$1" "$title --with-script" 1 "$base.fault" unshown "$of_fault" --with-script
+        # A picture tells of the faulty line alone.
+        if [ -f "$base.said" ]; then
+            of_fault=$room/wanted/fault-of-$count
+            tail -n 3 "$base.said" > "$of_fault"
+        fi
         add_case "$1" "$title --picture" 1 "$base.fault" last "$of_fault" --picture
     fi
     if [ -f "$base.replay" ]; then
@@ -49,6 +62,8 @@ add_script() {
         add_case "$1" "$title --replay --with-script" 0 "$base.replay" unshown "$said" --replay \
             --with-script
     fi
+    [ ! -f "$base.checked" ] ||
+        add_case "$1" "$title --check" 1 "$room/wanted/nothing" same "$base.checked" --check
     [ ! -f "$base.shown" ] ||
         add_case "$1" "$title --with-script" 0 "$base.shown" same "$said" --with-script
     [ ! -f "$base.serial" ] ||
@@ -67,8 +82,16 @@ add_report() {
     [ ! -f "$base.args" ] || words=$(cat -- "$base.args")
     status=0
     ! grep -q '^LINE [0-9]* \(FAULT\|DEFINE\) ' "$base.report" || status=1
+    case "$status $words" in
+    1* | *--told* | *--ending*) ;;
+    *) said=$room/untold ;;
+    esac
     # shellcheck disable=SC2086 # words are options
     add_case "$1" "$title --orders $words" "$status" "$base.report" same "$said" --orders $words
+    ! grep -Eq '^ENDING .*( SERIAL 0| DEADLOCK)( |$)' "$base.report" || status=5
+    # shellcheck disable=SC2086
+    add_case "$1" "$title --orders --strict $words" "$status" "$base.report" same "$said" \
+        --orders --strict $words
 }
 
 # A run for each faulty line.
@@ -113,7 +136,7 @@ add_advice() {
         scripts=$((scripts + 1))
         [ -n "$mended" ] || continue
         printf '%b\n' "$mended" > "$room/script"
-        add_case "$room/script" "$title, mended" 0 - none /dev/null
+        add_case "$room/script" "$title, mended" 0 "$room/wanted/nothing" same /dev/null --check
     done < "$root/scripts/told/advice"
     printf '%70001s\n' '' > "$room/script"
     echo 'cicsrun: line 1: a line has at most 70,000 bytes' > "$room/wanted/advice-long"
