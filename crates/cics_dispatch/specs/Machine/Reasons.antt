@@ -4,6 +4,7 @@ use Rattle.cics_names.specs.declared.conditions.Condition.TheVariants.{Dsiderr, 
 use Rattle.cics_dispatch.specs.declared.machine.reasons.Reason.{Reason}
 use Rattle.cics_dispatch.specs.declared.machine.reasons.Reason.TheVariants.{FileNotDefined, QueueNotDefined, UpdateNotByKey, KeyLengthDiffers, KeySize, PrefixTooLong, PrefixEmpty, NoRidfld, LengthNotInFrom, RecordTooShort, RecordTooLong, ItemSize, ValueSize, ValueTooShort, UpdateReadOpen, NoUpdateRead, KeyIsNotRidfld, KeyIsNotRead, BrowseOpen, NoBrowse, BrowseIsGeneric}
 
+-- the condition that a command is answered if a check fails
 abbrev pub condition_of : Reason → Condition
 condition_of FileNotDefined = Dsiderr
 condition_of QueueNotDefined = Qiderr

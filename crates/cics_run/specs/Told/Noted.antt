@@ -46,6 +46,7 @@ abbrev pub reason_or_cause : Stage → Verb → Condition → Option Reason → 
 reason_or_cause stage verb c (Some reason) = reason_text (definition_in stage verb) verb reason
 reason_or_cause stage verb c None = cause_text verb c
 
+-- the words on a condition that a command raised
 abbrev pub raised_text : Stage → Verb → Raised → List ℕ
 raised_text stage verb r = reason_or_cause stage verb r.condition r.reason
 

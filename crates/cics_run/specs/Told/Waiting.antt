@@ -40,6 +40,7 @@ abbrev pub waiter_blocked_by : Machine → Bytes → Option Bytes → List ℕ
 waiter_blocked_by m label None = bare label
 waiter_blocked_by m label (Some blocker) = wait_text m label blocker
 
+-- the same of the one that blocks it now
 abbrev pub waiter_text : Machine → Bytes → List ℕ
 waiter_text m label = waiter_blocked_by m label (blocker_of m label)
 
@@ -52,5 +53,6 @@ abbrev pub waiting_line_of : Machine → Option Bytes → List ℕ
 waiting_line_of m None = []
 waiting_line_of m (Some label) = first_line m label
 
+-- what a strict run tells of the tasks that wait
 abbrev pub waiting_line : Machine → List ℕ
 waiting_line m = waiting_line_of m (first_waiting m)
