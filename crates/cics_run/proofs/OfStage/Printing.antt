@@ -1,7 +1,7 @@
 -- A journal prints the text of each step, tells whether an event of it is amiss, and notes events.
 use Rattle.std.proofs.Common.{◌≡◌, ℕ, List, [], ◌∷◌, ◌++◌, refl, ap, sym, ◌∙◌, append_assoc, append-nil, Option, Some, None, length, arith}
 use Rattle.std.proofs.lemmas.Bool.Decides.{nat_tests}
-use Rattle.std.specs.Prelude.{◌==◌, Bool, true, false, ◌||◌, Result, Ok, Err, OnOk}
+use Rattle.std.specs.Prelude.{◌==◌, Bool, true, false, ◌||◌}
 use Rattle.std.specs.List.{flat_map, fold}
 use Rattle.cics_dispatch.specs.Machine.Events.{Happened}
 use Rattle.cics_run.specs.Stage.Amiss.{is_amiss, any_amiss}

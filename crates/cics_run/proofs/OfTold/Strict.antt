@@ -1,5 +1,5 @@
 -- With --strict each event that is amiss is noted.
-use Rattle.std.proofs.Common.{◌≡◌, Bool, true, false, refl, Some, None}
+use Rattle.std.proofs.Common.{◌≡◌, Bool, true, refl, Some, None}
 use Rattle.std.specs.Prelude.{is_some}
 use Rattle.cics_names.specs.Keyed.{Bytes}
 use Rattle.cics_dispatch.specs.declared.machine.events.Event.{Event}

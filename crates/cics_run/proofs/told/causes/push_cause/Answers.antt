@@ -1,7 +1,7 @@
-use Rattle.std.specs.Prelude.{◌++◌, [], codes}
+use Rattle.std.specs.Prelude.{[], codes}
 use Rattle.cics_names.specs.declared.conditions.Condition.TheVariants.{Duprec, Endfile, Qzero, Enqbusy}
 use Rattle.cics_run.specs.Told.Causes.{cause_text}
-use Rattle.cics_run.specs.Told.Parts.{key_in, used_in, about_text, quoted_text}
+use Rattle.cics_run.specs.Told.Parts.{key_in, about_text, quoted_text}
 use Rattle.cics_run.proofs.OfTold.Put.{put-on, put-case}
 use Rattle.cics_run.proofs.told.causes.push_cause.Goals as goal
 

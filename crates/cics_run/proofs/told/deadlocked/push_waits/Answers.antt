@@ -1,4 +1,4 @@
-use Rattle.std.proofs.Common.{◌≡◌, ◌∙◌, ◌++◌, ◌∷◌, ◌+◌, suc, drop, get_or, drop-cons, append_assoc, sym, ap, arith}
+use Rattle.std.proofs.Common.{◌≡◌, ◌∙◌, ◌++◌, ◌∷◌, ◌+◌, suc, drop, drop-cons, append_assoc, sym, ap, arith}
 use Rattle.cics_run.specs.Told.Deadlocked.{link_text, waits_text}
 use Rattle.cics_run.proofs.told.deadlocked.push_waits.Goals as goal
 

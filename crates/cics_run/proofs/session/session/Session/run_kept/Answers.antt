@@ -1,5 +1,5 @@
-use Rattle.std.proofs.Common.{◌≡◌, List, ℕ, [], ◌++◌, ◌+◌, ap, ◌∙◌, sym, refl, subst, append_assoc, append-nil, Option, true, false}
-use Rattle.cics_run.specs.Session.Printing.{AppendsFront, Prints}
+use Rattle.std.proofs.Common.{◌≡◌, List, ℕ, ◌++◌, ◌+◌, ap, ◌∙◌, refl, subst, append_assoc, true, false}
+use Rattle.cics_run.specs.Session.Printing.{AppendsFront}
 use Rattle.cics_run.specs.Session.Standing.{next_step}
 use Rattle.cics_run.specs.Stage.Journal.{text_of}
 use Rattle.cics_run.proofs.OfSession.Printing.{behind-pending, on-err}
