@@ -1,6 +1,7 @@
 //! What the commands on temporary storage queues are answered.
 
 use crate::images::TsImage;
+use cics_images::Changed;
 use cics_names::{Condition, Record};
 
 /// What READQ TS is answered.
@@ -18,13 +19,12 @@ pub struct TsRead {
 
 /// What WRITEQ TS is answered, with REWRITE or without.
 ///
-/// - `condition`: NORMAL if the item was added or replaced, ITEMERR if the queue is full or has no
-///   such item. QIDERR if there is no queue to replace an item of.
+/// - `changed`: NORMAL if the item was added or replaced, ITEMERR if the queue is full or has no
+///   such item, QIDERR if there is no queue to replace an item of. And the image of the change, if
+///   it has one.
 /// - `number`: the number of the item, from 1 on, if the condition is NORMAL.
-/// - `image`: what undoes the change, if it was requested and the condition is NORMAL.
 #[derive(Drop)]
 pub struct TsWritten {
-    pub condition: Condition,
+    pub changed: Changed<TsImage>,
     pub number: Option<u64>,
-    pub image: Option<TsImage>,
 }

@@ -61,6 +61,13 @@ impl ItemList {
         self.items.is_empty()
     }
 
+    /// Returns how many items there are.
+    pub(crate) fn len(&self) -> usize
+        ensures { result ≡ length self.now }
+    {
+        self.items.len()
+    }
+
     /// Returns whether there is an item of the number, the first item being 1.
     pub(crate) fn has(&self, number: u64) -> bool
         ensures has { result ≡ has_item self.now number }

@@ -30,26 +30,32 @@ pub(crate) struct Row {
 /// Returns a write that was made, of the item of this number.
 pub(crate) fn written(number: u64, image: Option<TsImage>) -> TsWritten
     ensures { result ≡ record {
-      condition = Condition.Normal;
+      changed = record { condition = Condition.Normal; image = image };
       number = Some number;
-      image = image;
     } }
 {
     TsWritten {
-        condition: Condition::Normal,
+        changed: Changed {
+            condition: Condition::Normal,
+            image,
+        },
         number: Some(number),
-        image,
     }
 }
 
 /// Returns a write that wasn't made: it has no number and no image.
 pub(crate) fn not_written(condition: Condition) -> TsWritten
-    ensures { result ≡ record { condition = condition; number = None; image = None } }
+    ensures { result ≡ record {
+      changed = record { condition = condition; image = None };
+      number = None;
+    } }
 {
     TsWritten {
-        condition,
+        changed: Changed {
+            condition,
+            image: None,
+        },
         number: None,
-        image: None,
     }
 }
 
@@ -100,10 +106,10 @@ impl Row {
     ) -> Result<TsWritten, NoMemory>
         ensures row { OnOk result (self.new ≡ row_written self.old item) }
         ensures condition { IfOk result (λ answer.
-            answer.condition ≡ write_condition self.old.items) }
+            answer.changed.condition ≡ write_condition self.old.items) }
         ensures number { IfOk result (λ answer. answer.number ≡ write_number self.old.items) }
         ensures image { IfOk result (λ answer.
-            answer.image ≡ written_image keep name self.old.items) }
+            answer.changed.image ≡ written_image keep name self.old.items) }
         ensures err { OnErr result (self.new ≡ self.old) }
     {
         let place = self.place();
@@ -137,9 +143,9 @@ impl Row {
         keep: bool,
     ) -> TsWritten
         ensures row { self.new ≡ row_rewritten self.old number item }
-        ensures condition { result.condition ≡ item_condition self.old.items number }
+        ensures condition { result.changed.condition ≡ item_condition self.old.items number }
         ensures number { result.number ≡ rewrite_number self.old.items number }
-        ensures image { result.image ≡ rewritten_image keep name self.old.items number }
+        ensures image { result.changed.image ≡ rewritten_image keep name self.old.items number }
     {
         match self.items.put(number, item) {
             Some(old) => written(number, image_of(name, Before::Replaced(number, old), keep)),

@@ -1,7 +1,7 @@
 //! Temporary storage.
 
 ghost use Rattle.std.specs.Prelude.{◌≡◌, [], true, Some, T, IfOk, IfSome, OnOk};
-ghost use Rattle.std.specs.Prelude.{OnErr, ◌++◌};
+ghost use Rattle.std.specs.Prelude.{OnErr, ◌++◌, length};
 ghost use Rattle.cics_names.specs.Keyed.{with_value, without, is_rising};
 ghost use Rattle.cics_tempstor.specs.Queues.{is_there, queue_at, next_place, queues_of};
 ghost use Rattle.cics_tempstor.specs.Queues.{places_of};
@@ -101,14 +101,14 @@ impl TempStore {
     /// dropped.
     pub fn write(&mut self, name: Name8, item: Record, keep: bool) -> Result<TsWritten, NoMemory>
         ensures condition { IfOk result (λ answer.
-            answer.condition ≡ write_condition (queue_at name self.old)) }
+            answer.changed.condition ≡ write_condition (queue_at name self.old)) }
         ensures number { IfOk result (λ answer.
             answer.number ≡ write_number (queue_at name self.old)) }
         ensures value { OnOk result (self.new ≡ ts_written self.old name item) }
         ensures image { IfOk result (λ answer.
-            answer.image ≡ written_image keep name (queue_at name self.old)) }
+            answer.changed.image ≡ written_image keep name (queue_at name self.old)) }
         ensures undoable { IfOk result (λ answer.
-            IfSome answer.image (IsTsImage self.old self.new name)) }
+            IfSome answer.changed.image (IsTsImage self.old self.new name)) }
         ensures others { KeepsQueues (is_other name) self.old self.new }
         ensures rising { T (is_rising self.old) }
         ensures err { OnErr result (self.new ≡ self.old) }
@@ -122,25 +122,35 @@ impl TempStore {
     }
 
     /// WRITEQ TS REWRITE: replaces the item of a number. The answer has the number. QIDERR if there
-    /// is no queue, ITEMERR if it has no item of the number, and then nothing changes. It takes no
-    /// memory.
+    /// is no queue, ITEMERR if it has no item of the number, and then nothing changes.
     ///
     /// With `keep` a NORMAL answer has the image that undoes the change, with the old item. An item
-    /// that isn't put in is dropped.
-    pub fn rewrite(&mut self, name: &Name8, number: u64, item: Record, keep: bool) -> TsWritten
-        ensures condition { result.condition ≡ item_condition (queue_at name.now self.old) number }
-        ensures number { result.number ≡ rewrite_number (queue_at name.now self.old) number }
-        ensures value { self.new ≡ ts_rewritten self.old name.now number item }
-        ensures image { result.image
-            ≡ rewritten_image keep name.now (queue_at name.now self.old) number }
-        ensures undoable { IfSome result.image (IsTsImage self.old self.new name.now) }
+    /// that isn't put in is dropped. The only error is `NoMemory`: none today, since the old item
+    /// moves into the image.
+    pub fn rewrite(
+        &mut self,
+        name: &Name8,
+        number: u64,
+        item: Record,
+        keep: bool,
+    ) -> Result<TsWritten, NoMemory>
+        ensures condition { IfOk result (λ answer.
+            answer.changed.condition ≡ item_condition (queue_at name.now self.old) number) }
+        ensures number { IfOk result (λ answer.
+            answer.number ≡ rewrite_number (queue_at name.now self.old) number) }
+        ensures value { OnOk result (self.new ≡ ts_rewritten self.old name.now number item) }
+        ensures image { IfOk result (λ answer. answer.changed.image
+            ≡ rewritten_image keep name.now (queue_at name.now self.old) number) }
+        ensures undoable { IfOk result (λ answer.
+            IfSome answer.changed.image (IsTsImage self.old self.new name.now)) }
         ensures others { KeepsQueues (is_other name.now) self.old self.new }
         ensures rising { T (is_rising self.old) }
+        ensures err { OnErr result (self.new ≡ self.old) }
     {
         let Some(row) = self.queues.get_mut(name) else {
-            return not_written(Condition::Qiderr);
+            return Ok(not_written(Condition::Qiderr));
         };
-        row.rewrite(*name, number, item, keep)
+        Ok(row.rewrite(*name, number, item, keep))
     }
 
     /// DELETEQ TS: removes a whole queue. QIDERR if there is none, and then nothing changes. It
@@ -208,6 +218,17 @@ impl TempStore {
     {
         match self.queues.get(name) {
             Some(row) => row.place(),
+            None => 0,
+        }
+    }
+
+    /// Returns how many items a queue has: 0 if it is absent.
+    pub fn item_count(&self, name: &Name8) -> u64
+        ensures count { result ≡ length (queue_at name.now self.now) }
+        ensures rising { T (is_rising self.now) }
+    {
+        match self.queues.get(name) {
+            Some(row) => row.items.len() as u64,
             None => 0,
         }
     }

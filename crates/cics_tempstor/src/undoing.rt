@@ -73,7 +73,7 @@ impl Undoable for TempStore {
 
     ghost keeps_on = { laws.keeps_on };
 
-    fn undo(&mut self, image: &mut TsImage) {
+    fn undo_by_ref(&mut self, image: &mut TsImage) {
         let before = mem::replace(&mut image.before, Before::Added);
         self.undo_at(&image.name, before);
     }

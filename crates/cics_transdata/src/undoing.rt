@@ -72,7 +72,7 @@ impl Undoable for TransQueue {
 
     ghost keeps_on = { laws.keeps_on };
 
-    fn undo(&mut self, image: &mut TdImage)
+    fn undo_by_ref(&mut self, image: &mut TdImage)
         requires { IsReadyImage self.old image.old }
         ensures value { self.new ≡ undone_queue self.old image.old }
         ensures cell { end_of image.new ≡ end_of image.old }

@@ -16,10 +16,10 @@ loop-left-preserved g c =
     ap (λ n. reverse (take n items)) one_more ∙ newest_first_of items at image in_range ∙ ap (λ i. i ∷ reverse (take at items)) (sym c.index_mut.ensures.value) in
     let ready : AreReadyInTurn undo.IsReady undo.undone c.loop-left.target (image ∷ reverse (take at items)) =
     subst (AreReadyInTurn undo.IsReady undo.undone c.loop-left.target) newest c.loop-left.invariant.ready in
-    let left : reverse (take at (set items at c.undo.new.image)) ≡ reverse (take at items) = ap reverse (take-set items at c.undo.new.image) in
+    let left : reverse (take at (set items at c.undo_by_ref.new.image)) ≡ reverse (take at items) = ap reverse (take-set items at c.undo_by_ref.new.image) in
     record {
-      inside = omega (arith, length-set items at c.undo.new.image, in_range);
-      ready = rw (left, c.undo.ensures.value) ready.1;
-      rest = rw (left, c.undo.ensures.value) (sym (ap (fold undo.undone c.loop-left.target) newest) ∙ c.loop-left.invariant.rest);
-      cells = same_cells undo.cell items at c.undo.new.image image (c.undo.ensures.cell ∙ ap undo.cell c.index_mut.ensures.value) ∙ c.loop-left.invariant.cells;
+      inside = omega (arith, length-set items at c.undo_by_ref.new.image, in_range);
+      ready = rw (left, c.undo_by_ref.ensures.value) ready.1;
+      rest = rw (left, c.undo_by_ref.ensures.value) (sym (ap (fold undo.undone c.loop-left.target) newest) ∙ c.loop-left.invariant.rest);
+      cells = same_cells undo.cell items at c.undo_by_ref.new.image image (c.undo_by_ref.ensures.cell ∙ ap undo.cell c.index_mut.ensures.value) ∙ c.loop-left.invariant.cells;
     }
