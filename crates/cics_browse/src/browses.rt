@@ -118,6 +118,20 @@ impl Browse {
         self.generic
     }
 
+    /// Returns the key of its position.
+    pub fn key(&self) -> &[u8]
+        ensures { result.now ≡ self.now.key }
+    {
+        self.key.bytes()
+    }
+
+    /// Returns what the key of its position is.
+    pub fn place(&self) -> Place
+        ensures { result ≡ self.now.place }
+    {
+        self.place
+    }
+
     /// Appends the stamp of its position.
     ///
     /// Errors: `NoMemory`.

@@ -3,4 +3,4 @@
 
 mod browses;
 
-pub use browses::{Browse, Browsed};
+pub use browses::{Browse, Browsed, Place};

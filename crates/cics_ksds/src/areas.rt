@@ -1,7 +1,7 @@
 //! Control areas: up to 64 intervals side by side in one block of memory.
 
-ghost use Rattle.std.specs.Prelude.{◌≡◌, ◌<◌, ◌≤◌, [], suc, IfOk, length, take, drop};
-ghost use Rattle.std.specs.Prelude.{slice_set, slice_index_or};
+ghost use Rattle.std.specs.Prelude.{◌≡◌, ◌<◌, ◌≤◌, [], ◌∷◌, suc, IfOk, OnOk, OnErr, length};
+ghost use Rattle.std.specs.Prelude.{take, drop, slice_set, slice_index_or};
 ghost use Rattle.std.specs.List.{insert, remove};
 ghost use Rattle.cics_ksds.specs.Places.{interval_in};
 ghost use Rattle.cics_ksds.specs.Heads.{IsAreaHead};
@@ -20,8 +20,8 @@ pub(crate) const FULL: usize = 64;
 /// How many intervals of a full area stay in it when it is split.
 pub(crate) const HALF: usize = 32;
 
-/// Up to 64 intervals, in the order of their keys. It is made with room for all 64, so that no edit
-/// of it takes memory. Contracts see the list of its intervals, each as the list of its slots.
+/// Up to 64 intervals, in the order of their keys. Only one interval more takes memory. Contracts
+/// see the list of the intervals, each as the list of its slots.
 #[derive(Drop)]
 pub(crate) struct Area {
     intervals: Vec<Interval>,
@@ -30,7 +30,7 @@ pub(crate) struct Area {
 }
 
 impl Model for Area {
-    ghost use Rattle.std.specs.Prelude.{◌≡◌, ◌≤◌, List, length, vec_capacity};
+    ghost use Rattle.std.specs.Prelude.{◌≤◌, List, length};
     ghost use Rattle.cics_ksds.specs.declared.places.Place.{Place};
     ghost use Rattle.cics_ksds.specs.Heads.{IsAreaHead};
 
@@ -40,20 +40,19 @@ impl Model for Area {
 
     ghost invariant = { λ a. record {
       at_most : length a.intervals.items ≤ 64;
-      room : vec_capacity a.intervals ≡ 64;
       head : IsAreaHead a.intervals.items a.head;
     } };
 }
 
 impl Area {
-    /// Returns an area without intervals, which the caller will fill.
-    pub(crate) fn new(alloc: Global) -> Result<Area, NoMemory>
-        ensures { IfOk result (λ made. made ≡ []) }
+    /// Returns an area with one interval.
+    pub(crate) fn new(alloc: Global, interval: Interval) -> Result<Area, NoMemory>
+        ensures { IfOk result (λ made. made ≡ interval ∷ []) }
     {
-        Ok(Area {
-            intervals: Vec::with_capacity(alloc, FULL)?,
-            head: Mark::none(),
-        })
+        let head = interval.head();
+        let mut intervals = Vec::with_capacity(alloc, 1)?;
+        intervals.push_reserved(interval);
+        Ok(Area { intervals, head })
     }
 
     /// Returns the intervals, in the order of their keys.
@@ -82,7 +81,7 @@ impl Area {
     pub(crate) fn copy(&self, alloc: Global) -> Result<Area, NoMemory>
         ensures { IfOk result (λ copy. copy ≡ self.now) }
     {
-        let mut intervals = Vec::with_capacity(alloc, FULL)?;
+        let mut intervals = Vec::with_capacity(alloc, self.intervals.len())?;
         let from = self.intervals.as_slice();
         for interval in from {
             intervals.push_reserved(interval.copy(alloc)?);
@@ -142,42 +141,41 @@ impl Area {
         old
     }
 
-    /// Adds an interval behind the others. There must be room for it.
-    pub(crate) fn push(&mut self, interval: Interval)
-        requires { length self.old < 64 }
-        ensures { self.new ≡ insert self.old (length self.old) interval }
-    {
-        let count = self.intervals.len();
-        insert_reserved(&mut self.intervals, count, interval);
-        self.head = head_of(self.intervals.as_slice());
-    }
-
-    /// Splits a full interval in two. The second half moves to `right`, which comes behind it;
-    /// there must be room for it.
-    pub(crate) fn split_interval(&mut self, interval: usize, mut right: Interval)
+    /// Splits a full interval in two. The second half moves to `right`, which comes behind it. The
+    /// area isn't full.
+    pub(crate) fn split_interval(
+        &mut self,
+        interval: usize,
+        mut right: Interval,
+    ) -> Result<(), NoMemory>
         requires interval { interval < length self.old }
         requires room { length self.old < 64 }
         requires full { length (interval_in self.old interval) ≡ 16 }
         requires none { right ≡ [] }
-        ensures { self.new ≡ insert
+        ensures ok { OnOk result (self.new ≡ insert
             (slice_set self.old interval (take 8 (interval_in self.old interval)))
-            (suc interval) (drop 8 (interval_in self.old interval)) }
+            (suc interval) (drop 8 (interval_in self.old interval))) }
+        ensures err { OnErr result (self.new ≡ self.old) }
     {
+        self.intervals.reserve(1)?;
         self.intervals[interval].split(&mut right);
         insert_reserved(&mut self.intervals, interval + 1, right);
         self.head = head_of(self.intervals.as_slice());
+        Ok(())
     }
 
-    /// Moves all intervals but the first 32 to an area that has none.
-    pub(crate) fn split(&mut self, right: &mut Area)
+    /// Moves all intervals of a full area but the first 32 to a new one.
+    pub(crate) fn split(&mut self, alloc: Global) -> Result<Area, NoMemory>
         requires full { length self.old ≡ 64 }
-        requires none { right.old ≡ [] }
-        ensures left { self.new ≡ take 32 self.old }
-        ensures right { right.new ≡ drop 32 self.old }
+        ensures left { OnOk result (self.new ≡ take 32 self.old) }
+        ensures right { IfOk result (λ right. right ≡ drop 32 self.old) }
+        ensures err { OnErr result (self.new ≡ self.old) }
     {
-        move_tail(&mut self.intervals, HALF, &mut right.intervals);
-        right.head = head_of(right.intervals.as_slice());
+        let mut intervals = Vec::with_capacity(alloc, FULL)?;
+        move_tail(&mut self.intervals, HALF, &mut intervals);
         self.head = head_of(self.intervals.as_slice());
+        let head = head_of(intervals.as_slice());
+        Ok(Area { intervals, head })
     }
 }
 

@@ -208,7 +208,7 @@ impl Dataset {
 
     /// Inserts a slot. A full interval is split first, and so is a full area.
     ///
-    /// All memory is requested before anything changes. The only error is `NoMemory`.
+    /// The only error is `NoMemory`. A full area may be split then, and the slots are as they were.
     pub(crate) fn insert(&mut self, at: Position, place: Place) -> Result<(), NoMemory>
         requires there { 0 < length self.old → IsThere self.old at }
         requires place { at.place ≤ length (interval_at self.old at) }
@@ -216,7 +216,7 @@ impl Dataset {
             ≡ insert (places_in self.old) (index_of self.old at) place) }
         ensures intervals { OnOk result (joined self.new
             ≡ with_place (joined self.old) (number_of self.old at) at.place place) }
-        ensures err { OnErr result (self.new ≡ self.old) }
+        ensures err { OnErr result (places_in self.new ≡ places_in self.old) }
     {
         if self.areas.is_empty() {
             self.insert_first(place)
@@ -232,15 +232,14 @@ impl Dataset {
         ensures err { OnErr result (self.new ≡ self.old) }
     {
         let alloc = *self.areas.allocator();
+        let empties = place.empties();
         let mut interval = Interval::new(alloc)?;
-        let mut area = Area::new(alloc)?;
-        self.areas.reserve(1)?;
-        self.empties = place.empties();
+        interval.insert(0, place);
+        let area = Area::new(alloc, interval)?;
+        self.areas.push(area)?;
+        self.empties = empties;
         self.len = 1;
         self.count = 1;
-        interval.insert(0, place);
-        area.push(interval);
-        insert_reserved(&mut self.areas, 0, area);
         Ok(())
     }
 
@@ -252,7 +251,7 @@ impl Dataset {
             ≡ insert (places_in self.old) (index_of self.old at) place) }
         ensures intervals { OnOk result (joined self.new
             ≡ with_place (joined self.old) (number_of self.old at) at.place place) }
-        ensures err { OnErr result (self.new ≡ self.old) }
+        ensures err { OnErr result (places_in self.new ≡ places_in self.old) }
     {
         // More slots than a number can tell are refused as memory is: no machine has them.
         let Some(len) = self.len.checked_add(1) else {
@@ -272,7 +271,7 @@ impl Dataset {
         requires there { IsThere self.old at }
         requires place { at.place ≤ length (interval_at self.old at) }
         ensures ok { IfOk result (IsRoom self.old at self.new) }
-        ensures err { OnErr result (self.new ≡ self.old) }
+        ensures err { OnErr result (places_in self.new ≡ places_in self.old) }
     {
         if places_at(&self.areas, at) < intervals::FULL {
             return Ok(at);
@@ -283,7 +282,7 @@ impl Dataset {
         };
         let right = Interval::new(*self.areas.allocator())?;
         let next = self.make_area_room(at)?;
-        split_interval(&mut self.areas, next, right);
+        split_interval(&mut self.areas, next, right)?;
         self.count = count;
         if next.place <= intervals::HALF {
             return Ok(next);
@@ -305,9 +304,8 @@ impl Dataset {
         if self.areas[at.area].count() < areas::FULL {
             return Ok(at);
         }
-        let right = Area::new(*self.areas.allocator())?;
         self.areas.reserve(1)?;
-        Ok(split_area(&mut self.areas, at, right))
+        split_area(&mut self.areas, at)
     }
 
     /// Removes a slot, and returns it. An interval that is left without slots is removed too, and
@@ -344,42 +342,45 @@ fn places_at(areas: &Vec<Area>, at: Position) -> usize
 }
 
 /// Splits a full interval in two; the second half is put into `right`.
-fn split_interval(areas: &mut Vec<Area>, at: Position, right: Interval)
+fn split_interval(areas: &mut Vec<Area>, at: Position, right: Interval) -> Result<(), NoMemory>
     requires each { All IsArea areas.old.items }
     requires there { IsThere areas.old.items at }
     requires room { length (slice_index_or areas.old.items at.area []) < 64 }
     requires full { length (interval_at areas.old.items at) ≡ 16 }
     requires none { right ≡ [] }
     ensures each { All IsArea areas.new.items }
-    ensures intervals { joined areas.new.items
-        ≡ halved (joined areas.old.items) (number_of areas.old.items at) }
-    ensures halves { HasHalves areas.old.items at areas.new.items }
+    ensures intervals { OnOk result (joined areas.new.items
+        ≡ halved (joined areas.old.items) (number_of areas.old.items at)) }
+    ensures halves { OnOk result (HasHalves areas.old.items at areas.new.items) }
+    ensures err { OnErr result (areas.new.items ≡ areas.old.items) }
 {
-    areas[at.area].split_interval(at.interval, right);
+    areas[at.area].split_interval(at.interval, right)?;
+    Ok(())
 }
 
-/// Splits a full area in two; the second half is put into `right`. There must be room for it.
-fn split_area(areas: &mut Vec<Area>, at: Position, mut right: Area) -> Position
+/// Splits a full area in two, and returns where the position is then. There must be room for the
+/// second half.
+fn split_area(areas: &mut Vec<Area>, at: Position) -> Result<Position, NoMemory>
     requires each { All IsArea areas.old.items }
     requires there { IsThere areas.old.items at }
     requires room { vec_len areas.old < vec_capacity areas.old }
     requires full { length (slice_index_or areas.old.items at.area []) ≡ 64 }
-    requires none { right ≡ [] }
     ensures each { All IsArea areas.new.items }
     ensures intervals { joined areas.new.items ≡ joined areas.old.items }
-    ensures next { IsAreaRoom areas.old.items at areas.new.items result }
+    ensures next { IfOk result (IsAreaRoom areas.old.items at areas.new.items) }
+    ensures err { OnErr result (areas.new.items ≡ areas.old.items) }
 {
-    areas[at.area].split(&mut right);
+    let alloc = *areas.allocator();
+    let right = areas[at.area].split(alloc)?;
     insert_reserved(areas, at.area + 1, right);
     if at.interval < areas::HALF {
-        at
-    } else {
-        Position {
-            area: at.area + 1,
-            interval: at.interval - areas::HALF,
-            place: at.place,
-        }
+        return Ok(at);
     }
+    Ok(Position {
+        area: at.area + 1,
+        interval: at.interval - areas::HALF,
+        place: at.place,
+    })
 }
 
 /// Removes the interval of a slot, and its area if that has no other. Returns the slot.

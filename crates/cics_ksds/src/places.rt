@@ -363,8 +363,7 @@ pub(crate) fn put_at(definition: FileDef, places: &mut Dataset, at: Position, pl
     places.put(at, place)
 }
 
-/// Inserts a slot into the gap for its key. A full interval is split first. All memory is requested
-/// before anything changes.
+/// Inserts a slot into the gap for its key. A full interval is split first.
 pub(crate) fn insert_at(
     definition: FileDef,
     places: &mut Dataset,
@@ -377,7 +376,7 @@ pub(crate) fn insert_at(
     ensures places { ArePlaces definition (places_in places.new) }
     ensures value { OnOk result (file_of definition places.new
         ≡ placed (file_of definition places.old) (place_key definition place) place) }
-    ensures err { OnErr result (places.new ≡ places.old) }
+    ensures err { OnErr result (places_in places.new ≡ places_in places.old) }
 {
     places.insert(at, place)?;
     Ok(())

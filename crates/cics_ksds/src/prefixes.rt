@@ -6,7 +6,7 @@ ghost use Rattle.cics_ksds.specs.Files.{entry_of, is_from};
 ghost use Rattle.cics_ksds.specs.Places.{ArePlaces, IsThere, IsRecordUnder, key_at, places_in};
 ghost use Rattle.cics_ksds.specs.Places.{file_of, interval_at, index_of, left_at};
 ghost use Rattle.cics_ksds.specs.declared.places.Place.TheVariants.{Filled, Empty};
-ghost use Rattle.cics_ksds.specs.Prefixes.{has_prefix, under, outside};
+ghost use Rattle.cics_ksds.specs.Prefixes.{has_prefix, under, outside, keys_under};
 ghost use Rattle.cics_ksds.specs.Prefixes.{without_prefix, added_entry};
 
 use crate::FileDef;
@@ -107,6 +107,28 @@ fn images_under(
     Ok(images)
 }
 
+/// Returns copies of the keys that begin with the prefix.
+fn keys_under(
+    alloc: Global,
+    definition: FileDef,
+    places: &Dataset,
+    prefix: &[u8],
+) -> Result<Items<Record>, NoMemory>
+    requires { ArePlaces definition (places_in places.now) }
+    ensures { IfOk result (λ keys. keys
+        ≡ keys_under prefix.now (file_of definition places.now).records) }
+{
+    let mut keys = Items::new(alloc);
+    let start = start_of(definition, places, prefix, false);
+    let mut next = first_under(definition, places, start, prefix);
+    while let Some(at) = next {
+        let key = place_at(places, at).key(definition);
+        keys.push(Record::from_slice(alloc, key)?)?;
+        next = next_under(definition, places, at, prefix);
+    }
+    Ok(keys)
+}
+
 /// Removes the slots of all records under the prefix, and returns how many they were.
 fn drop_under(definition: FileDef, places: &mut Dataset, prefix: &[u8]) -> u64
     requires { ArePlaces definition (places_in places.old) }
@@ -150,6 +172,16 @@ impl File {
         ensures { result ≡ length (under prefix.now self.now.records) }
     {
         count_under(self.definition, &self.places, prefix)
+    }
+
+    /// Returns the keys of the records that `count_prefix` counts, in their order. The only error
+    /// is `NoMemory`.
+    ///
+    /// Cost: that of `count_prefix`, and O(bytes copied).
+    pub fn keys_under(&self, prefix: &[u8]) -> Result<Items<Record>, NoMemory>
+        ensures { IfOk result (λ keys. keys ≡ keys_under prefix.now self.now.records) }
+    {
+        keys_under(self.alloc, self.definition, &self.places, prefix)
     }
 
     /// DELETE with GENERIC (the file control chapter of the Application Programmer's Reference

@@ -44,20 +44,20 @@ same_split c new split =
     let mid = c.self-2.inside.areas.items in
     ap (λ (l : List (List Place)). joined l) split ∙ joined_split (joined mid) (number_of mid c.in_ok-next.next) (within mid c.in_ok-next.next (moved c).there) 8
 
-pub invariant_of-self : goal.invariant_of-self
-invariant_of-self c =
-    let here = (goal.at.invariant_of-self c).After-self-2 in
+pub invariant_of-self-then-next-le-HALF : goal.invariant_of-self-then-next-le-HALF
+invariant_of-self-then-next-le-HALF c =
+    let here = (goal.at.invariant_of-self-then-next-le-HALF c).After-self-2 in
     record {
       each = c.split_interval.ensures.each;
       counted = omega (
         arith,
-        counted c.args.self.now c.self-2.inside.areas.items c.split_interval.new.areas.items c.in_ok-next.next (moved here).there (same here) c.split_interval.ensures.intervals,
+        counted c.args.self.now c.self-2.inside.areas.items c.split_interval.new.areas.items c.in_ok-next.next (moved here).there (same here) c.in_ok-split_interval.ensures.intervals,
         opened c.self.inside.areas.items c.args.self.now c.self.view_is,
         c.self.invariant.counted,
         c.in-Some.ensures,
       );
-      long = c.self-2.invariant.long ∙ sym (ap length (same_split here c.split_interval.new.areas.items c.split_interval.ensures.intervals));
-      empties = c.self-2.invariant.empties ∙ sym (ap empty_count (same_split here c.split_interval.new.areas.items c.split_interval.ensures.intervals));
+      long = c.self-2.invariant.long ∙ sym (ap length (same_split here c.split_interval.new.areas.items c.in_ok-split_interval.ensures.intervals));
+      empties = c.self-2.invariant.empties ∙ sym (ap empty_count (same_split here c.split_interval.new.areas.items c.in_ok-split_interval.ensures.intervals));
     }
 
 pub invariant_of-self-2 : goal.invariant_of-self-2
@@ -67,23 +67,23 @@ invariant_of-self-2 c =
       each = c.split_interval.ensures.each;
       counted = omega (
         arith,
-        counted c.args.self.now c.self-2.inside.areas.items c.split_interval.new.areas.items c.in_ok-next.next (moved here).there (same here) c.split_interval.ensures.intervals,
+        counted c.args.self.now c.self-2.inside.areas.items c.split_interval.new.areas.items c.in_ok-next.next (moved here).there (same here) c.in_ok-split_interval.ensures.intervals,
         opened c.self.inside.areas.items c.args.self.now c.self.view_is,
         c.self.invariant.counted,
         c.in-Some.ensures,
       );
-      long = c.self-2.invariant.long ∙ sym (ap length (same_split here c.split_interval.new.areas.items c.split_interval.ensures.intervals));
-      empties = c.self-2.invariant.empties ∙ sym (ap empty_count (same_split here c.split_interval.new.areas.items c.split_interval.ensures.intervals));
+      long = c.self-2.invariant.long ∙ sym (ap length (same_split here c.split_interval.new.areas.items c.in_ok-split_interval.ensures.intervals));
+      empties = c.self-2.invariant.empties ∙ sym (ap empty_count (same_split here c.split_interval.new.areas.items c.in_ok-split_interval.ensures.intervals));
     }
 
 pub returns-then-next-le-HALF-clause-ok : goal.returns-then-next-le-HALF-clause-ok
 returns-then-next-le-HALF-clause-ok c =
     let here = (goal.at.returns-then-next-le-HALF-clause-ok c).After-self-2 in
     is_room_before c.args.self.now c.self-2.inside.areas.items c.split_interval.new.areas.items c.args.at c.in_ok-next.next c.requires.there (same here) (moved here)
-    c.split_interval.ensures.halves c.split_interval.ensures.intervals (full here) c.if-next-le-HALF.true
+    c.in_ok-split_interval.ensures.halves c.in_ok-split_interval.ensures.intervals (full here) c.if-next-le-HALF.true
 
 pub returns-clause-ok : goal.returns-clause-ok
 returns-clause-ok c =
     let here = (goal.at.returns-clause-ok c).After-self-2 in
     is_room_behind c.args.self.now c.self-2.inside.areas.items c.split_interval.new.areas.items c.args.at c.in_ok-next.next c.requires.there (same here) (moved here)
-    c.split_interval.ensures.halves c.split_interval.ensures.intervals (full here) c.if-next-le-HALF.false (omega (arith, full here, c.requires.place)) (c.in_ok-next.next.interval + 1) (omega arith)
+    c.in_ok-split_interval.ensures.halves c.in_ok-split_interval.ensures.intervals (full here) c.if-next-le-HALF.false (omega (arith, full here, c.requires.place)) (c.in_ok-next.next.interval + 1) (omega arith)
