@@ -41,3 +41,4 @@ pub mod Blockers
 pub mod Stamps
 pub mod Draining
 pub mod SharedOps
+pub mod AllBlockers

@@ -20,12 +20,14 @@ ghost use Rattle.cics_dispatch.specs.Machine.Settled.{goes_on};
 ghost use Rattle.std.specs.Option.{option_copied};
 ghost use Rattle.cics_dispatch.specs.Machine.Events.{task_ended};
 ghost use Rattle.cics_dispatch.specs.Machine.Blockers.{unit_of, blocker_of, blockers_of, label_at, number_of};
-ghost use Rattle.cics_dispatch.specs.Machine.Blockers.{waiting_command};
+ghost use Rattle.cics_dispatch.specs.Machine.Blockers.{HaveBlocker};
+ghost use Rattle.cics_dispatch.specs.Machine.Blockers.{waiting_command, browse_of};
 ghost use Rattle.cics_dispatch.specs.declared.machine.outcomes.Refused.TheVariants.{RegionDown};
 
 use crate::dispatcher::Dispatcher;
 use crate::machine::{Expired, Outcome, Reason, Refused, Woken};
 use crate::notes::Notes;
+use cics_browse::Browse;
 use cics_history::UnitId;
 use cics_names::{Command, Items, Name4, Name8, NoMemory};
 use cics_units::{Listing, Opening, Units};
@@ -117,6 +119,18 @@ impl Region {
             is_settled: false,
             is_in_time: false,
         })
+    }
+
+    /// Says what holds of a region at any time. Does nothing.
+    ///
+    /// - `headline`: each recoverable file and queue holds what a replay of the surviving commands
+    ///   gives. In that replay each of them has its answer again.
+    /// - `serializable`: the committed units of work are serializable in the order of their commits.
+    pub fn promises(&self)
+        ensures headline { IsHeadlineRegion self.now }
+        ensures serializable { IsSerializableRegion self.now }
+    {
+        let _dispatcher = &self.dispatcher;
     }
 
     // Returns the error `RegionDown` if the region is shut down.
@@ -321,8 +335,6 @@ impl Region {
     /// the task has no unit.
     pub fn unit(&self, label: &Name8) -> Option<UnitId>
         ensures unit { result ≡ unit_of self.now.machine label.now }
-        ensures headline { IsHeadlineRegion self.now }
-        ensures serializable { IsSerializableRegion self.now }
     {
         self.dispatcher.unit_of(label)
     }
@@ -334,14 +346,12 @@ impl Region {
     /// It looks at what units own now, and not at what the region remembers.
     pub fn blocker(&self, label: &Name8) -> Option<Name8>
         ensures blocker { result ≡ blocker_of self.now.machine label.now }
-        ensures headline { IsHeadlineRegion self.now }
-        ensures serializable { IsSerializableRegion self.now }
     {
         self.dispatcher.blocker(label)
     }
 
     /// Returns all tasks whom the waiting command of a label's task waits for now, by their labels,
-    /// in the order of attach. It may resume if there is none.
+    /// in the order of attach. It may resume if there is none. That of `blocker` is among them.
     ///
     /// Only DELETE GENERIC and DELETEQ TD may wait for more than one.
     ///
@@ -349,8 +359,7 @@ impl Region {
     /// the resources that open units ever acquired.
     pub fn blockers(&self, label: &Name8) -> Result<Items<Name8>, NoMemory>
         ensures blockers { IfOk result (λ labels. labels ≡ blockers_of self.now.machine label.now) }
-        ensures headline { IsHeadlineRegion self.now }
-        ensures serializable { IsSerializableRegion self.now }
+        ensures one { IfOk result (HaveBlocker (blocker_of self.now.machine label.now)) }
     {
         self.dispatcher.blockers(label)
     }
@@ -359,17 +368,21 @@ impl Region {
     /// names what it asks for: a record, a prefix, a queue or a value.
     pub fn waiting_command(&self, label: &Name8) -> Option<&Command>
         ensures command { option_copied result ≡ waiting_command self.now.machine label.now }
-        ensures headline { IsHeadlineRegion self.now }
-        ensures serializable { IsSerializableRegion self.now }
     {
         self.dispatcher.waiting_command(label)
+    }
+
+    /// Returns the browse of a file that the task of a label has open. `None` if no task has the
+    /// label, or it has no such browse.
+    pub fn browse(&self, label: &Name8, file: &Name8) -> Option<&Browse>
+        ensures browse { option_copied result ≡ browse_of self.now.machine label.now file.now }
+    {
+        self.dispatcher.browse(label, file)
     }
 
     /// Returns whether the task of a label has ended. `false` if no task has the label.
     pub fn has_ended(&self, label: &Name8) -> bool
         ensures ended { result ≡ task_ended self.now.machine label.now }
-        ensures headline { IsHeadlineRegion self.now }
-        ensures serializable { IsSerializableRegion self.now }
     {
         self.dispatcher.has_ended(label)
     }
@@ -377,8 +390,6 @@ impl Region {
     /// Returns how many tasks were attached, those that have ended included.
     pub fn task_count(&self) -> usize
         ensures count { result ≡ length self.now.machine.tasks }
-        ensures headline { IsHeadlineRegion self.now }
-        ensures serializable { IsSerializableRegion self.now }
     {
         self.dispatcher.task_count()
     }
@@ -387,8 +398,6 @@ impl Region {
     /// order of attach, and a task keeps its number.
     pub fn label_at(&self, number: usize) -> Option<Name8>
         ensures label { result ≡ label_at self.now.machine.tasks number }
-        ensures headline { IsHeadlineRegion self.now }
-        ensures serializable { IsSerializableRegion self.now }
     {
         self.dispatcher.label_at(number)
     }
@@ -396,8 +405,6 @@ impl Region {
     /// Returns the number of the task of a label, if there is one.
     pub fn number(&self, label: &Name8) -> Option<usize>
         ensures number { result ≡ number_of self.now.machine.tasks label.now }
-        ensures headline { IsHeadlineRegion self.now }
-        ensures serializable { IsSerializableRegion self.now }
     {
         self.dispatcher.number(label)
     }
@@ -455,8 +462,6 @@ impl Region {
     pub fn stamp(&self, out: &mut Vec<u8>) -> Result<(), NoMemory>
         ensures stamp { OnOk result (out.new.items
             ≡ out.old.items ++ region_stamp self.now.machine) }
-        ensures headline { IsHeadlineRegion self.now }
-        ensures serializable { IsSerializableRegion self.now }
     {
         self.dispatcher.stamp(out)
     }

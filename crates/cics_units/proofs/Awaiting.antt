@@ -23,7 +23,7 @@ use Rattle.cics_history.proofs.MarkedParts.{first_of-seen}
 use Rattle.cics_history.proofs.InPlace.{committed_in_place}
 use Rattle.cics_units.specs.TableInPlace.{IsTableOf}
 use Rattle.cics_units.specs.Uses.{holder_over_all}
-use Rattle.cics_units.specs.Awaiting.{is_writer, is_logical_in, has_none_for, writer_over, unit_in_way}
+use Rattle.cics_units.specs.Awaiting.{is_writer, is_logical_in, has_none_for, writer_over, blocking_unit}
 use Rattle.cics_units.specs.Opening.StoreMatching.{StoreValue, AnyImage}
 use Rattle.cics_units.specs.StoreInPlace.{AreInPlace}
 use Rattle.cics_units.proofs.HeldOver.{table_holder}
@@ -100,7 +100,7 @@ module _ (s : UnitsState) (t : Table) (i : IsSound s) (k : IsTableOf s t) (u : O
       -- the unit that a command must wait for is the one in its way, by the table and the queues as
       -- they stand
       pub awaited-in_place : (op : Op) →
-          awaited s u op ≡ unit_in_way t store.trans_data (is_recoverable s.opening op) u acting op
+          awaited s u op ≡ blocking_unit t store.trans_data (is_recoverable s.opening op) u acting op
       awaited-in_place op =
           awaited-uses s t i k u op
           ∙ writer_awaits op

@@ -17,7 +17,7 @@ use Rattle.cics_history.specs.Records.{file_of}
 use Rattle.cics_units.specs.Uses.{uses_if, listed, AreFreeFor}
 use Rattle.cics_units.specs.Cores.{IsBoundFor}
 use Rattle.cics_units.specs.declared.units_core.BoundOp.{BoundOp}
-use Rattle.cics_units.specs.Awaiting.{is_writer, IsOwn, unit_in_way}
+use Rattle.cics_units.specs.Awaiting.{is_writer, IsOwn, blocking_unit}
 use Rattle.cics_units.specs.QueueChanges.{queue_of as queue_on}
 use Rattle.cics_units.specs.Opening.Prefixed.{is_temp}
 use Rattle.cics_units.specs.Applied.{IsApplied, IsBound, IsSeen}
@@ -159,7 +159,7 @@ pub record IsAsked (o : OpeningState) (trace : List Entry) (outcomes : List Unit
   pub used : listed b.uses ≡ uses_if (is_recoverable o b.op.now) b.op.now
   pub own : IsOwn b.op.now (is_writer p.table (unit_or_next u outcomes) (queue_on b.op.now)) b.own
   -- whom it has to wait for is the unit in its way
-  pub way : h ≡ unit_in_way p.table p.stores.store.trans_data (is_recoverable o b.op.now) u (unit_or_next u outcomes) b.op.now
+  pub way : h ≡ blocking_unit p.table p.stores.store.trans_data (is_recoverable o b.op.now) u (unit_or_next u outcomes) b.op.now
 
 -- ---- Calls of the core
 module _ (o : OpeningState) (trace : List Entry) (outcomes : List UnitState) (commits : List ℕ) (p new : CoreValue)
@@ -182,33 +182,33 @@ module _ (o : OpeningState) (trace : List Entry) (outcomes : List UnitState) (co
 
   module _ (u : Option ℕ) (op : Op) (acts : may_act state_before u ≡ true) where
     -- the unit in a command's way, as the table and the queues tell
-    abbrev pub in_way : Option ℕ
-    in_way = unit_in_way p.table p.stores.store.trans_data (is_recoverable o op) u (unit_or_next u outcomes) op
+    abbrev pub blocker_now : Option ℕ
+    blocker_now = blocking_unit p.table p.stores.store.trans_data (is_recoverable o op) u (unit_or_next u outcomes) op
 
     -- is the one that it waits for
-    pub awaited_is : awaited state_before u op ≡ in_way
+    pub awaited_is : awaited state_before u op ≡ blocker_now
     awaited_is = awaited-in_place state_before p.table is.sound is.table u acts p.stores.store p.stores.images is.place (logical_alike state_before p.stores p.table is) op
 
-    pub waits : (h : ℕ) → in_way ≡ Some h → MustWait h ≡ execution state_before u op
+    pub waits : (h : ℕ) → blocker_now ≡ Some h → MustWait h ≡ execution state_before u op
     waits h held = sym (ap (done_of state_before u op) (awaited_is ∙ held))
 
-    pub waits_unchanged : (h : ℕ) → in_way ≡ Some h → state_before ≡ after_execution state_before u op
+    pub waits_unchanged : (h : ℕ) → blocker_now ≡ Some h → state_before ≡ after_execution state_before u op
     waits_unchanged h held = sym (ap (state_of state_before u op) (awaited_is ∙ held))
 
     -- and is open
-    pub waits_open : (h : ℕ) → in_way ≡ Some h → IsOpenUnit state_before h
+    pub waits_open : (h : ℕ) → blocker_now ≡ Some h → IsOpenUnit state_before h
     waits_open h held = awaited_open state_before p.table is.sound is.table u op h (awaited_is ∙ held)
 
     -- if there is none, what it uses is free for the unit that acts
-    pub free_way : in_way ≡ None → AreFreeFor p.table (uses_if (is_recoverable o op) op) (unit_or_next u outcomes)
+    pub free_way : blocker_now ≡ None → AreFreeFor p.table (uses_if (is_recoverable o op) op) (unit_or_next u outcomes)
     free_way none = subst (λ rs. AreFreeFor p.table rs (unit_or_next u outcomes)) (sym (uses_alike o op))
         (uses_free state_before p.table is.sound is.table u op (awaited_is ∙ none))
 
     -- and it sees enough
-    pub seen_way : in_way ≡ None → IsSeen p.stores.store op (is_writer p.table (unit_or_next u outcomes) (queue_on op))
+    pub seen_way : blocker_now ≡ None → IsSeen p.stores.store op (is_writer p.table (unit_or_next u outcomes) (queue_on op))
     seen_way none = op_seen state_before p.stores p.stores p.table is u op acts (awaited_is ∙ none) op (awaited_is ∙ none)
 
-    module _ (none : in_way ≡ None) (ready : is_ready_op state_before u op ≡ true)
+    module _ (none : blocker_now ≡ None) (ready : is_ready_op state_before u op ≡ true)
         (answer : Answer) (bound : IsBound p.stores.store op (is_recoverable o op)) (done : IsExecuted p new (unit_or_next u outcomes) op (is_recoverable o op) answer) where
       free : awaited state_before u op ≡ None
       free = awaited_is ∙ none
@@ -266,7 +266,7 @@ module _ (o : OpeningState) (trace : List Entry) (outcomes : List UnitState) (co
   -- ---- A command that is bound to what stands, and the unit that it has to wait for
   module _ (u : Option ℕ) (op : Op) (b : BoundOp) (n : ℕ) (h : Option ℕ) (same : b.op.now ≡ op) (bound : IsBoundFor p n b) (acting : n ≡ unit_or_next u outcomes)
       (acts : may_act state_before u ≡ true) (ready : is_ready_op state_before u op ≡ true) (temp : is_temp op ≡ true → b.recoverable ≡ is_recoverable o op)
-      (told : (n : ℕ) → IsBoundFor p n b → h ≡ unit_in_way p.table p.stores.store.trans_data b.recoverable u n b.op.now) where
+      (told : (n : ℕ) → IsBoundFor p n b → h ≡ blocking_unit p.table p.stores.store.trans_data b.recoverable u n b.op.now) where
     as_opened : b.recoverable ≡ is_recoverable o b.op.now
     as_opened = bound_as_opened state_before p.stores p.table is b.op.now b.recoverable bound.bound
         (λ on_temp. temp (sym (ap is_temp same) ∙ on_temp) ∙ ap (is_recoverable o) (sym same))
@@ -280,8 +280,8 @@ module _ (o : OpeningState) (trace : List Entry) (outcomes : List UnitState) (co
       stands = subst (IsBound p.stores.store b.op.now) as_opened bound.bound;
       used = bound.used ∙ ap (λ r. uses_if r b.op.now) as_opened;
       own = subst (λ n. IsOwn b.op.now (is_writer p.table n (queue_on b.op.now)) b.own) acting bound.own;
-      way = told n bound ∙ ap (λ r. unit_in_way p.table p.stores.store.trans_data r u n b.op.now) as_opened
-          ∙ ap (λ n. unit_in_way p.table p.stores.store.trans_data (is_recoverable o b.op.now) u n b.op.now) acting;
+      way = told n bound ∙ ap (λ r. blocking_unit p.table p.stores.store.trans_data r u n b.op.now) as_opened
+          ∙ ap (λ n. blocking_unit p.table p.stores.store.trans_data (is_recoverable o b.op.now) u n b.op.now) acting;
     }
 
 -- READ UPDATE is ready if the unit has no record of the file read for update

@@ -42,6 +42,6 @@ writer_over t queues asking acting _ = None
 
 -- the blocker of a command: another unit that owns what conflicts with what it uses, else the
 -- writer of what it would read
-abbrev pub unit_in_way : Table → Map TransState → Bool → Option ℕ → ℕ → Op → Option ℕ
-unit_in_way t queues recoverable asking acting op =
+abbrev pub blocking_unit : Table → Map TransState → Bool → Option ℕ → ℕ → Op → Option ℕ
+blocking_unit t queues recoverable asking acting op =
     first_some (holder_over_all (uses_if recoverable op) asking t) (writer_over t queues asking acting op)

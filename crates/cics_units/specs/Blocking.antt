@@ -19,5 +19,5 @@ owns_used s v (TdDelete q) = queue_logical s.opening q && (owns_over s v (end_re
 owns_used s v _ = false
 
 -- a unit isn't the one that asks, and owns something that such a command uses
-abbrev pub is_in_way : UnitsState → Option ℕ → Op → ℕ → Bool
-is_in_way s asking op v = is_other asking v && owns_used s v op
+abbrev pub blocks : UnitsState → Option ℕ → Op → ℕ → Bool
+blocks s asking op v = is_other asking v && owns_used s v op

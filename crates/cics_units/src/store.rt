@@ -182,14 +182,14 @@ pub(crate) fn apply(
         Op::ReadUpdate { .. } => unreachable!(),
         Op::TsWrite { queue, from } => {
             let written = store.temp_storage.write(*queue, from.copy()?, recoverable)?;
-            add_temp_image(images, written.image);
-            Ok(numbered(written.condition, written.number))
+            add_temp_image(images, written.changed.image);
+            Ok(numbered(written.changed.condition, written.number))
         }
         Op::TsRewrite { queue, item, from } => {
             let from = from.copy()?;
-            let written = store.temp_storage.rewrite(queue, *item, from, recoverable);
-            add_temp_image(images, written.image);
-            Ok(numbered(written.condition, written.number))
+            let written = store.temp_storage.rewrite(queue, *item, from, recoverable)?;
+            add_temp_image(images, written.changed.image);
+            Ok(numbered(written.changed.condition, written.number))
         }
         Op::TsDelete { queue } => {
             let deleted = store.temp_storage.delete(queue, recoverable);

@@ -14,7 +14,7 @@ ghost use Rattle.cics_history.specs.Cells.{Reading, Writing};
 ghost use Rattle.cics_history.specs.Execution.{covers, read_at, with_read, is_read_of};
 ghost use Rattle.cics_history.specs.Records.{file_of, key_of};
 ghost use Rattle.cics_units.specs.Applied.{IsSeen};
-ghost use Rattle.cics_units.specs.Awaiting.{is_writer, IsOwn, unit_in_way};
+ghost use Rattle.cics_units.specs.Awaiting.{is_writer, IsOwn, blocking_unit};
 ghost use Rattle.cics_units.specs.Cores.{core_value, IsBoundFor};
 ghost use Rattle.cics_units.specs.Executed.{IsExecuted};
 ghost use Rattle.cics_units.specs.Parts.{IsFitOp, given_record, most_images, IsCoreAsBefore};
@@ -164,7 +164,7 @@ pub(crate) fn reserve_images(
         let images = spare_images(rows, alloc);
         rows.push(images)?;
     }
-    rows[at].make_room(count)
+    rows[at].make_room_for(count)
 }
 
 // Acquires what a command uses if it acts on something recoverable, else nothing. Returns what was
@@ -239,7 +239,7 @@ impl UnitsCore {
     #[inline(always)]
     pub(crate) fn blocker(&self, asking: Option<UnitId>, bound: &BoundOp<'_>) -> Option<UnitId>
         ensures { (acting : ℕ) → IsBoundFor (core_value self.now) acting bound.now →
-            result ≡ unit_in_way self.now.locks self.now.store.trans_data bound.now.recoverable
+            result ≡ blocking_unit self.now.locks self.now.store.trans_data bound.now.recoverable
             asking acting bound.now.op.now }
     {
         // A copy for each call that takes the unit.

@@ -5,12 +5,13 @@ ghost use Rattle.std.specs.List.{filter_map};
 ghost use Rattle.std.specs.Option.{option_to_list};
 ghost use Rattle.cics_history.specs.Execution.{IsOpenUnit, is_ready_op};
 ghost use Rattle.cics_dispatch.specs.Machine.Calls.{OfTask};
-ghost use Rattle.cics_dispatch.specs.Machine.Blockers.{unit_of, shared_op, label_in_way, blockers_of};
+ghost use Rattle.cics_dispatch.specs.Machine.Blockers.{unit_of, shared_op, blocking_label, blockers_of};
 ghost use Rattle.std.specs.Option.{option_copied};
 ghost use Rattle.cics_dispatch.specs.Machine.Blockers.{awaited_at, blocker_of, label_at, number_of};
-ghost use Rattle.cics_dispatch.specs.Machine.Blockers.{waiting_command};
+ghost use Rattle.cics_dispatch.specs.Machine.Blockers.{waiting_command, browse_of};
 
 use crate::dispatcher::Dispatcher;
+use cics_browse::Browse;
 use cics_history::UnitId;
 use cics_names::{Command, Items, Name8, NoMemory};
 use cics_units::Op;
@@ -58,32 +59,32 @@ impl Dispatcher {
         }
     }
 
-    // Returns the label of the task at an index, if its unit is in the way of a command.
-    fn label_in_way(&self, asking: &Option<UnitId>, op: &Op, at: usize) -> Option<Name8>
+    // Returns the label of the task at an index, if its unit blocks a command.
+    fn blocking_label(&self, asking: &Option<UnitId>, op: &Op, at: usize) -> Option<Name8>
         requires within { at < length self.now.machine.tasks }
         requires ready { is_ready_op self.now.machine.units asking.now op.now ≡ true }
         ensures { OfTask self.now.machine.tasks at (λ t. result
-            ≡ label_in_way self.now.machine.units asking.now op.now t) }
+            ≡ blocking_label self.now.machine.units asking.now op.now t) }
     {
         let task = self.tasks.get(at);
         let unit = task.unit()?;
-        if self.units.is_in_way(unit, op, *asking) {
+        if self.units.blocks(unit, op, *asking) {
             Some(task.label())
         } else {
             None
         }
     }
 
-    // Returns the labels of all tasks whose units are in the way of a command.
-    fn all_in_way(&self, asking: &Option<UnitId>, op: &Op) -> Result<Items<Name8>, NoMemory>
+    // Returns the labels of all tasks whose units block a command.
+    fn blocking_labels(&self, asking: &Option<UnitId>, op: &Op) -> Result<Items<Name8>, NoMemory>
         requires { is_ready_op self.now.machine.units asking.now op.now ≡ true }
         ensures { IfOk result (λ labels. labels
-            ≡ filter_map (label_in_way self.now.machine.units asking.now op.now)
+            ≡ filter_map (blocking_label self.now.machine.units asking.now op.now)
             self.now.machine.tasks) }
     {
         let mut labels = Items::new(self.alloc);
         for at in 0..self.tasks.len() {
-            if let Some(label) = self.label_in_way(asking, op, at) {
+            if let Some(label) = self.blocking_label(asking, op, at) {
                 labels.push(label)?;
             }
         }
@@ -107,9 +108,17 @@ impl Dispatcher {
         ensures { IfOk result (λ labels. labels ≡ blockers_of self.now.machine label.now) }
     {
         match self.shared_op(label) {
-            Some(op) => self.all_in_way(&self.unit_of(label), op),
+            Some(op) => self.blocking_labels(&self.unit_of(label), op),
             None => self.blocker_alone(label),
         }
+    }
+
+    /// Returns the browse of a file that a label's task has open.
+    pub(crate) fn browse(&self, label: &Name8, file: &Name8) -> Option<&Browse>
+        ensures { option_copied result ≡ browse_of self.now.machine label.now file.now }
+    {
+        let at = self.tasks.find(label)?;
+        self.tasks.get(at).browses().get(file)
     }
 
     /// Returns how many tasks were attached.

@@ -171,8 +171,8 @@ impl<M: Undoable + Drop> Undoable for Named<M> {
 
     ghost keeps_on = { laws.keeps_on M.Keeps M.keeps_on };
 
-    fn undo(&mut self, image: &mut NamedImage<M::Image>) {
-        self.at_mut(&image.name).undo(&mut image.image);
+    fn undo_by_ref(&mut self, image: &mut NamedImage<M::Image>) {
+        self.at_mut(&image.name).undo_by_ref(&mut image.image);
     }
 
     fn settle(&mut self, image: NamedImage<M::Image>) {

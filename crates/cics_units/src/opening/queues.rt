@@ -233,8 +233,8 @@ impl Undoable for Queues {
 
     ghost keeps_on = { laws.keeps_on KeepsEnds ends.keeps_on };
 
-    fn undo(&mut self, image: &mut QueueImage) {
-        self.at_mut(&image.name).undo(&mut image.image);
+    fn undo_by_ref(&mut self, image: &mut QueueImage) {
+        self.at_mut(&image.name).undo_by_ref(&mut image.image);
     }
 
     // Nothing is held back for an undo.

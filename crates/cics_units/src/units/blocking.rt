@@ -5,7 +5,7 @@ ghost use Rattle.cics_history.specs.Execution.{is_ready_op};
 ghost use Rattle.cics_history.specs.Holding.{is_other};
 ghost use Rattle.cics_history.specs.declared.resources.Resource.TheVariants.{TdRead, TdWrite};
 ghost use Rattle.cics_units.specs.TableInPlace.{is_holder};
-ghost use Rattle.cics_units.specs.Blocking.{owns_over, is_in_way};
+ghost use Rattle.cics_units.specs.Blocking.{owns_over, blocks};
 
 use crate::units::Units;
 use cics_enqueue::ResourceRef;
@@ -55,9 +55,9 @@ impl Units {
     /// The command has to be ready, as for `submit`. Takes no memory.
     ///
     /// Cost: O(k log resources), k the resources that the unit ever acquired.
-    pub fn is_in_way(&self, unit: UnitId, op: &Op, asking: Option<UnitId>) -> bool
+    pub fn blocks(&self, unit: UnitId, op: &Op, asking: Option<UnitId>) -> bool
         requires ready { IsTrue (is_ready_op self.now.state asking op.now) }
-        ensures { result ≡ is_in_way self.now.state asking op.now unit }
+        ensures { result ≡ blocks self.now.state asking op.now unit }
     {
         if !is_another(asking, unit) {
             return false;

@@ -5,12 +5,13 @@ ghost use Rattle.std.specs.Prelude.{IsTrue, option_map, IfOk, IfSome, OnOk};
 ghost use Rattle.std.specs.Option.{option_copied};
 ghost use Rattle.cics_names.specs.Keyed.{value_at};
 ghost use Rattle.cics_history.specs.Openings.{is_key};
-ghost use Rattle.cics_history.specs.Headline.{outcome_of, IsHeadline};
+ghost use Rattle.cics_history.specs.Headline.{outcome_of};
+ghost use Rattle.cics_history.specs.Store.{ts_queue};
 ghost use Rattle.cics_history.specs.Holding.{awaited, value_holder};
 ghost use Rattle.cics_history.specs.Execution.{is_ready_op, read_at, place_at, IsOpenUnit, IsOpenOrNone};
 ghost use Rattle.cics_history.specs.Stamps.{unit_stamp, shared_stamp};
 ghost use Rattle.cics_history.specs.Isolation.{IsSound};
-ghost use Rattle.cics_history.specs.Serial.{IsSerializable, NoneIsOpen};
+ghost use Rattle.cics_history.specs.Serial.{NoneIsOpen};
 ghost use Rattle.cics_units.specs.Replay.Listings.{listing_of, replayed_listing};
 
 use crate::opening::Opening;
@@ -39,8 +40,6 @@ impl Units {
         ensures awaited { result ≡ awaited self.now.state asking op.now }
         ensures is_open { IfSome result (IsOpenUnit self.now.state) }
         ensures sound { IsSound self.now.state }
-        ensures headline { IsHeadline self.now }
-        ensures serializable { IsSerializable self.now }
     {
         // A copy for each call that takes the unit.
         let acts = asking;
@@ -77,6 +76,14 @@ impl Units {
         ensures { result ≡ place_at self.now.state queue.now }
     {
         self.core.store.temp_storage.next_place(queue)
+    }
+
+    /// Returns how many items a temporary storage queue has as it stands, the changes of open units
+    /// included. It is 0 for an absent queue.
+    pub fn item_count(&self, queue: &Name8) -> u64
+        ensures { result ≡ length (ts_queue self.now.store queue.now) }
+    {
+        self.core.store.temp_storage.item_count(queue)
     }
 
     /// Returns the recovery of a transient data queue, or None if no such queue is defined.
@@ -116,8 +123,6 @@ impl Units {
     /// Returns the executed commands with their units and answers, in order of execution.
     pub fn trace(&self) -> &[Entry]
         ensures trace { result.now ≡ self.now.state.trace }
-        ensures headline { IsHeadline self.now }
-        ensures serializable { IsSerializable self.now }
     {
         self.trace.as_slice()
     }
@@ -143,8 +148,6 @@ impl Units {
     ///   files and queues if the open units were backed out.
     pub fn commits(&self) -> &[UnitId]
         ensures commits { result.now ≡ self.now.state.commits }
-        ensures headline { IsHeadline self.now }
-        ensures serializable { IsSerializable self.now }
     {
         self.commits.as_slice()
     }
@@ -161,8 +164,6 @@ impl Units {
             ≡ listing_of self.now.state.opening self.now.store) }
         ensures replayed { IfOk result (λ listing. listing ≡ replayed_listing self.now.state.opening
             self.now.state.trace self.now.state.outcomes) }
-        ensures headline { IsHeadline self.now }
-        ensures serializable { IsSerializable self.now }
     {
         Listing::of_store(self.alloc, &self.opening, &self.core.store)
     }

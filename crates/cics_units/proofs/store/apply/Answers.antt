@@ -107,22 +107,22 @@ returns-in_ok-written-in-TsWrite-clause-applied c =
     let e = w.ensures in
     rw c.in-TsWrite.is (subst (λ x. IsApplied old (record old { temp_storage = rows }) c.args.images.now.newest_first c.add_temp_image.new.images.newest_first (TsWrite c.in-TsWrite.queue x)
     c.args.bound.now.recoverable c.args.bound.now.own c.numbered.result) c.in_ok-copy-in-TsWrite.ensures
-    (temp_applied old (TsWrite c.in-TsWrite.queue c.in_ok-copy-in-TsWrite.field-0) c.args.bound.now.recoverable c.args.bound.now.own c.args.images.now.newest_first rows w.written.image refl
+    (temp_applied old (TsWrite c.in-TsWrite.queue c.in_ok-copy-in-TsWrite.field-0) c.args.bound.now.recoverable c.args.bound.now.own c.args.images.now.newest_first rows w.written.changed.image refl
     (record { rising = e.rising; value = e.value; given = e.image; undoable = e.undoable; others = e.others })
     c.numbered.result (c.numbered.ensures ∙ (λ i. numbered (e.condition i) (e.number i))) c.add_temp_image.new.images.newest_first c.add_temp_image.ensures))
 
-pub returns-in_ok-from-in-TsRewrite-clause-applied : goal.returns-in_ok-from-in-TsRewrite-clause-applied
-returns-in_ok-from-in-TsRewrite-clause-applied c =
+pub returns-in_ok-written-in-TsRewrite-clause-applied : goal.returns-in_ok-written-in-TsRewrite-clause-applied
+returns-in_ok-written-in-TsRewrite-clause-applied c =
     let old = c.args.store.now in
-    let rows = c.rewrite-written.new.self in
-    let e = c.rewrite-written.ensures in
+    let rows = c.rewrite.new.self in
+    let e = c.in_ok-written-in-TsRewrite.ensures in
     let w = c.in-TsRewrite in
     let from = c.in_ok-from-in-TsRewrite in
     let kept = c.add_temp_image-in-TsRewrite in
     let answer = c.numbered-in-TsRewrite in
     rw w.is (subst (λ x. IsApplied old (record old { temp_storage = rows }) c.args.images.now.newest_first kept.new.images.newest_first (TsRewrite w.queue w.item x)
     c.args.bound.now.recoverable c.args.bound.now.own answer.result) from.ensures
-    (temp_applied old (TsRewrite w.queue w.item from.from) c.args.bound.now.recoverable c.args.bound.now.own c.args.images.now.newest_first rows c.rewrite-written.result.image refl
+    (temp_applied old (TsRewrite w.queue w.item from.from) c.args.bound.now.recoverable c.args.bound.now.own c.args.images.now.newest_first rows c.in_ok-written-in-TsRewrite.written.changed.image refl
     (record { rising = e.rising; value = e.value; given = e.image; undoable = e.undoable; others = e.others })
     answer.result (answer.ensures ∙ (λ i. numbered (e.condition i) (e.number i))) kept.new.images.newest_first kept.ensures))
 

@@ -68,25 +68,25 @@ returns-in_err-push-clause-kept c = λ w. ap (λ rows. kept_by rows w) c.in_err-
 pub returns-clause-kept : goal.returns-clause-kept
 returns-clause-kept c = λ w.
     let at = goal.at.returns-clause-kept c in
-    kept_replaced c.if-at-len.rows.items c.number-at.result w c.make_room.new.self (c.make_room.ensures.images ∙ held at.After-index_mut (begun at.After-index_mut).1) ∙ grown at.After-index_mut w
+    kept_replaced c.if-at-len.rows.items c.number-at.result w c.make_room_for.new.self (c.make_room_for.ensures.images ∙ held at.After-index_mut (begun at.After-index_mut).1) ∙ grown at.After-index_mut w
 
 pub returns-clause-longer : goal.returns-clause-longer
 returns-clause-longer c =
     let long = (begun (goal.at.returns-clause-longer c).After-index_mut).0 in
-    omega (arith, long, length-set c.if-at-len.rows.items c.number-at.result c.make_room.new.self)
+    omega (arith, long, length-set c.if-at-len.rows.items c.number-at.result c.make_room_for.new.self)
 
 pub returns-clause-begun : goal.returns-clause-begun
 returns-clause-begun c =
     let inside = (begun (goal.at.returns-clause-begun c).After-index_mut).1 in
-    let unit : c.args.unit < length (slice_set c.if-at-len.rows.items c.number-at.result c.make_room.new.self) =
-    omega (arith, inside, c.number-at.ensures, length-set c.if-at-len.rows.items c.number-at.result c.make_room.new.self) in
-    on_ok_weaker c.make_room.result (λ _. unit) c.make_room.ensures.ok
+    let unit : c.args.unit < length (slice_set c.if-at-len.rows.items c.number-at.result c.make_room_for.new.self) =
+    omega (arith, inside, c.number-at.ensures, length-set c.if-at-len.rows.items c.number-at.result c.make_room_for.new.self) in
+    on_ok_weaker c.make_room_for.result (λ _. unit) c.make_room_for.ensures.ok
 
 pub returns-clause-room : goal.returns-clause-room
 returns-clause-room c =
     let rows = c.if-at-len.rows.items in
     let unit = c.number-at.result in
     let inside = (begun (goal.at.returns-clause-room c).After-index_mut).1 in
-    on_ok_weaker c.make_room.result
-    (subst (λ n. c.args.count ≤ n) (sym (ap (room_of (slice_set rows unit c.make_room.new.self)) (sym c.number-at.ensures) ∙ room_set rows unit c.make_room.new.self inside)))
-    c.make_room.ensures.ok
+    on_ok_weaker c.make_room_for.result
+    (subst (λ n. c.args.count ≤ n) (sym (ap (room_of (slice_set rows unit c.make_room_for.new.self)) (sym c.number-at.ensures) ∙ room_set rows unit c.make_room_for.new.self inside)))
+    c.make_room_for.ensures.ok

@@ -1,16 +1,14 @@
 use Rattle.std.proofs.Common.{◌≡◌, ◌∙◌, sym, ap, subst, true}
 use Rattle.cics_history.proofs.Ready.{ready_short}
 use Rattle.cics_history.specs.Execution.{unit_or_next, IsOpenUnit, IsOpenOrNone, is_ready_op}
-use Rattle.cics_history.specs.Headline.{IsHeadline}
 use Rattle.cics_history.specs.State.{UnitsState}
 use Rattle.cics_history.specs.Holding.{awaited}
 use Rattle.cics_history.specs.Isolation.{IsSound}
-use Rattle.cics_history.specs.Serial.{IsSerializable}
 use Rattle.cics_history.specs.declared.ops.Op.{Op}
 use Rattle.cics_units.specs.Cores.{core_value}
 use Rattle.cics_units.specs.KeptUnits.{state_shown}
 use Rattle.cics_units.specs.Parts.{CoreValue}
-use Rattle.cics_units.proofs.KeptUnits.{kept_headline, kept_serializable, ready_fits}
+use Rattle.cics_units.proofs.KeptUnits.{ready_fits}
 use Rattle.cics_units.proofs.ShownUnits.{acts_of, if_open, awaited_is, waits_open, IsAsked, asked}
 use Rattle.cics_units.proofs.units.Units.awaited.Goals as goal
 use Rattle.cics_units.proofs.units.Units.awaited.Goals.{After-blocker}
@@ -63,9 +61,3 @@ returns-clause-is_open c =
 
 pub returns-clause-sound : goal.returns-clause-sound
 returns-clause-sound c = subst (λ v. IsSound v.state) c.self.view_is c.self.invariant.0.sound
-
-pub returns-clause-headline : goal.returns-clause-headline
-returns-clause-headline c = subst IsHeadline c.self.view_is (kept_headline _ _ _ c.self.invariant.0)
-
-pub returns-clause-serializable : goal.returns-clause-serializable
-returns-clause-serializable c = subst IsSerializable c.self.view_is (kept_serializable _ _ _ c.self.invariant.0)

@@ -1,10 +1,8 @@
 use Rattle.std.proofs.Common.{◌≡◌, subst, IfOk}
-use Rattle.cics_history.specs.Headline.{IsHeadline}
-use Rattle.cics_history.specs.Serial.{IsSerializable}
 use Rattle.cics_units.specs.Cores.{core_value}
 use Rattle.cics_units.specs.KeptUnits.{state_shown}
 use Rattle.cics_units.specs.Replay.Listings.{listing_of, replayed_listing}
-use Rattle.cics_units.proofs.KeptUnits.{store_is, kept_headline, kept_serializable}
+use Rattle.cics_units.proofs.KeptUnits.{store_is}
 use Rattle.cics_units.proofs.units.Units.listing.Goals as goal
 
 pub returns-clause-replayed : goal.returns-clause-replayed
@@ -14,9 +12,3 @@ returns-clause-replayed c =
     subst (λ v. IfOk c.of_store.result (λ l. l ≡ replayed_listing v.state.opening v.state.trace v.state.outcomes)) c.self.view_is
     (subst (λ m. IfOk c.of_store.result (λ l. l ≡ listing_of u.opening m))
     (store_is s (core_value u.core).stores u.core.locks c.self.invariant.0) c.of_store.ensures)
-
-pub returns-clause-headline : goal.returns-clause-headline
-returns-clause-headline c = subst IsHeadline c.self.view_is (kept_headline _ _ _ c.self.invariant.0)
-
-pub returns-clause-serializable : goal.returns-clause-serializable
-returns-clause-serializable c = subst IsSerializable c.self.view_is (kept_serializable _ _ _ c.self.invariant.0)

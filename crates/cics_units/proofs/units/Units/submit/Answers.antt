@@ -20,7 +20,7 @@ use Rattle.cics_units.specs.Executed.{IsExecuted}
 use Rattle.cics_units.proofs.AppliedKept.{given_own, seen_own}
 use Rattle.cics_units.proofs.Packable.{packable}
 use Rattle.cics_units.proofs.KeptUnits.{kept_headline, kept_serializable, ready_fits}
-use Rattle.cics_units.proofs.ShownUnits.{acts_of, in_lists, none_open_of, refused_kept, with_len, in_way, waits, waits_unchanged, waits_open, free_way, seen_way, parts_state, parts_kept, record_given, answered, IsAsked, asked as asked_of}
+use Rattle.cics_units.proofs.ShownUnits.{acts_of, in_lists, none_open_of, refused_kept, with_len, blocker_now, waits, waits_unchanged, waits_open, free_way, seen_way, parts_state, parts_kept, record_given, answered, IsAsked, asked as asked_of}
 use Rattle.cics_units.proofs.Enqueuing.{refused_shown}
 use Rattle.cics_units.proofs.RefusedCommands.{on_err}
 use Rattle.cics_units.proofs.units.Units.submit.Goals as goal
@@ -207,7 +207,7 @@ module _ (c : After-push_reserved)
   abbrev done_op : Op
   done_op = c.bind-bound.result.op.now
 
-  none : in_way c.self.inside.opening c.self.inside.trace.items c.self.inside.outcomes.items c.self.inside.commits.items (core_value c.self.inside.core) new c.self.invariant.0 c.args.unit done_op asked.acts ≡ None
+  none : blocker_now c.self.inside.opening c.self.inside.trace.items c.self.inside.outcomes.items c.self.inside.commits.items (core_value c.self.inside.core) new c.self.invariant.0 c.args.unit done_op asked.acts ≡ None
   none = sym asked.way ∙ c.in_default.is
 
   done : IsExecuted (core_value c.self.inside.core) new (unit_or_next c.args.unit c.self.inside.outcomes.items) done_op (is_recoverable c.self.inside.opening done_op) c.in_ok-answer.answer
