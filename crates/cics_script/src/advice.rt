@@ -3,9 +3,9 @@
 //! `push_advice` adds three lines behind what was printed. `specs/Advice` states them to the byte,
 //! but for the words of the message. `push_place` says which line they are about (`origin`). The
 //! fault is that of `crate::find_fault`, and so is its column, but within a literal (`placing`).
-//! `push_fault` does both. Tables say what to mend, by what stands in front of the column
-//! (`tables`, `messages`, `unknown`, `values`). `meant` finds the word that is meant, `bytes` says
-//! what bytes are. These words are tested, and no clause states them.
+//! Tables say what to mend, by what stands in front of the column (`tables`, `messages`, `unknown`,
+//! `values`). `meant` finds the word that is meant, `bytes` says what bytes are. These words are
+//! tested, and no clause states them.
 
 mod bytes;
 mod context;
@@ -20,6 +20,6 @@ mod unhandled;
 mod unknown;
 mod values;
 
-pub use messages::{Cause, push_advice, push_fault};
+pub use messages::{Cause, push_advice};
 pub use origin::{Origin, push_place};
 pub use unhandled::has_resp2_alone;

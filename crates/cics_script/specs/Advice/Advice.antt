@@ -1,11 +1,10 @@
 -- What a person is told of a faulty line: a message, the line round a column, and a caret under the
 -- column.
-use Rattle.std.specs.Prelude.{◌≡◌, ℕ, ◌+◌, ◌-◌, ◌==◌, ◌&&◌, nat_le, min, max, Bool, not, true, false, if◌then◌else◌, Option, Some, None, is_some, option_map, List, [], ◌∷◌, ◌++◌, map, length, take, drop, replicate, codes}
+use Rattle.std.specs.Prelude.{◌≡◌, ℕ, ◌+◌, ◌-◌, ◌==◌, ◌&&◌, nat_le, min, max, Bool, not, true, if◌then◌else◌, Option, Some, None, is_some, option_map, List, [], ◌∷◌, ◌++◌, map, length, take, drop, replicate, codes}
 use Rattle.std.specs.List.{prefix_len, list_any}
 use Rattle.cics_names.specs.Ebcdic.{code_of}
 use Rattle.cics_script.specs.Tokens.{is_quote, text_in}
 use Rattle.cics_script.specs.declared.literals.Notation.TheVariants.{Quoted}
-use Rattle.cics_script.specs.Columns.{IsFoundIn}
 use Rattle.cics_script.specs.Advice.Places.{place_text}
 use Rattle.cics_script.specs.declared.advice.origin.Origin.{Origin}
 use Rattle.cics_script.specs.declared.columns.Placed.{Placed}
@@ -83,8 +82,3 @@ IsColumnOf bytes (causes.Definition fault) column = is_some column ≡ true
 -- what is told of the line with this origin and cause
 abbrev pub Advises : Origin → List ℕ → Cause → List ℕ → List ℕ → Type 0
 Advises origin bytes cause before now = (column : Option ℕ) × IsColumnOf bytes cause column × Tells origin bytes before now column
-
--- a line is read and nothing is put, or what is told of its fault
-abbrev pub Checks : Origin → List ℕ → Bool → List ℕ → List ℕ → Type 0
-Checks origin bytes true before now = IsFoundIn bytes None × (now ≡ before)
-Checks origin bytes false before now = (placed : Placed) × IsFoundIn bytes (Some placed) × Advises origin bytes (causes.Line placed) before now

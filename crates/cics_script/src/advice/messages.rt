@@ -1,7 +1,7 @@
 //! What is at fault, and how it is mended.
 
 ghost use Rattle.std.specs.Prelude.{OnOk, IfOk};
-ghost use Rattle.cics_script.specs.Advice.Advice.{Advises, Checks, IsColumnOf};
+ghost use Rattle.cics_script.specs.Advice.Advice.{Advises, IsColumnOf};
 
 use crate::advice::bytes::{Unlisted, push_foreign};
 use crate::advice::context::{Context, is_one, is_word};
@@ -14,7 +14,7 @@ use crate::advice::unknown::of_unknown;
 use crate::advice::values::{Split, of_value};
 use crate::spelling::push_str;
 use crate::words::{is_excluded, option_named};
-use crate::{LineFault, Placed, find_fault};
+use crate::{LineFault, Placed};
 use cics_names::NoMemory;
 use std::alloc::Global;
 
@@ -45,21 +45,6 @@ pub fn push_advice(
     let message = message_at(*out.allocator(), line, cause, column)?;
     push_message(out, origin, Some(column), &message)?;
     push_marked(out, line, column)
-}
-
-/// Puts what a person needs to mend a line that can't be read. Returns whether it can be read: then
-/// nothing is put.
-pub fn push_fault(out: &mut Vec<u8>, origin: Origin<'_>, line: &[u8]) -> Result<bool, NoMemory>
-    ensures { IfOk result (λ is_read.
-        Checks origin.entry line.now is_read out.old.items out.new.items) }
-{
-    match find_fault(*out.allocator(), line)? {
-        Some(placed) => {
-            push_advice(out, origin, line, Cause::Line(placed))?;
-            Ok(false)
-        }
-        None => Ok(true),
-    }
 }
 
 // Returns what a person is told at a column.

@@ -68,6 +68,8 @@ pub const NAME8_AS: &str = "$ takes a name of 1 to 8 characters in quotes, as $(
 
 pub const NAME4_AS: &str = "$ takes a name of 1 to 4 characters in quotes, as $('%')";
 
+pub const DATA_NAME: &str = "a script has values where a program has data names+";
+
 pub const LENGTH_OF: &str = "LENGTH OF isn't modelled: the number is written out+";
 
 pub const UNCLOSED: &str = "this quote isn't closed: a literal ends with one";
@@ -162,21 +164,10 @@ pub static SIGNS: [(&str, &str); 12] = [
 
 const OWN_LINE: &str = "a comment is a line of its own, and begins with *";
 
-/// Signs with which no line begins, and what to do about them.
-pub static FIRST_SIGNS: [(&str, &str); 7] = [
-    ("-", COMMENT),
-    ("#", COMMENT),
-    ("/", COMMENT),
-    (";", COMMENT),
-    ("!", COMMENT),
-    ("%", COMMENT),
-    (
-        ">",
-        "a line of a printed journal is no line of a script: leave out the > in front",
-    ),
-];
+pub const JOURNAL_LINE: &str =
+    "a line of a printed journal is no line of a script: leave out the > in front";
 
-const COMMENT: &str = "a comment begins with *";
+pub const COMMENT: &str = "a comment begins with *";
 
 /// Characters that no line has, and what is told of them behind their bytes.
 pub static FOREIGN: [(&str, &str); 9] = [
@@ -235,8 +226,8 @@ pub static CODES: [(u8, u8); 11] = [
     (b'~', 0xA1),
 ];
 
-/// What has to stand behind the first word of a line.
-pub static SECOND: [(&str, &str); 4] = [
+/// What has to stand behind the first word of a line, or in its place.
+pub static SECOND: [(&str, &str); 8] = [
     ("DEFINE", "DEFINE defines a FILE, a TSPREFIX or a TDQUEUE"),
     ("LOAD", "LOAD loads a record into a FILE or a TDQUEUE"),
     (
@@ -244,6 +235,16 @@ pub static SECOND: [(&str, &str); 4] = [
         "ATTACH is followed by a label of up to 8 letters and digits, as ATTACH T1",
     ),
     ("SHUTDOWN", "SHUTDOWN is written SHUTDOWN IMMEDIATE"),
+    ("WAIT DELAY SLEEP TIME", "CLOCK moves the time, as CLOCK 30"),
+    (
+        "TASK START BEGIN RUN",
+        "ATTACH begins a task, as ATTACH T1 TRANSID('MOVE')",
+    ),
+    (
+        "END STOP EXIT",
+        "RETURN ends a task, as T1 EXEC CICS RETURN",
+    ),
+    ("REM NOTE COMMENT", COMMENT),
 ];
 
 /// Definition faults by number and a word of the line: the words for the caret, best first, and the

@@ -4,7 +4,7 @@ use crate::advice::context::{Context, is_one, is_word};
 use crate::advice::filling::{Told, text_on};
 use crate::advice::meant::{meant_option, meant_start, meant_verb};
 use crate::advice::tables::{
-    FIRST_SIGNS, NO_CICS, NO_COMMAND, NO_COMMAND_BUT, NO_LINE, NO_OPTION, NO_OPTION_BUT,
+    COMMENT, JOURNAL_LINE, NO_CICS, NO_COMMAND, NO_COMMAND_BUT, NO_LINE, NO_OPTION, NO_OPTION_BUT,
     NO_OPTIONS, NO_PARENTHESES, NO_VERB, NO_VERB_BUT, NO_VERBS, SECOND, SIGNS,
 };
 use crate::advice::values::is_broken;
@@ -42,12 +42,12 @@ pub fn of_unknown<'a>(alloc: Global, context: &Context<'a>) -> Result<Told<'a>, 
 
 // Returns the text for a word behind the first one, or behind EXEC.
 fn of_second<'a>(alloc: Global, context: &Context<'a>) -> Result<Told<'a>, NoMemory> {
-    if let Some(text) = text_on(&SECOND, context.at(0)) {
-        return Ok((text, &[]));
-    }
     if is_word(context.before(1), "EXEC") {
         let is_other = is_one(context.token, "SQL DLI");
         return Ok((if is_other { NO_CICS } else { NO_COMMAND }, &[]));
+    }
+    if let Some(text) = text_on(&SECOND, context.at(0)) {
+        return Ok((text, &[]));
     }
     Ok(match meant_start(alloc, context.at(0))? {
         Some(word) => (NO_COMMAND_BUT, word.as_bytes()),
@@ -80,18 +80,20 @@ fn of_option<'a>(alloc: Global, context: &Context<'a>) -> Result<Told<'a>, NoMem
     })
 }
 
-// Returns the text of a table on the sign with which a token begins.
-fn text_on_sign(rows: &[(&str, &'static str)], token: &[u8]) -> Option<&'static str> {
-    let mut rows = rows.iter();
-    let found = rows.find(|row| token.starts_with(row.0.as_bytes()));
-    found.map(|row| row.1)
+// Returns the text for a sign that begins no line.
+fn of_first_sign(token: &[u8]) -> &'static str {
+    match token.first() {
+        Some(b'-' | b'#' | b'/' | b';' | b'!' | b'%') => COMMENT,
+        Some(b'>') => JOURNAL_LINE,
+        _ => NO_LINE,
+    }
 }
 
 // Returns the text for a sign that begins no token, also at the start of a line, in a label or
 // right behind it.
 fn of_sign(context: &Context<'_>) -> &'static str {
     let is_in_label = match context.front.len() {
-        0 => return text_on_sign(&FIRST_SIGNS, context.token).unwrap_or(NO_LINE),
+        0 => return of_first_sign(context.token),
         1 => start_of(context.at(0)).is_none(),
         2 => is_word(context.at(0), "ATTACH"),
         _ => false,
@@ -99,5 +101,7 @@ fn of_sign(context: &Context<'_>) -> &'static str {
     if is_in_label {
         return "a label has letters and digits alone";
     }
-    text_on_sign(&SIGNS, context.token).unwrap_or(NO_OPTION)
+    let mut rows = SIGNS.iter();
+    let found = rows.find(|row| context.token.starts_with(row.0.as_bytes()));
+    found.map_or(NO_OPTION, |row| row.1)
 }

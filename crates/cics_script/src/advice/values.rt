@@ -3,7 +3,7 @@
 use crate::advice::context::{Context, is_word};
 use crate::advice::filling::{Told, push_start};
 use crate::advice::tables::{
-    ITEM_NUMBER, LENGTH_OF, NAME4_AS, NAME8_AS, NO_PARENTHESES, UNCLOSED, UNCLOSED_VALUE,
+    DATA_NAME, ITEM_NUMBER, LENGTH_OF, NAME4_AS, NAME8_AS, NO_PARENTHESES, UNCLOSED, UNCLOSED_VALUE,
 };
 use crate::spelling::push_str;
 use crate::whole_token;
@@ -107,8 +107,8 @@ fn of_second_value(context: &Context<'_>) -> &'static str {
     }
 }
 
-// Returns whether a token is a word, and no hexadecimal literal.
-fn is_data_name(token: &[u8]) -> bool {
+// Returns whether a token is a word without quotes.
+fn is_bare(token: &[u8]) -> bool {
     token
         .first()
         .is_some_and(|first| first.is_ascii_alphabetic())
@@ -118,16 +118,16 @@ fn is_data_name(token: &[u8]) -> bool {
 // Returns what the option of an opening parenthesis takes.
 fn of_content(context: &Context<'_>, option: &[u8]) -> &'static str {
     let length = context.token.len();
-    match (context.kind_of(option), is_data_name(context.token)) {
+    match (context.kind_of(option), is_bare(context.token)) {
         (Some(Kind::Name8 | Kind::Name4), _) if is_unclosed(context.token) => UNCLOSED_VALUE,
+        (Some(Kind::Name8 | Kind::Name4), true) if context.token.contains(&b'-') => DATA_NAME,
         (Some(Kind::Name8), true) if length <= 8 => NAME8_AS,
         (Some(Kind::Name8), _) => "$ takes a name of 1 to 8 characters in quotes+",
         (Some(Kind::Name4), true) if length <= 4 => NAME4_AS,
         (Some(Kind::Name4), _) => "$ takes a name of 1 to 4 characters in quotes+",
-        (Some(Kind::Text), true) => "$ takes a literal, no data name+",
         (Some(Kind::Text), false) => "$ takes a literal in quotes+",
         (Some(Kind::Number), _) if is_word(context.token, "LENGTH") => LENGTH_OF,
-        (Some(Kind::Number), true) => "$ takes a number, no data name+",
+        (Some(Kind::Text | Kind::Number), true) => DATA_NAME,
         (Some(Kind::Number), false) => "$ takes a number without quotes+",
         _ => "$ takes a word in parentheses+",
     }
