@@ -3,3 +3,4 @@ pub mod OfStage
 mod OfListing
 pub mod OfWhole
 pub mod OfTold
+pub mod OfReads

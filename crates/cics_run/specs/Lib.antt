@@ -3,3 +3,4 @@ pub mod Stage
 pub mod Listing
 pub mod Whole
 pub mod Told
+pub mod Reads

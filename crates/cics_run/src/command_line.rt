@@ -32,6 +32,12 @@ first sixteen tasks. Marks in a lane show events of its task, and bars show its
 units of work. An arrow goes from each wait to the task that is waited for, if
 both have lanes. The picture is written at the end of the run.
 
+With --reads the output tells what reads without a lock saw and missed, with the
+numbers of the lines. DIRTY READ: a read saw what wasn't committed. LOST UPDATE: a
+task replaced a change that its last look had missed. READ SKEW: a turn saw one
+part of a unit and missed another. WRITE SKEW: two turns each changed what the
+other one had only looked at.
+
 The report on the orders has what all endings share, and then each ending: how
 many orders and serial orders lead to it, the first of these orders, and the rest
 of the ending. In a serial order each turn of a task, up to SYNCPOINT or its end,
@@ -40,7 +46,8 @@ lines in the script's own order. The script of an ending can be run: it gives th
 lines in its first order.
 
 Exit status:
-  0  the whole script was run, or the help or the version was printed
+  0  all that was asked for was done: a run, a check, a picture, a report on
+     orders, the help or the version
   1  a line or a definition has a fault: the output ends with it, or with --check
      standard error says it of each line
   2  bad arguments, a script that can't be opened, or no ending has this number
@@ -49,7 +56,8 @@ Exit status:
      picture would show more than 100,000 lines of the journal
   5  with --strict: the whole script was run, and an event was refused, a task was
      abended by a condition or a time-out, or a task still waits at the end; with
-     --orders: an ending has a deadlock, or no serial order leads to it
+     --reads also a finding that doesn't end in COMMITTED; with --orders: an ending
+     has a deadlock, or no serial order leads to it
 
 Each option, on examples of the repository:
   cicsrun examples/lost-update.cics
@@ -60,6 +68,7 @@ Each option, on examples of the repository:
   cicsrun --strict examples/deadlock.cics
   cicsrun --why examples/race.cics
   cicsrun --check examples/race.cics
+  cicsrun --reads examples/lost-update.cics
   cicsrun --picture examples/deadlock.cics > deadlock.svg
   cicsrun --orders --limit 5 examples/race.cics
   cicsrun --orders --told examples/race.cics
@@ -85,10 +94,11 @@ const STATES: u64 = 30_000;
 /// What the help says of that.
 const LIMIT: &str = "Follow about N states (30000)";
 
-/// The options of a run, the picture and the check. The last two go with no other option, and the
-/// first one goes with orders too.
-static RUNS: [&str; 8] = [
+/// The options of a run, and those that go with none of them: the picture and the check. The first
+/// two go with orders too.
+static RUNS: [&str; 9] = [
     "strict",
+    "reads",
     "no-list",
     "replay",
     "serial",
@@ -98,35 +108,48 @@ static RUNS: [&str; 8] = [
     "check",
 ];
 
-/// What a command line asks for.
+/// What words ask of a run that reads standard input.
 ///
-/// - `Run`: a run of a script, with no option that goes beyond these.
+/// - `Run`: a run of a script.
 /// - `Help`: the help or the version, which is to go to standard output.
-/// - `Bad`: nothing that the program knows. The text says what is wrong, and is to go to standard
-///   error.
-/// - `Extended`: a run that goes beyond `Run`.
-/// - `Check`: what is at fault in the lines of a script, which isn't run.
-/// - `Picture`: the picture of a run.
-/// - `Orders`: a report on the orders of a script's lines, or one of them as a script. `progress`
-///   asks for lines on standard error that say how far the search is.
+/// - `Bad`: nothing of these. The text says what is wrong, and is to go to standard error.
 #[derive(Drop)]
 pub enum Asked {
     Run(Options),
     Help(String),
     Bad(String),
-    Extended(Wanted),
+}
+
+/// What the program is to do.
+///
+/// - `Run`: a run of a script.
+/// - `Check`: what is at fault in the lines of a script, which isn't run.
+/// - `Picture`: the picture of a run.
+/// - `Orders`: a report on the orders of a script's lines, or one of them as a script. `progress`
+///   asks for lines on standard error that say how far the search is.
+/// - `Help`: the help or the version, which is to go to standard output.
+/// - `Bad`: nothing that the program knows. The text says what is wrong, and is to go to standard
+///   error.
+#[derive(Drop)]
+pub enum Action {
+    Run(Wanted),
     Check,
     Picture,
     Orders { wanted: Orders, progress: bool },
+    Help(String),
+    Bad(String),
 }
 
-/// A command line: what it asks for, and the name of the script's file. Without a name the script
-/// comes from standard input.
+/// A command line: what the program is to do, and the name of the script's file. Without a name the
+/// script comes from standard input.
 #[derive(Drop)]
 pub struct CommandLine {
-    pub asked: Asked,
+    pub action: Action,
     pub script: Option<String>,
 }
+
+// What is said of words that the program knows and `Asked` has no form for.
+const BEYOND: &str = "error: more is asked for than a run of standard input\n";
 
 /// Reads the words of a command line, of which the first is the program's name.
 ///
@@ -134,9 +157,10 @@ pub struct CommandLine {
 /// input. These are bad:
 ///
 /// - an option that is given twice, and a second file;
-/// - `--serial` beside `--with-script`, and any option beside `--picture` and beside `--check`;
+/// - `--serial` beside `--with-script`, and any option beside `--picture` or `--check`;
 /// - `--told`, `--limit`, `--ending` and `--progress` without `--orders`, any other option but
-///   `--strict` beside it, and a number that isn't from 1 on;
+///   `--strict` and `--reads` beside it, and a number that isn't from 1 on;
+/// - `--reads` beside `--ending`, and beside `--orders` without `--told`;
 /// - an option that the help doesn't have. Behind `--` each word names a file.
 ///
 /// The only error is `NoMemory`.
@@ -147,25 +171,30 @@ pub fn read_arguments(alloc: Global, words: Vec<String>) -> Result<CommandLine, 
     }
 }
 
-/// Returns what the words of a command line ask for (`read_arguments`).
+/// Returns what the words of a command line ask of a run that reads standard input, with no option
+/// beyond `Options`. Words that ask for more are bad: `read_arguments` reads them.
 pub fn arguments(alloc: Global, words: Vec<String>) -> Result<Asked, NoMemory> {
-    let CommandLine {
-        asked,
-        script: _script,
-    } = read_arguments(alloc, words)?;
-    Ok(asked)
+    let CommandLine { action, script } = read_arguments(alloc, words)?;
+    Ok(match action {
+        Action::Run(wanted) if script.is_none() && !wanted.goes_beyond() => {
+            Asked::Run(wanted.options)
+        }
+        Action::Help(text) => Asked::Help(text),
+        Action::Bad(text) => Asked::Bad(text),
+        _ => Asked::Bad(BEYOND.to_string(alloc)?),
+    })
 }
 
 // Returns what an error asks for. The help and the version are errors too.
 fn told_error(alloc: Global, error: &Error) -> Result<CommandLine, NoMemory> {
     let text = error.to_string(alloc)?;
-    let asked = match error.kind() {
-        ErrorKind::DisplayHelp | ErrorKind::DisplayVersion => Asked::Help(text),
+    let action = match error.kind() {
+        ErrorKind::DisplayHelp | ErrorKind::DisplayVersion => Action::Help(text),
         ErrorKind::OutOfMemory => return Err(NoMemory),
-        _ => Asked::Bad(text),
+        _ => Action::Bad(text),
     };
     Ok(CommandLine {
-        asked,
+        action,
         script: None,
     })
 }
@@ -188,14 +217,14 @@ fn number<'a>(alloc: Global, name: &'a str, help: &'a str) -> Result<Arg<'a>, Al
     apart_from_runs(number.requires_arg("orders")?)
 }
 
-// Returns an option that goes with no option of a run but `--strict`.
+// Returns an option that goes with no option of a run but `--strict` and `--reads`.
 fn apart_from_runs<'a>(arg: Arg<'a>) -> Result<Arg<'a>, AllocError> {
-    arg.conflicts_with_all(&RUNS[1..])
+    arg.conflicts_with_all(&RUNS[2..])
 }
 
 // Returns an option that goes with no option of a run, not even `--strict`.
 fn apart_from_options<'a>(arg: Result<Arg<'a>, AllocError>) -> Result<Arg<'a>, AllocError> {
-    arg?.conflicts_with_all(&RUNS[..6])
+    arg?.conflicts_with_all(&RUNS[..7])
 }
 
 // Adds an option to a command line. It takes the results of the calls before: so a row of calls has
@@ -218,9 +247,11 @@ fn with_orders<'a>(
     let ending = "Print the first order of ending N as a script";
     let progress = "Print on standard error how far the search is";
     let command = with(runs, apart_from_runs(flag(alloc, "orders", orders)));
-    let command = with(command, orders_flag(flag(alloc, "told", told)));
+    let told = orders_flag(flag(alloc, "told", told));
+    let command = with(command, wanted_by_reads(told));
     let command = with(command, number(alloc, "limit", LIMIT));
-    let command = with(command, number(alloc, "ending", ending));
+    let ending = number(alloc, "ending", ending);
+    let command = with(command, apart_from_reads(ending));
     with(command, orders_flag(flag(alloc, "progress", progress)))
 }
 
@@ -229,24 +260,43 @@ fn orders_flag<'a>(flag: Arg<'a>) -> Result<Arg<'a>, AllocError> {
     apart_from_runs(flag.requires_arg("orders")?)
 }
 
-// Adds the options of a run, and those that go with none of them: a picture and a check.
+// Returns `--told`, which `--orders --reads` needs.
+fn wanted_by_reads<'a>(told: Result<Arg<'a>, AllocError>) -> Result<Arg<'a>, AllocError> {
+    told?.required_if_eq_all(&[("orders", "true"), ("reads", "true")])
+}
+
+// Returns `--ending`, which goes without `--reads`.
+fn apart_from_reads<'a>(ending: Result<Arg<'a>, AllocError>) -> Result<Arg<'a>, AllocError> {
+    ending?.conflicts_with("reads")
+}
+
+// Adds the options of a run.
 fn with_runs<'a>(alloc: Global, command: Command<'a>) -> Result<Command<'a>, AllocError> {
     let serial = "Print the serial run after the listing and the replay";
     let script = "Print each line of the script before its journal lines";
     let script = flag(alloc, "with-script", script).conflicts_with("serial");
     let strict = "End with status 5 if something is amiss";
     let why = "Say why each condition was raised, handled ones too";
-    let picture = "Print a picture of the run (SVG) in place of all that";
-    let picture = Ok(flag(alloc, "picture", picture));
-    let check = "Say what is at fault in each line, and run nothing";
-    let check = flag(alloc, "check", check).conflicts_with("picture");
+    let reads = "Print dirty reads, lost updates and skews";
     let command = command.arg(flag(alloc, "no-list", "Leave out the listing"));
     let replay = flag(alloc, "replay", "Print the replay after the listing");
     let command = with(command, Ok(replay));
+    let command = with(command, Ok(flag(alloc, "reads", reads)));
     let command = with(command, Ok(flag(alloc, "serial", serial)));
     let command = with(command, script);
     let command = with(command, Ok(flag(alloc, "strict", strict)));
-    let command = with(command, Ok(flag(alloc, "why", why)));
+    with(command, Ok(flag(alloc, "why", why)))
+}
+
+// Adds the options that go with no other: the picture and the check.
+fn with_lone_options<'a>(
+    alloc: Global,
+    command: Result<Command<'a>, AllocError>,
+) -> Result<Command<'a>, AllocError> {
+    let picture = "Print a picture of the run (SVG) in place of all that";
+    let check = "Say what is at fault in each line, and run nothing";
+    let picture = Ok(flag(alloc, "picture", picture));
+    let check = flag(alloc, "check", check).conflicts_with("picture");
     let command = with(command, apart_from_options(picture));
     with(command, apart_from_options(check))
 }
@@ -264,7 +314,8 @@ fn command<'a>(alloc: Global) -> Result<Command<'a>, AllocError> {
         .version(VERSION)
         .about(ABOUT)
         .after_help(MORE);
-    let command = with_orders(alloc, with_runs(alloc, named));
+    let runs = with_lone_options(alloc, with_runs(alloc, named));
+    let command = with_orders(alloc, runs);
     with(command, Ok(script(alloc)))
 }
 
@@ -275,18 +326,18 @@ fn read_words(alloc: Global, words: &[String]) -> Result<CommandLine, Error> {
         Some(name) => Some(name.to_string(alloc)?),
     };
     Ok(CommandLine {
-        asked: chosen(&matches),
+        action: chosen(&matches),
         script,
     })
 }
 
 // Returns what the options that were given ask for.
-fn chosen(matches: &ArgMatches) -> Asked {
+fn chosen(matches: &ArgMatches) -> Action {
     if matches.get_flag("check") {
-        return Asked::Check;
+        return Action::Check;
     }
     if matches.get_flag("picture") {
-        return Asked::Picture;
+        return Action::Picture;
     }
     if matches.get_flag("orders") {
         let wanted = Orders {
@@ -294,28 +345,25 @@ fn chosen(matches: &ArgMatches) -> Asked {
             limit: matches.get_one("limit").unwrap_or(STATES),
             ending: matches.get_one("ending"),
             strict: matches.get_flag("strict"),
+            reads: matches.get_flag("reads"),
         };
         let progress = matches.get_flag("progress");
-        return Asked::Orders { wanted, progress };
+        return Action::Orders { wanted, progress };
     }
-    run_of(matches)
+    Action::Run(wanted_run(matches))
 }
 
-// Returns what kind of run the options ask for.
-fn run_of(matches: &ArgMatches) -> Asked {
-    let options = Options {
-        replay: matches.get_flag("replay"),
-        no_list: matches.get_flag("no-list"),
-    };
-    let beyond = ["serial", "with-script", "strict", "why"];
-    if !beyond.iter().any(|name| matches.get_flag(name)) {
-        return Asked::Run(options);
-    }
-    Asked::Extended(Wanted {
-        options,
+// Returns the run that the options ask for.
+fn wanted_run(matches: &ArgMatches) -> Wanted {
+    Wanted {
+        options: Options {
+            replay: matches.get_flag("replay"),
+            no_list: matches.get_flag("no-list"),
+        },
+        reads: matches.get_flag("reads"),
         serial: matches.get_flag("serial"),
         with_script: matches.get_flag("with-script"),
         strict: matches.get_flag("strict"),
         why: matches.get_flag("why"),
-    })
+    }
 }

@@ -3,6 +3,7 @@
 
 mod command_line;
 pub mod listing;
+pub mod reads;
 pub mod session;
 pub mod stage;
 pub mod told;
@@ -12,4 +13,4 @@ pub use crate::session::{
     CHUNK, Failed, LIMIT, Options, Orders, RunFault, Session, Sink, Source, Status, Stop, Wanted,
     exit_status, line_len, run, run_over, strict_status, write_all, write_pending,
 };
-pub use command_line::{Asked, CommandLine, arguments, read_arguments};
+pub use command_line::{Action, Asked, CommandLine, arguments, read_arguments};

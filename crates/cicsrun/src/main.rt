@@ -13,7 +13,7 @@ use cics_picture::draw::{NoPicture, run_picture};
 use cics_run::told::{is_amiss, told_at_end, told_of};
 use cics_run::whole::{check_script, read_script};
 use cics_run::{
-    Asked, CommandLine, Options, Orders, RunFault, Session, Status, Wanted, exit_status,
+    Action, CommandLine, Options, Orders, RunFault, Session, Status, Wanted, exit_status,
     read_arguments, run_over, strict_status,
 };
 use std::io::ErrorKind;
@@ -68,21 +68,20 @@ fn ended(rt: HostRuntime, status: Result<u8, Stopped>) -> ExitCode {
 
 // Does what a command line asks for, and returns the exit status.
 fn answer(rt: HostRuntime, line: CommandLine) -> Result<u8, Stopped> {
-    let CommandLine { asked, script } = line;
-    match asked {
-        Asked::Help(text) => match print!(rt; "{text}") {
+    let CommandLine { action, script } = line;
+    match action {
+        Action::Help(text) => match print!(rt; "{text}") {
             Ok(()) => Ok(exit_status(&Ok(Status::Done))),
             Err(_) => Err(Stopped::Fault(RunFault::WriteFault)),
         },
-        Asked::Bad(text) => {
+        Action::Bad(text) => {
             let _ = eprint!(rt; "{text}");
             Ok(BAD_ARGUMENTS)
         }
-        Asked::Run(options) => run_to_the_end(rt, opened(rt, script)?, Wanted::plain(options)),
-        Asked::Extended(wanted) => run_to_the_end(rt, opened(rt, script)?, wanted),
-        Asked::Check => check_to_the_end(rt, opened(rt, script)?),
-        Asked::Picture => draw_to_the_end(rt, opened(rt, script)?),
-        Asked::Orders { wanted, progress } => {
+        Action::Run(wanted) => run_to_the_end(rt, opened(rt, script)?, wanted),
+        Action::Check => check_to_the_end(rt, opened(rt, script)?),
+        Action::Picture => draw_to_the_end(rt, opened(rt, script)?),
+        Action::Orders { wanted, progress } => {
             follow_orders(rt, opened(rt, script)?, wanted, progress)
         }
     }
@@ -221,7 +220,7 @@ fn command_line(rt: HostRuntime) -> Result<CommandLine, RunFault> {
         Err(_) => {
             return match "error: an argument is not UTF-8\n".to_string(rt.alloc()) {
                 Ok(text) => Ok(CommandLine {
-                    asked: Asked::Bad(text),
+                    action: Action::Bad(text),
                     script: None,
                 }),
                 Err(_) => Err(RunFault::NoMemory),

@@ -7,15 +7,17 @@ use Rattle.std.specs.Prelude.{Result, Ok, Err, IfOk, OnOk, OnErr, is_some, ◌||
 use Rattle.std.specs.Io.KnownBytes.{Appends}
 use Rattle.cics_run.specs.Session.Lines.{completed, unfinished, last_line, all_lines}
 use Rattle.cics_run.specs.Session.Printing.{AppendsFront, Prints}
-use Rattle.cics_run.specs.Session.Running.{Form, Played, has_fault, next, play, start, stepped, journal_of, journal, whole, output, is_faulty}
+use Rattle.cics_run.specs.Session.Running.{Form, Played, are_reads_amiss, has_fault, next, play, start, stepped, journal_of, journal, whole, output, is_faulty}
 use Rattle.cics_run.specs.Stage.Amiss.{any_amiss}
+use Rattle.cics_run.specs.Reads.Watched.{Watched}
+use Rattle.cics_run.specs.Stage.Printed.{watched_by}
 use Rattle.cics_run.specs.Stage.Stages.{region_of}
 use Rattle.cics_run.specs.Session.Standing.{next_step, next_text, Ran, Stands, Keeps, IsClosed, Closes, HasEnd, HasTold}
 use Rattle.cics_run.specs.declared.stage.stage.Stage.{Stage}
 use Rattle.cics_run.specs.declared.stage.stage.Stage.TheVariants.{Running}
 use Rattle.cics_run.specs.declared.session.session.Session.{Session}
 use Rattle.cics_run.proofs.OfSession.Printing.{prints-prints, prints-all, prints-front, prints-written, front-longer}
-use Rattle.cics_run.proofs.OfSession.Playing.{next-going, journal-stepped, told-stepped, whole-front}
+use Rattle.cics_run.proofs.OfSession.Playing.{next-going, journal-stepped, told-stepped, watched-stepped, whole-front}
 
 -- no line is left
 pub closed-empty : (form : Form) (bytes : List ℕ) (before now : Option (List ℕ)) (s : Session) → Stands form bytes before now s → length s.line.items ≡ 0 → IsClosed form bytes before now s false
@@ -27,6 +29,7 @@ closed-empty form bytes before now s at empty =
       stage = ap (λ p. p.stage) same ∙ sym at.stage;
       amiss = at.amiss ∙ sym (ap (λ p. p.is_amiss) same);
       told = at.told ∙ sym (ap (λ p. p.told form.scope) same);
+      watched = at.watched ∙ sym (ap (λ p. p.watched form.reads) same);
       printed = subst (Prints before now [] s.journal.text.items) (sym (ap (journal_of form) same)) at.printed;
       kept = λ never. absurd (true≢false (sym never));
     }
@@ -57,6 +60,8 @@ module _ (form : Form) (bytes : List ℕ) (before old : Option (List ℕ)) (s : 
         amiss = ran.amiss ∙ ap (λ b. b || any_amiss (next_step s s.line.items).events) at.amiss ∙ sym (ap (λ p. p.is_amiss) play-last);
         told = ran.told ∙ told-stepped (play (completed bytes)) form.scope s.journal.told s.number s.line.items (next_step s s.line.items) at.told at.number
             ∙ sym (ap (λ p. p.told form.scope) play-last);
+        watched = ran.watched ∙ watched-stepped (play (completed bytes)) form.reads (watched_by s.journal) s.number s.line.items (next_step s s.line.items) at.watched at.number
+            ∙ sym (ap (λ p. p.watched form.reads) play-last);
         printed = subst (Prints before now [] t.journal.text.items) (sym journal-last)
             (prints-prints before old now [] s.journal.text.items t.journal.text.items (journal form bytes) (next_text s s.line.items) at.printed text);
         kept = λ is. record {
@@ -87,10 +92,14 @@ pub front-output : (form : Form) (bytes : List ℕ) (before now : Option (List �
 front-output form bytes before now front = front-longer before now (journal_of form (play (all_lines bytes))) (output form bytes) (whole-front form (play (all_lines bytes))) front
 
 whole-fault : (form : Form) (p : Played) → has_fault p ≡ true → whole form p ≡ journal_of form p
-whole-fault form p fault = let j = journal_of form p in subst (λ b. cond b j (j ++ form.ending p.stage) ≡ j) (sym fault) refl
+whole-fault form p fault =
+    let j = journal_of form p in
+    let ends = form.ending p.stage (p.watched form.reads) in subst (λ b. cond b j (j ++ ends) ≡ j) (sym fault) refl
 
-whole-going : (form : Form) (p : Played) → has_fault p ≡ false → whole form p ≡ journal_of form p ++ form.ending p.stage
-whole-going form p going = let j = journal_of form p in subst (λ b. cond b j (j ++ form.ending p.stage) ≡ j ++ form.ending p.stage) (sym going) refl
+whole-going : (form : Form) (p : Played) → has_fault p ≡ false → whole form p ≡ journal_of form p ++ form.ending p.stage (p.watched form.reads)
+whole-going form p going =
+    let j = journal_of form p in
+    let ends = form.ending p.stage (p.watched form.reads) in subst (λ b. cond b j (j ++ ends) ≡ j ++ ends) (sym going) refl
 
 -- the last line was a fault, and nothing is pending
 pub fault-written : (form : Form) (bytes : List ℕ) (before now : Option (List ℕ)) (s : Session) → IsClosed form bytes before now s true → s.journal.text.items ≡ []
@@ -105,25 +114,30 @@ fault-written form bytes before now s closed none =
     )
 
 -- the text of a whole run: the journal, and behind it the listing
-output-going : (form : Form) (bytes : List ℕ) (stage : Stage) → has_fault (play (all_lines bytes)) ≡ false → (play (all_lines bytes)).stage ≡ stage
-    → output form bytes ≡ journal_of form (play (all_lines bytes)) ++ form.ending stage
-output-going form bytes stage going same =
-    whole-going form (play (all_lines bytes)) going ∙ ap (λ s. journal_of form (play (all_lines bytes)) ++ form.ending s) same
+output-going : (form : Form) (bytes : List ℕ) (stage : Stage) (watched : Option Watched) → has_fault (play (all_lines bytes)) ≡ false → (play (all_lines bytes)).stage ≡ stage
+    → watched ≡ (play (all_lines bytes)).watched form.reads
+    → output form bytes ≡ journal_of form (play (all_lines bytes)) ++ form.ending stage watched
+output-going form bytes stage watched going same noted =
+    whole-going form (play (all_lines bytes)) going ∙ (λ i. journal_of form (play (all_lines bytes)) ++ form.ending (same i) (sym noted i))
 
 pub end-written : (form : Form) (bytes : List ℕ) (before old now : Option (List ℕ)) (s t : Session) → IsClosed form bytes before old s false
-    → Appends old now (s.journal.text.items ++ form.ending s.stage) → t.stage ≡ Running (region_of s.stage) → t.journal.is_amiss ≡ s.journal.is_amiss → t.journal.told ≡ s.journal.told
-    → Appends before now (output form bytes) × (is_faulty bytes ≡ false) × HasEnd t (play (all_lines bytes)) × HasTold form.scope t (play (all_lines bytes))
+    → Appends old now (s.journal.text.items ++ form.ending s.stage (watched_by s.journal)) → t.stage ≡ Running (region_of s.stage) → t.journal.is_amiss ≡ (s.journal.is_amiss || are_reads_amiss (watched_by s.journal)) → t.journal.told ≡ s.journal.told
+    → Appends before now (output form bytes) × (is_faulty bytes ≡ false) × HasEnd form.reads t (play (all_lines bytes)) × HasTold form.scope t (play (all_lines bytes))
 end-written form bytes before old now s t closed took opened same told =
     let j = journal_of form (play (all_lines bytes)) in
-    let all = prints-prints before old now [] s.journal.text.items [] j (form.ending s.stage) closed.printed (prints-written old now s.journal.text.items (form.ending s.stage) took) in (
-      subst (Appends before now) (sym (output-going form bytes s.stage closed.fault closed.stage)) (prints-all before now [] (j ++ form.ending s.stage) all),
+    let ends = form.ending s.stage (watched_by s.journal) in
+    let all = prints-prints before old now [] s.journal.text.items [] j ends closed.printed (prints-written old now s.journal.text.items ends took) in (
+      subst (Appends before now) (sym (output-going form bytes s.stage (watched_by s.journal) closed.fault closed.stage closed.watched)) (prints-all before now [] (j ++ ends) all),
       closed.fault,
-      record { stage = opened ∙ ap (λ stage. Running (region_of stage)) (sym closed.stage); amiss = same ∙ closed.amiss },
+      record {
+        stage = opened ∙ ap (λ stage. Running (region_of stage)) (sym closed.stage);
+        amiss = same ∙ (λ i. closed.amiss i || are_reads_amiss (closed.watched i));
+      },
       told ∙ closed.told,
     )
 
 pub end-front : (form : Form) (bytes : List ℕ) (before old now : Option (List ℕ)) (s : Session) → IsClosed form bytes before old s false
-    → AppendsFront old now (s.journal.text.items ++ form.ending s.stage) → AppendsFront before now (output form bytes)
+    → AppendsFront old now (s.journal.text.items ++ form.ending s.stage (watched_by s.journal)) → AppendsFront before now (output form bytes)
 end-front form bytes before old now s closed front =
-    subst (AppendsFront before now) (sym (output-going form bytes s.stage closed.fault closed.stage))
-    (prints-front before old now [] s.journal.text.items (journal_of form (play (all_lines bytes))) (form.ending s.stage) closed.printed front)
+    subst (AppendsFront before now) (sym (output-going form bytes s.stage (watched_by s.journal) closed.fault closed.stage closed.watched))
+    (prints-front before old now [] s.journal.text.items (journal_of form (play (all_lines bytes))) (form.ending s.stage (watched_by s.journal)) closed.printed front)

@@ -1,5 +1,5 @@
 -- Lines and journals, one byte or one line further.
-use Rattle.std.proofs.Common.{◌≡◌, ℕ, Bool, true, false, ◌==◌, ◌+◌, cond, List, [], ◌∷◌, ◌++◌, map, refl, ap, sym, ◌∙◌, subst, append_assoc, append-nil, inl, inr}
+use Rattle.std.proofs.Common.{◌≡◌, ℕ, Bool, Option, true, false, ◌==◌, ◌+◌, cond, List, [], ◌∷◌, ◌++◌, map, refl, ap, sym, ◌∙◌, subst, append_assoc, append-nil, inl, inr}
 use Rattle.std.proofs.lemmas.List.Sums.{fold-append}
 use Rattle.std.proofs.lemmas.Bool.{cases_Bool, eqb-true, and_parts}
 use Rattle.std.proofs.lemmas.List.{map-append}
@@ -9,6 +9,8 @@ use Rattle.std.specs.Io.BufRead.{strip_last}
 use Rattle.cics_run.specs.Session.Lines.{Pieces, pieces, with_first, completed, unfinished, last_line, all_lines, is_in_line}
 use Rattle.cics_run.specs.Stage.Journal.{script_line, text_of}
 use Rattle.cics_run.specs.Stage.Stages.{step, Step}
+use Rattle.cics_run.specs.Stage.Printed.{watched_on}
+use Rattle.cics_run.specs.Reads.Watched.{Watched}
 use Rattle.cics_run.specs.Session.Running.{Form, Played, has_fault, next, stepped, play, start, journal_of, journal, output, whole, is_faulty}
 use Rattle.cics_run.specs.Session.Printing.{IsFront}
 use Rattle.cics_run.specs.Told.Remarks.{remarked}
@@ -88,6 +90,11 @@ pub told-stepped : (p : Played) (scope : Scope) (r : Remarks) (n : ℕ) (line : 
     → remarked r (n + 1) line s ≡ (stepped p line s).told scope
 told-stepped p scope r n line s so number = ap (λ x. remarked x (n + 1) line s) so ∙ ap (λ k. remarked (p.told scope) (k + 1) line s) number
 
+-- what it adds to what is noted of reads, if that is wanted
+pub watched-stepped : (p : Played) (reads : Bool) (w : Option Watched) (n : ℕ) (line : List ℕ) (s : Step) → w ≡ p.watched reads → n ≡ p.number
+    → watched_on (n + 1) w s ≡ (stepped p line s).watched reads
+watched-stepped p reads w n line s so number = ap (λ x. watched_on (n + 1) x s) so ∙ ap (λ k. watched_on (k + 1) (p.watched reads) s) number
+
 pub journal-start : (form : Form) → journal_of form start ≡ []
 journal-start form = elim (cases_Bool form.with_script) [ inl shows ↦ rw shows refl | inr plain ↦ rw plain refl ]
 
@@ -148,7 +155,7 @@ pub whole-front : (form : Form) (p : Played) → IsFront (journal_of form p) (wh
 whole-front form p =
     elim (cases_Bool (has_fault p)) [
       | inl fault ↦ rw fault (front-whole (journal_of form p))
-      | inr none ↦ rw none (form.ending p.stage, refl)
+      | inr none ↦ rw none (form.ending p.stage (p.watched form.reads), refl)
     ]
 
 pub output-front : (form : Form) (bytes : List ℕ) → IsFront (journal form bytes) (output form bytes)

@@ -4,12 +4,12 @@ use Rattle.std.proofs.lemmas.List.{take-append-le, length-map, length-take-le}
 use Rattle.std.proofs.lemmas.Bool.{cases_Bool}
 use Rattle.std.proofs.Math.Seq.{take-append_seam}
 use Rattle.std.specs.List.{fold}
-use Rattle.std.specs.Prelude.{Result, Ok, Err}
+use Rattle.std.specs.Prelude.{Result, Ok, Err, option_map}
 use Rattle.std.specs.Io.KnownBytes.{Appends, Consumes, IsAtEnd}
 use Rattle.std.specs.Io.BufRead.{strip_last}
 use Rattle.cics_run.specs.declared.told.remarks.Remarks.{Remarks}
 use Rattle.cics_run.specs.Session.Lines.{Pieces, pieces, with_first, completed}
-use Rattle.cics_run.specs.Session.Running.{Form, Played, has_fault, next, start, journal, is_stopped, Answers, ReadsOn, RunsOver}
+use Rattle.cics_run.specs.Session.Running.{Form, Played, has_fault, initially_watched, next, start, journal, is_stopped, Answers, ReadsOn, RunsOver}
 use Rattle.cics_run.specs.Session.Printing.{AppendsFront, Prints}
 use Rattle.cics_run.specs.Session.Standing.{IsNew, Stands, Keeps, Stopped, Finishes, KeepsEnd, fault_of, ended}
 use Rattle.cics_run.specs.Session.Streams.{Tells}
@@ -19,6 +19,8 @@ use Rattle.cics_run.specs.declared.session.running.Status.{Status}
 use Rattle.cics_run.specs.declared.session.running.Status.TheVariants as status
 use Rattle.cics_run.specs.declared.session.running.TheConstants.{LIMIT, CHUNK}
 use Rattle.cics_run.specs.Told.Remarks.{no_remarks}
+use Rattle.cics_run.specs.Reads.Watching.{watched_in}
+use Rattle.cics_run.specs.declared.reads.watching.Watcher.{Watcher}
 use Rattle.cics_run.specs.declared.session.session.Session.{Session}
 use Rattle.cics_run.specs.declared.stage.notes.Scope.{Scope}
 use Rattle.cics_run.proofs.OfSession.Known.{consumes-append}
@@ -72,22 +74,22 @@ stopped-output form bytes rest before now s stop =
     (subst (λ t. Appends before now t) (sym same) stop.written, faulty, inl stop.fault)
 
 -- the line at which they stopped is kept
-pub stopped-keeps : (form : Form) (bytes : List ℕ) (input rest before now : Option (List ℕ)) (s : Session) → Consumes input rest bytes → Stopped form bytes before now s → KeepsEnd form.scope input rest s (Ok status.LineFault)
+pub stopped-keeps : (form : Form) (bytes : List ℕ) (input rest before now : Option (List ℕ)) (s : Session) → Consumes input rest bytes → Stopped form bytes before now s → KeepsEnd form input rest s (Ok status.LineFault)
 stopped-keeps form bytes input rest before now s read stop =
     let same = fault-whole bytes stop.fault in
     (bytes, read, ap has_fault same ∙ stop.fault, subst (Keeps s) (sym same) stop.kept, stop.told ∙ sym (ap (λ p. p.told form.scope) same))
 
 -- a run that came to the input's end keeps its final region, or the last line, where that is a fault
-pub ended-keeps : (form : Form) (bytes : List ℕ) (input rest before now : Option (List ℕ)) (s : Session) (answer : Result Status Stop) → Consumes input rest bytes → Finishes form bytes before now s answer → KeepsEnd form.scope input rest s (ended answer)
+pub ended-keeps : (form : Form) (bytes : List ℕ) (input rest before now : Option (List ℕ)) (s : Session) (answer : Result Status Stop) → Consumes input rest bytes → Finishes form bytes before now s answer → KeepsEnd form input rest s (ended answer)
 ended-keeps form bytes input rest before now s (Ok status.Done) read (wrote, going, end, told) = (bytes, read, going, end, told)
 ended-keeps form bytes input rest before now s (Ok status.LineFault) read (wrote, faulty, kept, told) = (bytes, read, faulty, kept, told)
 ended-keeps form bytes input rest before now s (Err stops.NoMemory) read end = tt
 ended-keeps form bytes input rest before now s (Err stops.WriteFault) read end = tt
 
 -- a new session stands before the first byte
-pub stands-new : (form : Form) (now : Option (List ℕ)) (s : Session) (scope : Scope) → scope ≡ form.scope → IsNew s
-    → Stands form [] now now (record s { with_script = form.with_script; journal = record s.journal { told = record s.journal.told { scope = scope } } })
-stands-new form now s scope wanted new =
+pub stands-new : (form : Form) (now : Option (List ℕ)) (s : Session) (scope : Scope) (watcher : Option Watcher) → scope ≡ form.scope → option_map watched_in watcher ≡ initially_watched form.reads → IsNew s
+    → Stands form [] now now (record s { with_script = form.with_script; journal = record s.journal { told = record s.journal.told { scope = scope }; watcher = watcher } })
+stands-new form now s scope watcher wanted watched new =
     record {
       stage = new.stage;
       number = new.number;
@@ -95,6 +97,7 @@ stands-new form now s scope wanted new =
       going = refl;
       amiss = new.calm;
       told = ap {A = Remarks} (λ r. record r { scope = scope }) new.silent ∙ ap no_remarks wanted;
+      watched = watched;
       shows = refl;
       printed = rw (new.pending, journal-start form) (prints-nothing now []);
     }

@@ -13,11 +13,12 @@ use Rattle.cics_run.specs.Stage.Amiss.{any_amiss}
 use Rattle.cics_run.specs.Session.Lines.{pieces, completed, unfinished, is_in_line}
 use Rattle.cics_run.specs.Session.Printing.{AppendsFront, Prints}
 use Rattle.cics_run.specs.Session.Running.{Form, has_fault, next, play, start, stepped, journal_of, journal}
-use Rattle.cics_run.specs.Session.Standing.{next_step, next_text, ended_line, Ran, Stands, Keeps, HasTold, Stopped}
+use Rattle.cics_run.specs.Session.Standing.{next_step, next_text, ended_line, Ran, Stands, Keeps, HasTold, HasWatched, Stopped}
+use Rattle.cics_run.specs.Stage.Printed.{watched_by, watched_on}
 use Rattle.cics_run.specs.Told.Remarks.{remarked}
 use Rattle.cics_run.specs.declared.session.session.Session.{Session}
 use Rattle.cics_run.proofs.OfSession.Printing.{prints-prints, prints-all, prints-front, prints-part, front-longer}
-use Rattle.cics_run.proofs.OfSession.Playing.{pieces-lf, pieces-bytes, next-going, journal-stepped, told-stepped, journal-front, fault-stays}
+use Rattle.cics_run.proofs.OfSession.Playing.{pieces-lf, pieces-bytes, next-going, journal-stepped, told-stepped, watched-stepped, journal-front, fault-stays}
 
 completed-bytes : (bytes more : List ℕ) → list_all is_in_line more ≡ true → completed (bytes ++ more) ≡ completed bytes
 completed-bytes bytes more all = ap (λ p. map (strip_last 13) p.0) (pieces-bytes bytes more all)
@@ -52,6 +53,7 @@ stands-bytes form bytes more before now s t all at stage number line journals sh
       going = ap has_fault same ∙ at.going;
       amiss = ap (λ j. j.is_amiss) journals ∙ at.amiss ∙ sym (ap (λ p. p.is_amiss) same);
       told = ap (λ j. j.told) journals ∙ at.told ∙ sym (ap (λ p. p.told form.scope) same);
+      watched = ap watched_by journals ∙ at.watched ∙ sym (ap (λ p. p.watched form.reads) same);
       shows = shows ∙ at.shows;
       printed = subst (λ j. Prints before now [] t.journal.text.items j) (sym (ap (journal_of form) same)) (subst (λ j. Prints before now [] j.text.items (journal form bytes)) (sym journals) at.printed);
     }
@@ -66,6 +68,7 @@ module _ (s : Session) (line : Vec ℕ) (cut : line.items ≡ ended_line s) (t :
         fault = ran.fault ∙ ap (λ l. (next_step s l).fault) cut;
         amiss = ran.amiss ∙ ap (λ l. s.journal.is_amiss || any_amiss (next_step s l).events) cut;
         told = ran.told ∙ ap (λ l. remarked s.journal.told (s.number + 1) l (next_step s l)) cut;
+        watched = ran.watched ∙ ap (λ l. watched_on (s.number + 1) (watched_by s.journal) (next_step s l)) cut;
         shows = ran.shows;
       }
 
@@ -92,6 +95,13 @@ told-line form bytes before old s t at ran =
     ran.told ∙ told-stepped (play (completed bytes)) form.scope s.journal.told s.number (ended_line s) (next_step s (ended_line s)) at.told at.number
     ∙ sym (ap (λ p. p.told form.scope) (play-lf form bytes before old s at))
 
+-- what it has noted of the run
+watched-line : (form : Form) (bytes : List ℕ) (before old : Option (List ℕ)) (s t : Session) → Stands form bytes before old s
+    → Ran s (ended_line s) t → HasWatched form.reads t (play (completed (bytes ++ 10 ∷ [])))
+watched-line form bytes before old s t at ran =
+    ran.watched ∙ watched-stepped (play (completed bytes)) form.reads (watched_by s.journal) s.number (ended_line s) (next_step s (ended_line s)) at.watched at.number
+    ∙ sym (ap (λ p. p.watched form.reads) (play-lf form bytes before old s at))
+
 pub stands-line : (form : Form) (bytes : List ℕ) (before old now : Option (List ℕ)) (s t : Session) → Stands form bytes before old s
     → Ran s (ended_line s) t → t.line.items ≡ []
     → Prints old now s.journal.text.items t.journal.text.items (next_text s (ended_line s))
@@ -106,6 +116,7 @@ stands-line form bytes before old now s t at ran line text going =
       going = ap has_fault after ∙ sym (going ∙ ap is_some ran.fault);
       amiss = ran.amiss ∙ ap (λ b. b || any_amiss (next_step s (ended_line s)).events) at.amiss ∙ sym (ap (λ p. p.is_amiss) after);
       told = told-line form bytes before old s t at ran;
+      watched = watched-line form bytes before old s t at ran;
       shows = ran.shows ∙ at.shows;
       printed = printed-line form bytes before old now s t at text;
     }

@@ -9,7 +9,7 @@ use Rattle.cics_dispatch.specs.Machine.Waking.{IsAtRest}
 use Rattle.cics_dispatch.specs.declared.machine.events.Event.{Event}
 use Rattle.cics_dispatch.specs.declared.machine.events.Request.{Request}
 use Rattle.cics_dispatch.proofs.OfMachine.Draining.{rest_has_none, turn_fewer, drained_turn, drained_none}
-use Rattle.cics_run.specs.Stage.Seen.{Sight, after_events, after_fault, after_step}
+use Rattle.cics_run.specs.Stage.Seen.{Sight, after_all, after_events, after_fault, after_step}
 use Rattle.cics_run.specs.Stage.Stages.{Step, region_at}
 use Rattle.cics_run.specs.declared.stage.stage.Fault.{Fault}
 
@@ -30,14 +30,14 @@ pub played_region : (m mid : Machine) (asked : Request) (r : RegionValue) → mi
 played_region m mid asked r left is = is ∙ ap (λ n. region_at (drained n).machine) left
 
 module _ {Seen : Type 0} (sight : Sight Seen) (number : ℕ) where
-  -- the event of a request is seen, and then those of the draining
-  pub played_seen : (m mid : Machine) (e : Event) (asked : Request) (before between now : Seen) → e ≡ (played m asked).event → mid ≡ (played m asked).machine
+  -- a request is seen, then its event, and then those of the draining
+  pub played_seen : (m mid : Machine) (e : Event) (asked : Request) (begun before between now : Seen) → before ≡ begun → e ≡ (played m asked).event → mid ≡ (played m asked).machine
       → between ≡ sight.with_event before number (record { event = e; machine = mid })
       → now ≡ after_events sight number between (drained mid).turns
-      → now ≡ after_events sight number before (all_played m asked).turns
-  played_seen m mid e asked before between now told left first rest =
+      → now ≡ after_events sight number begun (all_played m asked).turns
+  played_seen m mid e asked begun before between now asks told left first rest =
       rest ∙ ap (λ s. after_events sight number s (drained mid).turns) first
-      ∙ (λ i. after_events sight number (sight.with_event before number (record { event = told i; machine = left i })) (drained (left i)).turns)
+      ∙ (λ i. after_events sight number (sight.with_event (asks i) number (record { event = told i; machine = left i })) (drained (left i)).turns)
 
   -- behind a turn the rest is seen as before it
   pub turn_seen : (m next : Machine) (e : Event) (before now : Seen) → IsTurn m (Some e) next
@@ -59,11 +59,11 @@ module _ {Seen : Type 0} (sight : Sight Seen) (number : ℕ) where
       let all = drained_none m none in (ap (λ d. d.machine) all, ap (λ d. after_events sight number seen d.turns) all)
 
   -- a line has no fault
-  pub no_fault_seen : (s : Step) (before now : Seen) → now ≡ after_events sight number before s.events → None ≡ s.fault → now ≡ after_step sight number before s
-  no_fault_seen s before now seen is = seen ∙ ap (after_fault sight number (after_events sight number before s.events)) is
+  pub no_fault_seen : (s : Step) (before now : Seen) → now ≡ after_all sight number before s → None ≡ s.fault → now ≡ after_step sight number before s
+  no_fault_seen s before now seen is = seen ∙ ap (after_fault sight number (after_all sight number before s)) is
 
   -- a line has a fault, which is seen behind its events
-  pub fault_seen : (s : Step) (fault : Fault) (before between now : Seen) → between ≡ after_events sight number before s.events → now ≡ sight.with_fault between number fault → Some fault ≡ s.fault
+  pub fault_seen : (s : Step) (fault : Fault) (before between now : Seen) → between ≡ after_all sight number before s → now ≡ sight.with_fault between number fault → Some fault ≡ s.fault
       → now ≡ after_step sight number before s
   fault_seen s fault before between now seen told is =
-      told ∙ ap (λ x. sight.with_fault x number fault) seen ∙ ap (after_fault sight number (after_events sight number before s.events)) is
+      told ∙ ap (λ x. sight.with_fault x number fault) seen ∙ ap (after_fault sight number (after_all sight number before s)) is

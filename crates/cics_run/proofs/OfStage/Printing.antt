@@ -1,7 +1,7 @@
 -- A journal prints the text of each step, tells whether an event of it is amiss, and notes events.
 use Rattle.std.proofs.Common.{◌≡◌, ℕ, List, [], ◌∷◌, ◌++◌, refl, ap, sym, ◌∙◌, append_assoc, append-nil, Option, Some, None, length, arith}
 use Rattle.std.proofs.lemmas.Bool.Decides.{nat_tests}
-use Rattle.std.specs.Prelude.{◌==◌, Bool, true, false, ◌||◌}
+use Rattle.std.specs.Prelude.{◌==◌, Bool, true, false, ◌||◌, option_map}
 use Rattle.std.specs.List.{flat_map, fold}
 use Rattle.cics_dispatch.specs.Machine.Events.{Happened}
 use Rattle.cics_run.specs.Stage.Amiss.{is_amiss, any_amiss}
@@ -11,9 +11,10 @@ use Rattle.cics_run.specs.Told.Remarks as remarks
 use Rattle.cics_run.specs.declared.told.remarks.Remarks.{Remarks}
 use Rattle.cics_run.specs.declared.stage.notes.Note.{Note}
 use Rattle.cics_run.specs.declared.stage.stage.Stage.{Stage}
-use Rattle.cics_run.specs.Stage.Printed.{Printed, journal_sight}
-use Rattle.cics_run.specs.Stage.Seen.{after_events, after_fault, after_step}
-use Rattle.cics_run.specs.Stage.Stages.{Step}
+use Rattle.cics_run.specs.Stage.Printed.{Printed, journal_sight, watched_on}
+use Rattle.cics_run.specs.Stage.Seen.{after_all, after_events, after_fault, after_request, after_step}
+use Rattle.cics_run.specs.Stage.Stages.{Asked, Step}
+use Rattle.cics_run.specs.Reads.Watched.{Watched, watcher_sight}
 use Rattle.cics_run.specs.declared.stage.stage.Fault.{Fault}
 
 or-assoc : (a b c : Bool) → ((a || b) || c) ≡ (a || (b || c))
@@ -62,23 +63,83 @@ fault_told : (number : ℕ) (p : Printed) (fault : Option Fault) → (after_faul
 fault_told number p None = refl
 fault_told number p (Some fault) = refl
 
+-- a request changes nothing but what is noted of the run
+request_text : (number : ℕ) (p : Printed) (asked : Option Asked) → (after_request journal_sight number p asked).text ≡ p.text
+request_text number p None = refl
+request_text number p (Some asked) = refl
+
+request_amiss : (number : ℕ) (p : Printed) (asked : Option Asked) → (after_request journal_sight number p asked).is_amiss ≡ p.is_amiss
+request_amiss number p None = refl
+request_amiss number p (Some asked) = refl
+
+request_notes : (number : ℕ) (p : Printed) (asked : Option Asked) → (after_request journal_sight number p asked).notes ≡ p.notes
+request_notes number p None = refl
+request_notes number p (Some asked) = refl
+
+request_told : (number : ℕ) (p : Printed) (asked : Option Asked) → (after_request journal_sight number p asked).told ≡ p.told
+request_told number p None = refl
+request_told number p (Some asked) = refl
+
+-- what is noted of the run is what a watcher makes of it, if it is wanted
+request_watched : (number : ℕ) (p : Printed) (asked : Option Asked) → (after_request journal_sight number p asked).watched ≡ option_map (λ w. after_request watcher_sight number w asked) p.watched
+request_watched number p None = by p.watched where
+  by : (watched : Option Watched) → watched ≡ option_map (λ w. w) watched
+  by None = refl
+  by (Some w) = refl
+request_watched number p (Some asked) = refl
+
+events_watched : (number : ℕ) (p : Printed) (w : Option Watched) (events : List Happened) → p.watched ≡ w → (after_events journal_sight number p events).watched ≡ option_map (λ x. after_events watcher_sight number x events) w
+events_watched number p None [] is = is
+events_watched number p (Some w) [] is = is
+events_watched number p None (h ∷ events) is = events_watched number (journal_sight.with_event p number h) None events (ap (option_map (λ x. watcher_sight.with_event x number h)) is)
+events_watched number p (Some w) (h ∷ events) is =
+    events_watched number (journal_sight.with_event p number h) (Some (watcher_sight.with_event w number h)) events (ap (option_map (λ x. watcher_sight.with_event x number h)) is)
+
+fault_watched : (number : ℕ) (p : Printed) (fault : Option Fault) → (after_fault journal_sight number p fault).watched ≡ p.watched
+fault_watched number p None = refl
+fault_watched number p (Some fault) = refl
+
+fault_unwatched : (number : ℕ) (w : Watched) (fault : Option Fault) → after_fault watcher_sight number w fault ≡ w
+fault_unwatched number w None = refl
+fault_unwatched number w (Some fault) = refl
+
 pub step_text : (number : ℕ) (p : Printed) (s : Step) → (after_step journal_sight number p s).text ≡ p.text ++ text_of number s
 step_text number p s =
-    fault_text number (after_events journal_sight number p s.events) s.fault
-    ∙ ap (λ t. t ++ fault_lines number s.fault) (events_text number p s.events)
+    let q = after_request journal_sight number p s.asked in
+    fault_text number (after_events journal_sight number q s.events) s.fault
+    ∙ ap (λ t. t ++ fault_lines number s.fault) (events_text number q s.events ∙ ap (λ t. t ++ lines s.events) (request_text number p s.asked))
     ∙ append_assoc p.text (lines s.events) (fault_lines number s.fault)
 
 pub step_amiss : (number : ℕ) (p : Printed) (s : Step) → (after_step journal_sight number p s).is_amiss ≡ (p.is_amiss || any_amiss s.events)
-step_amiss number p s = fault_amiss number (after_events journal_sight number p s.events) s.fault ∙ events_amiss number p s.events
+step_amiss number p s =
+    let q = after_request journal_sight number p s.asked in
+    fault_amiss number (after_events journal_sight number q s.events) s.fault ∙ events_amiss number q s.events
+    ∙ ap (λ b. b || any_amiss s.events) (request_amiss number p s.asked)
 
 -- what a journal notes that sees a step, with no note before it
 step_notes : (number : ℕ) (p : Printed) (s : Step) → p.notes ≡ [] → (after_step journal_sight number p s).notes ≡ notes_of p.told.scope s.events
 step_notes number p s none =
-    fault_notes number (after_events journal_sight number p s.events) s.fault ∙ events_notes number p s.events
-    ∙ ap (λ notes. fold (λ notes h. with_note notes (noted p.told.scope h.event)) notes s.events) none
+    let q = after_request journal_sight number p s.asked in
+    fault_notes number (after_events journal_sight number q s.events) s.fault ∙ events_notes number q s.events
+    ∙ ap (λ (told : Remarks). fold (λ notes h. with_note notes (noted told.scope h.event)) q.notes s.events) (request_told number p s.asked)
+    ∙ ap (λ notes. fold (λ notes h. with_note notes (noted p.told.scope h.event)) notes s.events) (request_notes number p s.asked ∙ none)
 
 step_told : (number : ℕ) (p : Printed) (s : Step) → (after_step journal_sight number p s).told ≡ p.told
-step_told number p s = fault_told number (after_events journal_sight number p s.events) s.fault ∙ events_told number p s.events
+step_told number p s =
+    let q = after_request journal_sight number p s.asked in
+    fault_told number (after_events journal_sight number q s.events) s.fault ∙ events_told number q s.events ∙ request_told number p s.asked
+
+-- what a journal holds of the run that sees a step
+pub step_watched : (number : ℕ) (p : Printed) (s : Step) → (after_step journal_sight number p s).watched ≡ watched_on number p.watched s
+step_watched number p s =
+    let q = after_request journal_sight number p s.asked in
+    fault_watched number (after_events journal_sight number q s.events) s.fault
+    ∙ events_watched number q (option_map (λ w. after_request watcher_sight number w s.asked) p.watched) s.events (request_watched number p s.asked)
+    ∙ by p.watched
+  where
+    by : (watched : Option Watched) → option_map (λ x. after_events watcher_sight number x s.events) (option_map (λ w. after_request watcher_sight number w s.asked) watched) ≡ watched_on number watched s
+    by None = refl
+    by (Some w) = ap Some (sym (fault_unwatched number (after_all watcher_sight number w s) s.fault))
 
 -- the remarks on a step, if its notes are folded in
 pub noted_told : (number : ℕ) (bytes : List ℕ) (stage : Stage) (p q : Printed) (s : Step) (told : Remarks) (notes : List Note) → p.notes ≡ [] → q ≡ after_step journal_sight number p s

@@ -52,7 +52,7 @@ value_row : reason_text acct (Enq content 300 false) ValueSize ≡ codes "LENGTH
 unfolding digits character_of
 value_row = refl
 
-browse_row : reason_text acct (ReadNext name None) NoBrowse ≡ codes "no browse of ACCT is open"
+browse_row : reason_text acct (ReadNext name None) NoBrowse ≡ codes "no browse of ACCT is open: STARTBR opens one"
 unfolding digits character_of
 browse_row = refl
 

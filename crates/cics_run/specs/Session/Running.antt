@@ -1,10 +1,12 @@
 -- What a run of a script writes.
-use Rattle.std.specs.Prelude.{◌≡◌, ℕ, Bool, true, false, ◌||◌, ◌+◌, ◌≤◌, ◌⊎◌, if◌then◌else◌, List, [], ◌++◌, length, take, Option, None, is_some, Result, Ok, Err}
+use Rattle.std.specs.Prelude.{◌≡◌, ℕ, Bool, true, false, ◌||◌, ◌+◌, ◌≤◌, ◌⊎◌, if◌then◌else◌, List, [], ◌++◌, length, take, Option, Some, None, is_some, Result, Ok, Err}
 use Rattle.std.specs.List.{fold}
 use Rattle.std.specs.Io.KnownBytes.{Appends, Consumes, IsAtEnd}
 use Rattle.cics_run.specs.Session.Lines.{completed, all_lines}
 use Rattle.cics_run.specs.Stage.Amiss.{any_amiss}
 use Rattle.cics_run.specs.Stage.Journal.{script_line, text_of}
+use Rattle.cics_run.specs.Reads.Watched.{Watched, nothing_watched, reads_text, are_amiss}
+use Rattle.cics_run.specs.Stage.Printed.{watched_on}
 use Rattle.cics_run.specs.Stage.Stages.{step, Step, initial_stage, listing_at, replay_at}
 use Rattle.cics_run.specs.Session.Printing.{AppendsFront}
 use Rattle.cics_run.specs.Session.Streams.{Tells}
@@ -20,9 +22,9 @@ use Rattle.cics_run.specs.declared.session.running.RunFault.TheVariants as fault
 use Rattle.cics_run.specs.declared.session.running.Options.{Options}
 use Rattle.cics_run.specs.declared.told.remarks.Remarks.{Remarks}
 
--- The state after some lines: the stage, their number, the last of them, its fault, if any, and
--- whether an event was amiss. The journal is there twice, once with each line in front of its
--- journal lines. The remarks depend on which events are told.
+-- The state after some lines: the stage, their number, the last of them, its fault, if any, whether
+-- an event was amiss, and what was noted of reads, if that is wanted. The journal is there twice,
+-- once with each line in front of its journal lines. The remarks depend on which events are told.
 pub record Played : Type 0 where
   pub stage : Stage
   pub number : ℕ
@@ -31,6 +33,7 @@ pub record Played : Type 0 where
   pub shown : List ℕ
   pub is_amiss : Bool
   pub told : Scope → Remarks
+  pub watched : Bool → Option Watched
   pub fault : Option Fault
 
 -- whether the last line was a fault
@@ -49,6 +52,7 @@ stepped p line s =
       shown = p.shown ++ (script_line line ++ text_of (p.number + 1) s);
       is_amiss = p.is_amiss || any_amiss s.events;
       told = λ scope. remarked (p.told scope) (p.number + 1) line s;
+      watched = λ reads. watched_on (p.number + 1) (p.watched reads) s;
       fault = s.fault;
     }
 
@@ -60,28 +64,44 @@ next p line = if has_fault p then p else stepped p line (step p.stage line)
 abbrev pub most_bytes : ℕ
 most_bytes = 16777216
 
+-- before the first line nothing is noted of reads
+abbrev pub initially_watched : Bool → Option Watched
+initially_watched reads = if reads then Some nothing_watched else None
+
 -- before the first line
 abbrev pub start : Played
-start = record { stage = initial_stage; number = 0; line = []; journal = []; shown = []; is_amiss = false; told = no_remarks; fault = None }
+start = record { stage = initial_stage; number = 0; line = []; journal = []; shown = []; is_amiss = false; told = no_remarks; watched = initially_watched; fault = None }
 
 -- some lines, in their order
 abbrev pub play : List (List ℕ) → Played
 play lines = fold next start lines
 
--- what a run prints: whether each line of the script comes in front of its journal lines; and the
--- text behind the last event, from the stage at the end; and which events it tells of then
+-- what a run prints: whether each line of the script comes in front of its journal lines; the text
+-- behind the last event, from the stage at the end and what was noted of reads, if that is wanted;
+-- and which events it tells of then
 pub record Form : Type 0 where
   pub with_script : Bool
-  pub ending : Stage → List ℕ
+  pub reads : Bool
+  pub ending : Stage → Option Watched → List ℕ
   pub scope : Scope
+
+-- a text, and behind it what reads saw and missed, if that is wanted
+abbrev pub with_reads : List ℕ → Option Watched → List ℕ
+with_reads text None = text
+with_reads text (Some w) = text ++ reads_text w
 
 -- the text behind the last event: the listing, unless it is left out, then the replay, if wanted
 abbrev pub listed : Options → Stage → List ℕ
 listed options stage = (if options.no_list then [] else listing_at stage) ++ (if options.replay then replay_at stage else [])
 
+-- whether something is amiss that reads saw or missed, if that is wanted
+abbrev pub are_reads_amiss : Option Watched → Bool
+are_reads_amiss None = false
+are_reads_amiss (Some w) = are_amiss w
+
 -- no line of the script is printed, and only abends by a condition and commands of no task are told
 abbrev pub plain : Options → Form
-plain options = record { with_script = false; ending = listed options; scope = record { strict = false; why = false } }
+plain options = record { with_script = false; reads = false; ending = λ stage watched. with_reads (listed options stage) watched; scope = record { strict = false; why = false } }
 
 -- the journal of some lines, with the script if that is printed
 abbrev pub journal_of : Form → Played → List ℕ
@@ -93,7 +113,7 @@ journal form bytes = journal_of form (play (completed bytes))
 
 -- nothing stands behind a fault
 abbrev pub whole : Form → Played → List ℕ
-whole form p = if has_fault p then journal_of form p else journal_of form p ++ form.ending p.stage
+whole form p = if has_fault p then journal_of form p else journal_of form p ++ form.ending p.stage (p.watched form.reads)
 
 -- what a run over a whole script writes
 abbrev pub output : Form → List ℕ → List ℕ

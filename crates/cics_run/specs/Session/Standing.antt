@@ -6,7 +6,8 @@ use Rattle.cics_run.specs.Session.Lines.{completed, unfinished, all_lines}
 use Rattle.cics_run.specs.Stage.Amiss.{any_amiss}
 use Rattle.cics_run.specs.Stage.Journal.{script_line, text_of}
 use Rattle.cics_run.specs.Stage.Stages.{step, Step, initial_stage, region_of}
-use Rattle.cics_run.specs.Session.Running.{Form, Played, play, has_fault, journal_of, journal, output, is_faulty}
+use Rattle.cics_run.specs.Stage.Printed.{watched_by, watched_on}
+use Rattle.cics_run.specs.Session.Running.{Form, Played, are_reads_amiss, play, has_fault, journal_of, journal, output, is_faulty}
 use Rattle.cics_run.specs.Session.Printing.{AppendsFront, Prints}
 use Rattle.cics_run.specs.Told.Remarks.{no_remarks, remarked}
 use Rattle.cics_run.specs.declared.session.running.RunFault.{RunFault}
@@ -27,6 +28,7 @@ pub record IsNew (s : Session) : Type 0 where
   pub line : s.line.items ≡ []
   pub pending : s.journal.text.items ≡ []
   pub calm : s.journal.is_amiss ≡ false
+  pub unwatched : watched_by s.journal ≡ None
   pub silent : s.journal.told ≡ no_remarks (record { strict = false; why = false })
   pub fault : s.fault ≡ None
 
@@ -46,11 +48,16 @@ pub record Ran (s : Session) (line : List ℕ) (t : Session) : Type 0 where
   pub fault : t.fault ≡ (next_step s line).fault
   pub amiss : t.journal.is_amiss ≡ (s.journal.is_amiss || any_amiss (next_step s line).events)
   pub told : t.journal.told ≡ remarked s.journal.told (s.number + 1) line (next_step s line)
+  pub watched : watched_by t.journal ≡ watched_on (s.number + 1) (watched_by s.journal) (next_step s line)
   pub shows : t.with_script ≡ s.with_script
 
 -- the line whose LF comes next
 abbrev pub ended_line : Session → List ℕ
 ended_line s = strip_last 13 s.line.items
+
+-- a session has what was noted of the reads of these lines, if that is wanted
+abbrev pub HasWatched : Bool → Session → Played → Type 0
+HasWatched reads session p = watched_by session.journal ≡ p.watched reads
 
 -- After these bytes, none of whose lines was a fault, their journal is printed.
 pub record Stands (form : Form) (bytes : List ℕ) (before now : Option (List ℕ)) (session : Session) : Type 0 where
@@ -60,6 +67,7 @@ pub record Stands (form : Form) (bytes : List ℕ) (before now : Option (List �
   pub going : has_fault (play (completed bytes)) ≡ false
   pub amiss : session.journal.is_amiss ≡ (play (completed bytes)).is_amiss
   pub told : session.journal.told ≡ (play (completed bytes)).told form.scope
+  pub watched : HasWatched form.reads session (play (completed bytes))
   pub shows : session.with_script ≡ form.with_script
   pub printed : Prints before now [] session.journal.text.items (journal form bytes)
 
@@ -106,6 +114,7 @@ pub record IsClosed (form : Form) (bytes : List ℕ) (before now : Option (List 
   pub stage : (play (all_lines bytes)).stage ≡ session.stage
   pub amiss : session.journal.is_amiss ≡ (play (all_lines bytes)).is_amiss
   pub told : HasTold form.scope session (play (all_lines bytes))
+  pub watched : HasWatched form.reads session (play (all_lines bytes))
   pub printed : Prints before now [] session.journal.text.items (journal_of form (play (all_lines bytes)))
   pub kept : is_fault ≡ true → Keeps session (play (all_lines bytes))
 
@@ -119,27 +128,27 @@ abbrev pub final_stage : Played → Stage
 final_stage p = Running (region_of p.stage)
 
 -- A session has the region in which these lines end, and knows whether one of their events was
--- amiss.
-pub record HasEnd (session : Session) (p : Played) : Type 0 where
+-- amiss, or something that reads saw or missed, if that is wanted.
+pub record HasEnd (reads : Bool) (session : Session) (p : Played) : Type 0 where
   pub stage : session.stage ≡ final_stage p
-  pub amiss : session.journal.is_amiss ≡ p.is_amiss
+  pub amiss : session.journal.is_amiss ≡ (p.is_amiss || are_reads_amiss (p.watched reads))
 
 -- the input's end came
 abbrev pub Finishes : {E : Type 0} → Form → List ℕ → Option (List ℕ) → Option (List ℕ) → Session → Result Status E → Type 0
 Finishes form bytes before now session (Ok status.Done) =
-    Appends before now (output form bytes) × (is_faulty bytes ≡ false) × HasEnd session (play (all_lines bytes)) × HasTold form.scope session (play (all_lines bytes))
+    Appends before now (output form bytes) × (is_faulty bytes ≡ false) × HasEnd form.reads session (play (all_lines bytes)) × HasTold form.scope session (play (all_lines bytes))
 Finishes form bytes before now session (Ok status.LineFault) =
     Appends before now (output form bytes) × (is_faulty bytes ≡ true) × Keeps session (play (all_lines bytes)) × HasTold form.scope session (play (all_lines bytes))
 Finishes form bytes before now session (Err e) = AppendsFront before now (output form bytes)
 
 -- What a run over some bytes leaves in its session: the end of their lines, or the line that has a
 -- fault; and the remarks on the lines.
-abbrev pub KeepsEnd : Scope → Option (List ℕ) → Option (List ℕ) → Session → Result Status RunFault → Type 0
-KeepsEnd scope input rest session (Ok status.Done) =
-    (bytes : List ℕ) × Consumes input rest bytes × (is_faulty bytes ≡ false) × HasEnd session (play (all_lines bytes)) × HasTold scope session (play (all_lines bytes))
-KeepsEnd scope input rest session (Ok status.LineFault) =
-    (bytes : List ℕ) × Consumes input rest bytes × (is_faulty bytes ≡ true) × Keeps session (play (all_lines bytes)) × HasTold scope session (play (all_lines bytes))
-KeepsEnd scope input rest session _ = ⊤
+abbrev pub KeepsEnd : Form → Option (List ℕ) → Option (List ℕ) → Session → Result Status RunFault → Type 0
+KeepsEnd form input rest session (Ok status.Done) =
+    (bytes : List ℕ) × Consumes input rest bytes × (is_faulty bytes ≡ false) × HasEnd form.reads session (play (all_lines bytes)) × HasTold form.scope session (play (all_lines bytes))
+KeepsEnd form input rest session (Ok status.LineFault) =
+    (bytes : List ℕ) × Consumes input rest bytes × (is_faulty bytes ≡ true) × Keeps session (play (all_lines bytes)) × HasTold form.scope session (play (all_lines bytes))
+KeepsEnd form input rest session _ = ⊤
 
 -- the fault of a run that stopped
 abbrev pub fault_of : Stop → RunFault

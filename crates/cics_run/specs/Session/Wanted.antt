@@ -1,8 +1,9 @@
 -- What the program prints, by its options.
-use Rattle.std.specs.Prelude.{ℕ, if◌then◌else◌, List, ◌++◌}
+use Rattle.std.specs.Prelude.{ℕ, if◌then◌else◌, Option, List, ◌++◌}
 use Rattle.cics_run.specs.Listing.Serial.{serial_text}
 use Rattle.cics_run.specs.Stage.Stages.{region_of}
-use Rattle.cics_run.specs.Session.Running.{Form, listed}
+use Rattle.cics_run.specs.Reads.Watched.{Watched}
+use Rattle.cics_run.specs.Session.Running.{Form, listed, with_reads}
 use Rattle.cics_run.specs.declared.session.running.Wanted.{Wanted}
 use Rattle.cics_run.specs.declared.stage.notes.Scope.{Scope}
 use Rattle.cics_run.specs.declared.stage.stage.Stage.{Stage}
@@ -11,9 +12,11 @@ use Rattle.cics_run.specs.declared.stage.stage.Stage.{Stage}
 abbrev pub serial_at : Stage → List ℕ
 serial_at stage = serial_text (region_of stage).machine.units
 
--- the serial run stands behind the listing and the replay, if it is asked for
-abbrev pub ending : Wanted → Stage → List ℕ
-ending wanted stage = if wanted.serial then listed wanted.options stage ++ serial_at stage else listed wanted.options stage
+-- behind the listing and the replay stands what reads saw and missed, and behind that the serial
+-- run, each if it is asked for
+abbrev pub ending : Wanted → Stage → Option Watched → List ℕ
+ending wanted stage watched =
+    let text = with_reads (listed wanted.options stage) watched in if wanted.serial then text ++ serial_at stage else text
 
 -- which events are told
 abbrev pub scope_of : Wanted → Scope
@@ -21,4 +24,4 @@ scope_of wanted = record { strict = wanted.strict; why = wanted.why }
 
 -- each line of the script is printed if that is asked for
 abbrev pub form_of : Wanted → Form
-form_of wanted = record { with_script = wanted.with_script; ending = ending wanted; scope = scope_of wanted }
+form_of wanted = record { with_script = wanted.with_script; reads = wanted.reads; ending = ending wanted; scope = scope_of wanted }

@@ -22,20 +22,26 @@ use Rattle.cics_run.specs.declared.stage.stage.Fault.TheVariants as faults
 use Rattle.cics_run.specs.declared.stage.stage.Stage.{Stage}
 use Rattle.cics_run.specs.declared.stage.stage.Stage.TheVariants.{Opening, Running}
 
--- What a line does: the stage behind it, all that happens in the region, in its order, and the
--- line's fault, if it has one, which ends the run.
+-- What a line asks of a region, as that stands before it.
+pub record Asked : Type 0 where
+  pub request : Request
+  pub region : RegionValue
+
+-- What a line does: the stage behind it, what it asks of the region, all that happens there, in its
+-- order, and the line's fault, if it has one, which ends the run.
 pub record Step : Type 0 where
   pub stage : Stage
+  pub asked : Option Asked
   pub events : List Happened
   pub fault : Option Fault
 
 -- nothing happens
 abbrev pub silent : Stage → Step
-silent stage = record { stage = stage; events = []; fault = None }
+silent stage = record { stage = stage; asked = None; events = []; fault = None }
 
 -- a line has a fault, and nothing changes
 abbrev pub faulty : Stage → Fault → Step
-faulty stage fault = record { stage = stage; events = []; fault = Some fault }
+faulty stage fault = record { stage = stage; asked = None; events = []; fault = Some fault }
 
 -- before the first line nothing is defined
 abbrev pub initial_stage : Stage
@@ -62,9 +68,15 @@ definition (Running r) define = faulty (Running r) (faults.Line DefineTooLate)
 
 -- a request is played on the region, which then drains
 abbrev pub requested : Stage → Request → Step
-requested stage asked =
-    let all = all_played (region_of stage).machine asked in
-    record { stage = Running (region_at all.machine); events = all.turns; fault = None }
+requested stage request =
+    let before = region_of stage in
+    let all = all_played before.machine request in
+    record {
+      stage = Running (region_at all.machine);
+      asked = Some (record { request = request; region = before });
+      events = all.turns;
+      fault = None;
+    }
 
 -- a line that was read
 abbrev pub followed : Stage → Result Line LineFault → Step

@@ -17,17 +17,17 @@ abbrev pub plain_reason : Reason → List ℕ
 plain_reason UpdateNotByKey = codes "UPDATE goes with neither GTEQ nor GENERIC"
 plain_reason PrefixEmpty = codes "DELETE GENERIC needs a RIDFLD of 1 byte or more"
 plain_reason NoRidfld = codes "KEYLENGTH and GENERIC need a RIDFLD"
-plain_reason BrowseIsGeneric = codes "READPREV can't follow a start with GENERIC"
+plain_reason BrowseIsGeneric = codes "READPREV can't follow a start with GENERIC: RESETBR without GENERIC comes first"
 plain_reason _ = []
 
 -- of the file or queue, or of the task's reads of it
 abbrev pub state_reason : Verb → Reason → List ℕ
 state_reason verb FileNotDefined = about_text (codes "the file ") verb (codes " isn't defined")
 state_reason verb QueueNotDefined = about_text (codes "the queue ") verb (codes " isn't defined")
-state_reason verb UpdateReadOpen = about_text (codes "a record of ") verb (codes " is read for update already")
-state_reason verb NoUpdateRead = about_text (codes "no record of ") verb (codes " is read for update")
-state_reason verb BrowseOpen = about_text (codes "a browse of ") verb (codes " is open already")
-state_reason verb NoBrowse = about_text (codes "no browse of ") verb (codes " is open")
+state_reason verb UpdateReadOpen = about_text (codes "a record of ") verb (codes " is read for update already: REWRITE, DELETE or UNLOCK it first")
+state_reason verb NoUpdateRead = about_text (codes "no record of ") verb (codes " is read for update: READ it with UPDATE first")
+state_reason verb BrowseOpen = about_text (codes "a browse of ") verb (codes " is open already: RESETBR moves it, ENDBR ends it")
+state_reason verb NoBrowse = about_text (codes "no browse of ") verb (codes " is open: STARTBR opens one")
 state_reason verb reason = plain_reason reason
 
 -- LENGTH, and how many bytes FROM or RESOURCE has

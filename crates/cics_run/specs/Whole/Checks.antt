@@ -98,7 +98,7 @@ pub record Checks (file : Option (Bor (List ℕ))) (script : List ℕ) (old new 
 
 -- Nothing is seen of the lines.
 abbrev pub no_sight : Sight ⊤
-no_sight = record { with_event = λ seen number h. tt; with_fault = λ seen number fault. tt }
+no_sight = record { with_request = λ seen number request r. tt; with_event = λ seen number h. tt; with_fault = λ seen number fault. tt }
 
 -- The same definitions, or some region in place of another one.
 abbrev pub IsLike : Stage → Stage → Type 0

@@ -3,7 +3,6 @@
 ghost use Rattle.std.specs.Prelude.{◌≡◌, ◌++◌, ◌∷◌, [], OnOk};
 ghost use Rattle.std.specs.List.{flat_map};
 ghost use Rattle.std.specs.Fmt.{decimal};
-ghost use Rattle.cics_units.specs.Opening.Definitions.{defined_files, defined_queues};
 ghost use Rattle.cics_script.specs.Texts.{text_of, name_text};
 ghost use Rattle.cics_run.specs.Listing.Serial.{option_with_value, bare_option, key_and_size_options};
 ghost use Rattle.cics_run.specs.Listing.Serial.{load_line, file_line, file_lines, prefix_line};
@@ -43,22 +42,8 @@ pub fn push_serial(out: &mut Vec<u8>, units: &Units) -> Result<(), NoMemory>
 fn push_opening(out: &mut Vec<u8>, opening: &Opening) -> Result<(), NoMemory>
     ensures { OnOk result (out.new.items ≡ out.old.items ++ opening_lines opening.now) }
 {
-    push_opened_files(out, opening)?;
+    push_files(out, opening.defined_files()?.as_slice())?;
     push_prefixes(out, opening.prefixes())?;
-    push_opened_queues(out, opening)
-}
-
-fn push_opened_files(out: &mut Vec<u8>, opening: &Opening) -> Result<(), NoMemory>
-    ensures { OnOk result (out.new.items
-        ≡ out.old.items ++ flat_map file_lines (defined_files opening.now)) }
-{
-    push_files(out, opening.defined_files()?.as_slice())
-}
-
-fn push_opened_queues(out: &mut Vec<u8>, opening: &Opening) -> Result<(), NoMemory>
-    ensures { OnOk result (out.new.items
-        ≡ out.old.items ++ flat_map queue_lines (defined_queues opening.now)) }
-{
     push_queues(out, opening.defined_queues()?.as_slice())
 }
 

@@ -1,12 +1,14 @@
 //! The run of a script.
 
-ghost use Rattle.std.specs.Prelude.{◌≡◌, None};
+ghost use Rattle.std.specs.Prelude.{◌≡◌, None, option_map};
+ghost use Rattle.cics_run.specs.Reads.Watching.{watched_in};
 ghost use Rattle.cics_run.specs.Session.Streams.{Rises, RisesAtMost, failures};
-ghost use Rattle.cics_run.specs.Session.Running.{RunsOver, plain, most_reads, read_failures};
-ghost use Rattle.cics_run.specs.Session.Running.{write_failures};
+ghost use Rattle.cics_run.specs.Session.Running.{RunsOver, plain, initially_watched, most_reads};
+ghost use Rattle.cics_run.specs.Session.Running.{read_failures, write_failures};
 ghost use Rattle.cics_run.specs.Session.Wanted.{form_of, scope_of};
 ghost use Rattle.cics_run.specs.Session.Standing.{IsNew, KeepsEnd, ended, fault_of};
 
+use crate::reads::Watcher;
 use crate::session::session::Session;
 use crate::session::streams::{Sink, Source};
 use crate::session::writing::Stop;
@@ -62,6 +64,8 @@ pub struct Options {
 #[derive(Clone, Copy)]
 pub struct Wanted {
     pub options: Options,
+    /// Print what reads saw and missed, behind the listing and the replay.
+    pub reads: bool,
     /// Print the serial run behind the listing and the replay.
     pub serial: bool,
     /// Print each line of the script in front of its journal lines.
@@ -79,10 +83,27 @@ impl Wanted {
     {
         Wanted {
             options,
+            reads: false,
             serial: false,
             with_script: false,
             strict: false,
             why: false,
+        }
+    }
+
+    /// Returns whether it goes beyond its options.
+    pub fn goes_beyond(self) -> bool {
+        self.reads || self.serial || self.with_script || self.strict || self.why
+    }
+
+    // Returns what notes the steps of the run, if they are wanted.
+    fn watcher(self, alloc: Global) -> Option<Watcher>
+        ensures { option_map watched_in result ≡ initially_watched self.reads }
+    {
+        if self.reads {
+            Some(Watcher::new(alloc))
+        } else {
+            None
         }
     }
 
@@ -103,12 +124,14 @@ impl Wanted {
 /// - `limit`: about how many states of the region and its lanes are followed.
 /// - `ending`: the number of the ending to print as a script, if one is given.
 /// - `strict`: whether the answer says that an ending is a deadlock, or has no serial order.
+/// - `reads`: whether each order is followed by what its reads saw and missed that is amiss.
 #[derive(Clone, Copy)]
 pub struct Orders {
     pub told: bool,
     pub limit: u64,
     pub ending: Option<u64>,
     pub strict: bool,
+    pub reads: bool,
 }
 
 /// Runs the script that a reader gives, and writes its journal and what follows it.
@@ -152,13 +175,14 @@ pub fn run_over<S: Source, K: Sink>(
     ensures write_faults { Rises (K.failed sink.old) (K.failed sink.new)
         (failures write_failures result) }
     ensures asked { RisesAtMost (S.asked source.old) (S.asked source.new) most_reads }
-    ensures kept { KeepsEnd (scope_of wanted) (S.remaining source.old) (S.remaining source.new)
+    ensures kept { KeepsEnd (form_of wanted) (S.remaining source.old) (S.remaining source.new)
         session.new result }
     ensures whole_run { RunsOver (form_of wanted) (S.remaining source.old) (S.remaining source.new)
         (S.last source.new) (K.contents sink.old) (K.contents sink.new) result }
 {
     session.with_script = wanted.with_script;
     session.journal.told.scope = wanted.scope();
+    session.journal.watcher = wanted.watcher(*session.journal.text.allocator());
     let mut buffer = [0u8; CHUNK];
     let mut room = LIMIT;
     'reads: loop {

@@ -1,7 +1,7 @@
 //! A run between two reads.
 
 ghost use Rattle.std.specs.Prelude.{◌≡◌, true, false, [], ◌++◌, ◌+◌, ◌<◌, ◌≤◌, ◌^◌, length};
-ghost use Rattle.std.specs.Prelude.{if◌then◌else◌, is_some};
+ghost use Rattle.std.specs.Prelude.{if◌then◌else◌, is_some, option_map};
 ghost use Rattle.std.specs.Prelude.{IfOk, OnOk, OnErr};
 ghost use Rattle.std.specs.List.{prefix_len, list_all};
 ghost use Rattle.std.specs.Io.BufRead.{strip_last};
@@ -12,12 +12,15 @@ ghost use Rattle.cics_run.specs.declared.stage.stage.Stage.TheVariants.{Running}
 ghost use Rattle.cics_run.specs.Session.Printing.{AppendsFront, Prints, stopped_writes};
 ghost use Rattle.cics_run.specs.Session.Streams.{Rises};
 ghost use Rattle.std.specs.Io.KnownBytes.{Appends};
-ghost use Rattle.cics_run.specs.Session.Running.{Form, listed};
-ghost use Rattle.cics_run.specs.Session.Wanted.{ending, form_of};
+ghost use Rattle.cics_run.specs.Session.Running.{Form, listed, with_reads, are_reads_amiss};
+ghost use Rattle.cics_run.specs.Session.Wanted.{form_of};
+ghost use Rattle.cics_run.specs.Session.Endings.{ending_at, amiss_at};
+ghost use Rattle.cics_run.specs.Reads.Watching.{watched_in};
 ghost use Rattle.cics_run.specs.Session.Standing.{IsNew, Ran, next_text, WhereverStands};
 ghost use Rattle.cics_run.specs.Session.Standing.{Feeds, Writes, Closes, Finishes};
 
 use crate::listing::{push_listing, push_replay, push_serial};
+use crate::reads::Watcher;
 use crate::session::running::{Options, Status, Wanted};
 use crate::session::streams::Sink;
 use crate::session::writing::{Stop, write_pending, write_printed};
@@ -48,6 +51,13 @@ pub struct Session {
     pub with_script: bool,
     /// Names that commands had and that aren't defined, each once, at most 64.
     pub undefined: Vec<Named>,
+}
+
+// What is printed at the end of a run, and the steps of the run, if those are wanted.
+#[derive(Clone, Copy)]
+struct Ending<'a> {
+    wanted: Wanted,
+    watcher: &'a Option<Watcher>,
 }
 
 // By hand: a derived drop is taken apart wherever a session is dropped.
@@ -257,7 +267,7 @@ impl Session {
     }
 
     /// Runs the last line if it lacks its LF. Without a fault it writes what is wanted of the
-    /// listing, the replay and the serial run. The status tells whether there was a fault. On error
+    /// listing, the replay, the reads and the serial run. The status tells whether there was a fault. On error
     /// the first part of the output is written.
     pub(crate) fn finish<K: Sink>(&mut self, wanted: Wanted, sink: &mut K) -> Result<Status, Stop>
         requires { self.old.number + 1 < 2 ^ 64 }
@@ -271,47 +281,58 @@ impl Session {
             Ok(true) => return Ok(Status::LineFault),
             Err(stop) => return Err(stop),
         }
-        match write_end(&mut self.stage, wanted, &mut self.journal.text, sink) {
-            Ok(()) => Ok(Status::Done),
+        let ending = Ending {
+            wanted,
+            watcher: &self.journal.watcher,
+        };
+        match write_end(&mut self.stage, ending, &mut self.journal.text, sink) {
+            Ok(are_amiss) => {
+                self.journal.is_amiss |= are_amiss;
+                Ok(Status::Done)
+            }
             Err(stop) => Err(stop),
         }
     }
 }
 
-// Writes what is pending, and behind it what is asked for of the listing, the replay and the serial
-// run.
+// Writes what is pending, and behind it what is wanted at the end. Returns whether something is
+// amiss that reads saw or missed.
 fn write_end<K: Sink>(
     stage: &mut Stage,
-    wanted: Wanted,
+    ending: Ending<'_>,
     pending: &mut Vec<u8>,
     sink: &mut K,
-) -> Result<(), Stop>
+) -> Result<bool, Stop>
     ensures stage { OnOk result (stage.new ≡ Running (region_of stage.old)) }
+    ensures amiss { IfOk result (λ are_amiss. are_amiss ≡ amiss_at ending.entry) }
     ensures ok { OnOk result (Appends (K.contents sink.old) (K.contents sink.new)
-        (pending.old.items ++ ending wanted stage.old)) }
+        (pending.old.items ++ ending_at ending.entry stage.old)) }
     ensures err { OnErr result
         (AppendsFront (K.contents sink.old) (K.contents sink.new)
-        (pending.old.items ++ ending wanted stage.old)) }
+        (pending.old.items ++ ending_at ending.entry stage.old)) }
     ensures failed { Rises (K.failed sink.old) (K.failed sink.new) (stopped_writes result) }
 {
-    match push_ending(stage, wanted, pending) {
-        Ok(()) => write_pending(pending, sink),
+    match push_ending(stage, ending, pending) {
+        Ok(are_amiss) => match write_pending(pending, sink) {
+            Ok(()) => Ok(are_amiss),
+            Err(stop) => Err(stop),
+        },
         Err(_) => Err(Stop::NoMemory),
     }
 }
 
-// Prints what is asked for of the listing, the replay and the serial run. Makes the region if no
-// line has made it yet.
-fn push_ending(stage: &mut Stage, wanted: Wanted, out: &mut Vec<u8>) -> Result<(), NoMemory>
+// Prints what is wanted at the end, and returns whether something is amiss that reads saw or
+// missed. Makes the region if no line has made it yet.
+fn push_ending(stage: &mut Stage, ending: Ending<'_>, out: &mut Vec<u8>) -> Result<bool, NoMemory>
+    ensures amiss { IfOk result (λ are_amiss. are_amiss ≡ amiss_at ending.entry) }
     ensures stage { OnOk result (stage.new ≡ Running (region_of stage.old)) }
-    ensures text { OnOk result (out.new.items ≡ out.old.items ++ ending wanted stage.old) }
+    ensures text { OnOk result (out.new.items ≡ out.old.items ++ ending_at ending.entry stage.old) }
 {
     stage.open()?;
     match stage {
-        Stage::Running(region) => push_all_wanted(region, wanted, out)?,
+        Stage::Running(region) => push_all_wanted(region, ending, out),
         Stage::Opening(_) => unreachable!(),
     }
-    Ok(())
 }
 
 // Appends the listing.
@@ -341,13 +362,30 @@ fn push_listed(region: &Region, options: Options, out: &mut Vec<u8>) -> Result<(
     Ok(())
 }
 
-// Prints what is asked for of the listing of a region, the replay and the serial run.
-fn push_all_wanted(region: &Region, wanted: Wanted, out: &mut Vec<u8>) -> Result<(), NoMemory>
-    ensures { OnOk result (out.new.items ≡ out.old.items ++ ending wanted (Running region.now)) }
+// Prints what reads saw and missed, if that is wanted, and returns whether something of it is amiss.
+fn push_watched(watcher: &Option<Watcher>, out: &mut Vec<u8>) -> Result<bool, NoMemory>
+    ensures text { OnOk result (out.new.items
+        ≡ with_reads out.old.items (option_map watched_in watcher.now)) }
+    ensures amiss { IfOk result (λ amiss. amiss
+        ≡ are_reads_amiss (option_map watched_in watcher.now)) }
 {
-    push_listed(region, wanted.options, out)?;
-    if wanted.serial {
+    match watcher {
+        Some(watcher) => watcher.push_reads(out),
+        None => Ok(false),
+    }
+}
+
+// Prints what is wanted of the listing of a region, the replay, the reads and the serial run.
+// Returns whether something is amiss that reads saw or missed.
+fn push_all_wanted(region: &Region, ending: Ending<'_>, out: &mut Vec<u8>) -> Result<bool, NoMemory>
+    ensures text { OnOk result (out.new.items
+        ≡ out.old.items ++ ending_at ending.entry (Running region.now)) }
+    ensures amiss { IfOk result (λ are_amiss. are_amiss ≡ amiss_at ending.entry) }
+{
+    push_listed(region, ending.wanted.options, out)?;
+    let are_amiss = push_watched(ending.watcher, out)?;
+    if ending.wanted.serial {
         push_serial(out, region.units())?;
     }
-    Ok(())
+    Ok(are_amiss)
 }

@@ -9,8 +9,8 @@ use crate::stage::Observer;
 use cics_dispatch::{Event, Region, Request};
 use cics_names::NoMemory;
 
-/// Plays a request of the line with this number, and drains the region. An observer sees each
-/// event.
+/// Plays a request of the line with this number, and drains the region. An observer sees the
+/// request, and each event.
 ///
 /// Errors: `NoMemory`.
 #[inline(always)]
@@ -23,8 +23,33 @@ pub fn play<O: Observer>(
     ensures region { OnOk result (region.new
         ≡ region_at (all_played region.old.machine request).machine) }
     ensures seen { OnOk result (O.seen observer.new ≡ after_events O.sight number
-        (O.seen observer.old) (all_played region.old.machine request).turns) }
+        (O.sight.with_request (O.seen observer.old) number request region.old)
+        (all_played region.old.machine request).turns) }
 {
+    if observer.sees_requests() {
+        return play_seen(region, number, request, observer);
+    }
+    let event = region.play(request)?;
+    show(region, number, event, observer)?;
+    drain(region, number, observer)
+}
+
+// Does the same, and shows the request. It isn't inlined: a request whose address is taken is
+// copied.
+#[inline(never)]
+fn play_seen<O: Observer>(
+    region: &mut Region,
+    number: u64,
+    request: Request,
+    observer: &mut O,
+) -> Result<(), NoMemory>
+    ensures region { OnOk result (region.new
+        ≡ region_at (all_played region.old.machine request).machine) }
+    ensures seen { OnOk result (O.seen observer.new ≡ after_events O.sight number
+        (O.sight.with_request (O.seen observer.old) number request region.old)
+        (all_played region.old.machine request).turns) }
+{
+    observer.see_request(number, &request, region)?;
     let event = region.play(request)?;
     show(region, number, event, observer)?;
     drain(region, number, observer)

@@ -4,16 +4,17 @@ ghost use Rattle.std.specs.Prelude.{◌≡◌, ◌++◌, ◌||◌, [], false, On
 ghost use Rattle.cics_run.specs.Told.Remarks.{no_remarks, remarked};
 ghost use Rattle.cics_run.specs.Stage.Amiss.{any_amiss};
 ghost use Rattle.cics_run.specs.Stage.Journal.{text_of};
-ghost use Rattle.cics_run.specs.Stage.Printed.{printed_in};
+ghost use Rattle.cics_run.specs.Stage.Printed.{printed_in, watched_by, watched_on};
 ghost use Rattle.cics_run.specs.Stage.Stages.{step, IsPlayed};
 
+use crate::reads::Watcher;
 use crate::stage::amiss::is_amiss;
 use crate::stage::journal::{push_event, push_fault};
 use crate::stage::notes::{Note, push_noted};
 use crate::stage::undefined::tells_undefined;
 use crate::stage::{Fault, Observer, Stage};
 use crate::told::{Remarks, keep_alone};
-use cics_dispatch::{Event, Region};
+use cics_dispatch::{Event, Region, Request};
 use cics_names::NoMemory;
 use std::alloc::Global;
 
@@ -33,6 +34,8 @@ pub struct Journal {
     /// The numbers of lines whose command has RESP2 alone, and was answered a condition: at most
     /// 64.
     pub alone: Vec<u64>,
+    /// The steps of the run, if they are wanted.
+    pub watcher: Option<Watcher>,
 }
 
 impl Journal {
@@ -43,6 +46,7 @@ impl Journal {
           is_amiss = false;
           notes = [];
           told = no_remarks (record { strict = false; why = false });
+          watched = None;
         } }
     {
         Journal {
@@ -52,6 +56,7 @@ impl Journal {
             notes: Vec::new(alloc),
             told: Remarks::new(alloc),
             alone: Vec::new(alloc),
+            watcher: None,
         }
     }
 
@@ -72,6 +77,8 @@ impl Journal {
             ≡ (self.old.is_amiss || any_amiss (step stage.old line.now).events)) }
         ensures told { OnOk result (self.new.told
             ≡ remarked self.old.told number line.now (step stage.old line.now)) }
+        ensures watched { OnOk result (watched_by self.new
+            ≡ watched_on number (watched_by self.old) (step stage.old line.now)) }
     {
         self.notes.clear();
         let fault = stage.run_line(*self.text.allocator(), number, line, self)?;
@@ -93,7 +100,26 @@ impl Observer for Journal {
 
     ghost sight = { journal_sight };
 
-    fn see(&mut self, _number: u64, event: &Event, _region: &Region) -> Result<(), NoMemory> {
+    fn sees_requests(&self) -> bool {
+        self.watcher.is_some()
+    }
+
+    fn see_request(
+        &mut self,
+        number: u64,
+        request: &Request,
+        region: &Region,
+    ) -> Result<(), NoMemory> {
+        match &mut self.watcher {
+            Some(watcher) => watcher.see_request(number, request, region),
+            None => Ok(()),
+        }
+    }
+
+    fn see(&mut self, number: u64, event: &Event, region: &Region) -> Result<(), NoMemory> {
+        if let Some(watcher) = &mut self.watcher {
+            watcher.see(number, event, region)?;
+        }
         let is_amiss = is_amiss(event);
         self.is_amiss |= is_amiss;
         self.is_undefined |= tells_undefined(event);

@@ -4,7 +4,7 @@ ghost use Rattle.std.specs.Prelude.{◌≡◌, OnOk, OnErr, IfOk, Ok, Option};
 ghost use Rattle.cics_history.specs.State.{OpeningState};
 ghost use Rattle.cics_units.specs.Opening.Faults.{AnswersFault};
 ghost use Rattle.cics_units.specs.declared.opening.opening.DefineFault.{DefineFault};
-ghost use Rattle.cics_run.specs.Stage.Seen.{after_events, after_step};
+ghost use Rattle.cics_run.specs.Stage.Seen.{after_all, after_step};
 ghost use Rattle.cics_run.specs.Stage.Stages.{initial_stage, region_of, defined, requested};
 ghost use Rattle.cics_run.specs.Stage.Stages.{followed, step, IsPlayed};
 ghost use Rattle.cics_run.specs.declared.stage.stage.Stage.TheVariants.{Opening as OpeningStage};
@@ -64,7 +64,7 @@ impl Stage {
     }
 
     /// Runs the line with this number, and returns its fault, if it has one. A fault ends the run.
-    /// The observer sees the line's events in their order, and then its fault.
+    /// The observer sees the line's request, its events in their order, and then its fault.
     ///
     /// Errors: `NoMemory`.
     pub fn run_line<O: Observer>(
@@ -87,7 +87,7 @@ impl Stage {
         }
     }
 
-    // Runs a line, and returns its fault. The observer sees the line's events.
+    // Runs a line, and returns its fault. The observer sees the line's request and its events.
     fn run_events<O: Observer>(
         &mut self,
         alloc: Global,
@@ -97,7 +97,7 @@ impl Stage {
     ) -> Result<Option<Fault>, NoMemory>
         ensures played { IfOk result (IsPlayed (step self.old line.now) self.new) }
         ensures seen { OnOk result (O.seen observer.new
-            ≡ after_events O.sight number (O.seen observer.old) (step self.old line.now).events) }
+            ≡ after_all O.sight number (O.seen observer.old) (step self.old line.now)) }
     {
         match read_line(alloc, line) {
             Ok(line) => self.follow(number, line, observer),
@@ -115,8 +115,7 @@ impl Stage {
     ) -> Result<Option<Fault>, NoMemory>
         ensures played { IfOk result (IsPlayed (followed self.old (Ok line)) self.new) }
         ensures seen { OnOk result (O.seen observer.new
-            ≡ after_events O.sight number (O.seen observer.old)
-            (followed self.old (Ok line)).events) }
+            ≡ after_all O.sight number (O.seen observer.old) (followed self.old (Ok line))) }
     {
         match line {
             Line::Blank => Ok(None),
@@ -166,8 +165,7 @@ impl Stage {
     ) -> Result<Option<Fault>, NoMemory>
         ensures played { IfOk result (IsPlayed (requested self.old request) self.new) }
         ensures seen { OnOk result (O.seen observer.new
-            ≡ after_events O.sight number (O.seen observer.old)
-            (requested self.old request).events) }
+            ≡ after_all O.sight number (O.seen observer.old) (requested self.old request)) }
     {
         self.open()?;
         match self {

@@ -12,12 +12,14 @@ use crate::session::Session;
 use crate::told::waiting::is_left_waiting;
 
 /// Returns whether a strict run that ended with `Status::Done` ends with status 5: an event of it
-/// was amiss (`cics_run::stage::amiss`), or a task still waits. The session is the one that was
-/// run: clause `kept` of `run_over` says that it has the end of the script's lines.
+/// was amiss (`cics_run::stage::amiss`), a task still waits, or reads are wanted and a finding isn't
+/// COMMITTED. The session is the one that was run: clause `kept` of `run_over` says that it has the
+/// end of the script's lines.
 ///
 /// Cost: O(tasks).
 pub fn is_amiss(session: &Session) -> bool
-    ensures { (p : Played) → HasEnd session.now p → result ≡ ends_amiss p }
+    ensures { (reads : Bool) (p : Played) → HasEnd reads session.now p
+        → result ≡ ends_amiss reads p }
 {
     session.journal.is_amiss || is_left_waiting(session)
 }

@@ -56,8 +56,9 @@ fn push_absent(out: &mut Vec<u8>, verb: &Verb) -> Result<(), NoMemory>
     match verb {
         Verb::Read { generic, gteq, .. } => push_sought(out, verb, *generic, *gteq),
         Verb::Delete { generic, .. } => push_sought(out, verb, *generic, false),
-        Verb::StartBr { generic, equal, .. } => push_sought(out, verb, *generic, !*equal),
-        Verb::ResetBr { generic, equal, .. } => push_sought(out, verb, *generic, !*equal),
+        Verb::StartBr { generic, equal, .. } | Verb::ResetBr { generic, equal, .. } => {
+            push_sought(out, verb, *generic, !*equal)
+        }
         _ => push_about(out, "no record of ", verb, " has the key of the start"),
     }
 }
@@ -70,11 +71,8 @@ fn push_item(out: &mut Vec<u8>, verb: &Verb) -> Result<(), NoMemory>
         Verb::ReadqTs {
             item: Some(item),
             ..
-        } => {
-            push_about(out, "queue ", verb, " has no item ")?;
-            push_number(out, *item)
         }
-        Verb::WriteqTs {
+        | Verb::WriteqTs {
             item: Some(item),
             ..
         } => {

@@ -1,12 +1,13 @@
 //! The lines on the deadlocks in which a run leaves its tasks.
 
-ghost use Rattle.std.specs.Prelude.{◌≡◌, ◌∷◌, ◌++◌, take, OnOk};
+ghost use Rattle.std.specs.Prelude.{◌≡◌, ◌∷◌, ◌++◌, OnOk};
 ghost use Rattle.std.specs.List.{flat_map};
 ghost use Rattle.cics_run.specs.Told.Deadlocked.{keys_text, queue_text, value_text, resource_text};
 ghost use Rattle.cics_run.specs.Told.Deadlocked.{wait_text, link_text, waits_text, deadlock_line};
 ghost use Rattle.cics_run.specs.Told.Deadlocked.{deadlock_lines, awaited_text};
 ghost use Rattle.cics_dispatch.specs.Machine.Blockers.{waiting_command};
 
+use crate::told::parts::first_bytes;
 use cics_dispatch::Region;
 use cics_dispatch::deadlocks::deadlocks;
 use cics_names::{Name8, NoMemory, Record, Verb};
@@ -30,23 +31,13 @@ fn push_queue(out: &mut Vec<u8>, name: &[u8]) -> Result<(), NoMemory>
     push_name(out, name)
 }
 
-// Returns the value of an ENQ: the first bytes of its resource.
-fn value_of(resource: &[u8], length: u64) -> &[u8]
-    ensures { result.now ≡ take length resource.now }
-{
-    if length < resource.len() as u64 {
-        &resource[..length as usize]
-    } else {
-        resource
-    }
-}
-
+// Appends the value of an ENQ: the first bytes of its resource.
 fn push_value(out: &mut Vec<u8>, resource: &Record, length: u64) -> Result<(), NoMemory>
     ensures { OnOk result (out.new.items
         ≡ out.old.items ++ value_text resource.now length) }
 {
     push_str(out, "value ")?;
-    push_text(out, value_of(resource.bytes(), length))
+    push_text(out, first_bytes(resource.bytes(), Some(length)))
 }
 
 // Appends what a command waits for: a record, a prefix, a queue or a value.

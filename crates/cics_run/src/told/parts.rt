@@ -41,24 +41,16 @@ pub fn from_in(verb: &Verb) -> &[u8]
     }
 }
 
-// Returns a number, or 0 if it isn't given.
-fn number_or_none(number: Option<u64>) -> u64
-    ensures { result ≡ number_or_none number }
-{
-    number.unwrap_or(0)
-}
-
 // Returns LENGTH, if it is given.
 fn length_given(verb: &Verb) -> Option<u64>
     ensures { result ≡ length_in verb.now }
 {
     match verb {
-        Verb::Write { length, .. } => *length,
-        Verb::Rewrite { length, .. } => *length,
-        Verb::WriteqTs { length, .. } => *length,
-        Verb::WriteqTd { length, .. } => *length,
-        Verb::Enq { length, .. } => Some(*length),
-        Verb::Deq { length, .. } => Some(*length),
+        Verb::Write { length, .. }
+        | Verb::Rewrite { length, .. }
+        | Verb::WriteqTs { length, .. }
+        | Verb::WriteqTd { length, .. } => *length,
+        Verb::Enq { length, .. } | Verb::Deq { length, .. } => Some(*length),
         _ => verb.length(),
     }
 }
@@ -67,7 +59,7 @@ fn length_given(verb: &Verb) -> Option<u64>
 pub fn length_in(verb: &Verb) -> u64
     ensures { result ≡ number_or_none (length_in verb.now) }
 {
-    number_or_none(length_given(verb))
+    length_given(verb).unwrap_or(0)
 }
 
 /// Returns KEYLENGTH, or 0.
@@ -75,17 +67,17 @@ pub fn key_length_in(verb: &Verb) -> u64
     ensures { result ≡ number_or_none (key_length_in verb.now) }
 {
     match verb {
-        Verb::Read { key_length, .. } => number_or_none(*key_length),
-        Verb::Write { key_length, .. } => number_or_none(*key_length),
-        Verb::Delete { key_length, .. } => number_or_none(*key_length),
-        Verb::StartBr { key_length, .. } => number_or_none(*key_length),
-        Verb::ResetBr { key_length, .. } => number_or_none(*key_length),
+        Verb::Read { key_length, .. }
+        | Verb::Write { key_length, .. }
+        | Verb::Delete { key_length, .. }
+        | Verb::StartBr { key_length, .. }
+        | Verb::ResetBr { key_length, .. } => key_length.unwrap_or(0),
         _ => 0,
     }
 }
 
-// Returns the first bytes of a text, as many as are given, or all.
-fn first_bytes(text: &[u8], length: Option<u64>) -> &[u8]
+/// Returns the first bytes of a text, as many as are given, or all.
+pub fn first_bytes(text: &[u8], length: Option<u64>) -> &[u8]
     ensures { result.now ≡ first_bytes text.now length }
 {
     match length {
@@ -115,12 +107,12 @@ fn push_name_in(out: &mut Vec<u8>, verb: &Verb) -> Result<(), NoMemory>
     ensures { OnOk result (out.new.items ≡ out.old.items ++ name_in verb.now) }
 {
     match verb {
-        Verb::WriteqTs { queue, .. } => push_bare(out, &queue.bytes()),
-        Verb::ReadqTs { queue, .. } => push_bare(out, &queue.bytes()),
-        Verb::DeleteqTs { queue } => push_bare(out, &queue.bytes()),
-        Verb::WriteqTd { queue, .. } => push_bare(out, &queue.bytes()),
-        Verb::ReadqTd { queue, .. } => push_bare(out, &queue.bytes()),
-        Verb::DeleteqTd { queue } => push_bare(out, &queue.bytes()),
+        Verb::WriteqTs { queue, .. } | Verb::ReadqTs { queue, .. } | Verb::DeleteqTs { queue } => {
+            push_bare(out, &queue.bytes())
+        }
+        Verb::WriteqTd { queue, .. } | Verb::ReadqTd { queue, .. } | Verb::DeleteqTd { queue } => {
+            push_bare(out, &queue.bytes())
+        }
         _ => push_file(out, verb.file()),
     }
 }

@@ -32,7 +32,9 @@ fn plain_reason(reason: Reason) -> &'static str
         Reason::UpdateNotByKey => "UPDATE goes with neither GTEQ nor GENERIC",
         Reason::PrefixEmpty => "DELETE GENERIC needs a RIDFLD of 1 byte or more",
         Reason::NoRidfld => "KEYLENGTH and GENERIC need a RIDFLD",
-        Reason::BrowseIsGeneric => "READPREV can't follow a start with GENERIC",
+        Reason::BrowseIsGeneric => {
+            "READPREV can't follow a start with GENERIC: RESETBR without GENERIC comes first"
+        }
         _ => "",
     }
 }
@@ -44,12 +46,25 @@ fn push_state_reason(out: &mut Vec<u8>, verb: &Verb, reason: Reason) -> Result<(
     match reason {
         Reason::FileNotDefined => push_about(out, "the file ", verb, " isn't defined"),
         Reason::QueueNotDefined => push_about(out, "the queue ", verb, " isn't defined"),
-        Reason::UpdateReadOpen => {
-            push_about(out, "a record of ", verb, " is read for update already")
-        }
-        Reason::NoUpdateRead => push_about(out, "no record of ", verb, " is read for update"),
-        Reason::BrowseOpen => push_about(out, "a browse of ", verb, " is open already"),
-        Reason::NoBrowse => push_about(out, "no browse of ", verb, " is open"),
+        Reason::UpdateReadOpen => push_about(
+            out,
+            "a record of ",
+            verb,
+            " is read for update already: REWRITE, DELETE or UNLOCK it first",
+        ),
+        Reason::NoUpdateRead => push_about(
+            out,
+            "no record of ",
+            verb,
+            " is read for update: READ it with UPDATE first",
+        ),
+        Reason::BrowseOpen => push_about(
+            out,
+            "a browse of ",
+            verb,
+            " is open already: RESETBR moves it, ENDBR ends it",
+        ),
+        Reason::NoBrowse => push_about(out, "no browse of ", verb, " is open: STARTBR opens one"),
         _ => push_str(out, plain_reason(reason)),
     }
 }

@@ -14,7 +14,7 @@ use crate::session::{RunFault, Sink, Status, Stop, ended, write_pending, write_p
 use crate::stage::{Fault, Observer, Stage};
 use crate::told::push_told;
 use crate::whole::next_line;
-use cics_dispatch::{Event, Region};
+use cics_dispatch::{Event, Region, Request};
 use cics_names::NoMemory;
 use cics_script::advice::Origin;
 use cics_script::spelling::{push_number, push_str};
@@ -34,6 +34,19 @@ impl Observer for Nobody {
     ghost seen = { λ _. tt };
 
     ghost sight = { no_sight };
+
+    fn sees_requests(&self) -> bool {
+        false
+    }
+
+    fn see_request(
+        &mut self,
+        _number: u64,
+        _request: &Request,
+        _region: &Region,
+    ) -> Result<(), NoMemory> {
+        Ok(())
+    }
 
     fn see(&mut self, _number: u64, _event: &Event, _region: &Region) -> Result<(), NoMemory> {
         Ok(())

@@ -127,7 +127,7 @@ pub reads-init : goal.reads-init
 reads-init g c = (
   [],
   consumes-nothing _,
-  stands-new (form_of c.args.wanted) _ _ _ c.scope-session.ensures c.requires.new,
+  stands-new (form_of c.args.wanted) _ _ _ _ c.scope-session.ensures c.watcher.ensures c.requires.new,
   c.requires.new.pending,
   ((0, rises-nothing _, omega arith), rises-nothing _, rises-nothing _),
   refl,

@@ -1,11 +1,12 @@
-use Rattle.std.proofs.Common.{subst, OnErr}
+use Rattle.std.proofs.Common.{subst}
+use Rattle.std.specs.Io.KnownBytes.{Appends}
 use Rattle.cics_run.specs.Session.Printing.{AppendsFront}
-use Rattle.cics_run.proofs.OfSession.Printing.{on-ok}
 use Rattle.cics_run.proofs.session.session.write_end.Goals as goal
 
-pub returns-in-Ok-clause-stage : goal.returns-in-Ok-clause-stage
-returns-in-Ok-clause-stage g c = on-ok _ _ c.in-Ok.ensures.stage
+pub returns-in-Ok-write_pending-clause-ok : goal.returns-in-Ok-write_pending-clause-ok
+returns-in-Ok-write_pending-clause-ok g c =
+    subst (Appends (g.K.Sink.contents c.args.sink.now) (g.K.Sink.contents c.write_pending.new.sink)) c.in-Ok.ensures.text c.in-Ok-write_pending.ensures.ok
 
-pub returns-in-Ok-clause-err : goal.returns-in-Ok-clause-err
-returns-in-Ok-clause-err g c =
-    subst (λ text. OnErr c.write_pending.result (AppendsFront (g.K.Sink.contents c.args.sink.now) (g.K.Sink.contents c.write_pending.new.sink) text)) c.in-Ok.ensures.text c.write_pending.ensures.err
+pub returns-in-Err-write_pending-clause-err : goal.returns-in-Err-write_pending-clause-err
+returns-in-Err-write_pending-clause-err g c =
+    subst (AppendsFront (g.K.Sink.contents c.args.sink.now) (g.K.Sink.contents c.write_pending.new.sink)) c.in-Ok.ensures.text c.in-Err-write_pending.ensures.err

@@ -1,3 +1,4 @@
+use Rattle.std.proofs.Common.{sym}
 use Rattle.std.proofs.lemmas.Result.{on_ok_weaker}
 use Rattle.cics_run.proofs.OfStage.Draining.{played_region, played_seen}
 use Rattle.cics_run.proofs.stage.draining.play.Goals as goal
@@ -10,4 +11,4 @@ returns-clause-region g c =
 pub returns-clause-seen : goal.returns-clause-seen
 returns-clause-seen g c =
     let (told, left) = c.in_ok-event.ensures.played in
-    on_ok_weaker c.drain.result (played_seen g.O.Observer.sight c.args.number c.args.region.now.machine _ _ c.args.request _ _ _ told left c.in_ok-show.ensures) c.drain.ensures.seen
+    on_ok_weaker c.drain.result (played_seen g.O.Observer.sight c.args.number c.args.region.now.machine _ _ c.args.request _ _ _ _ (sym (c.sees_requests.ensures c.if-sees_requests.false c.args.number c.args.request c.args.region.now)) told left c.in_ok-show.ensures) c.drain.ensures.seen

@@ -16,9 +16,10 @@ returns-then-is_fault g c =
     let text = rw c.deref-2.ensures.value at c.in_ok-self.ensures.text in
     let amiss = rw c.deref-2.ensures.value at c.in_ok-self.ensures.amiss in
     let told = rw c.deref-2.ensures.value at c.in_ok-self.ensures.told in
+    let watched = rw c.deref-2.ensures.value at c.in_ok-self.ensures.watched in
     let shown = rw c.deref.ensures.value at c.in_ok-push_wanted_line.ensures in
     record {
-      ran = record { stage = played.0; number = refl; fault = played.1; amiss = amiss; told = told; shows = refl };
+      ran = record { stage = played.0; number = refl; fault = played.1; amiss = amiss; told = told; watched = watched; shows = refl };
       line = refl;
       fault = c.if-is_fault.ensures;
       printed = behind-pending _ _ s.journal.text.items _ _ _ (both-behind s.journal.text.items _ (text_of (s.number + 1) (next_step s s.line.items)) _ _ text shown) c.in_ok-write_printed.ensures.printed;
@@ -34,9 +35,10 @@ returns g c =
     let text = rw c.deref-2.ensures.value at c.in_ok-self.ensures.text in
     let amiss = rw c.deref-2.ensures.value at c.in_ok-self.ensures.amiss in
     let told = rw c.deref-2.ensures.value at c.in_ok-self.ensures.told in
+    let watched = rw c.deref-2.ensures.value at c.in_ok-self.ensures.watched in
     let shown = rw c.deref.ensures.value at c.in_ok-push_wanted_line.ensures in
     record {
-      ran = record { stage = played.0; number = refl; fault = played.1; amiss = amiss; told = told; shows = refl };
+      ran = record { stage = played.0; number = refl; fault = played.1; amiss = amiss; told = told; watched = watched; shows = refl };
       line = c.clear.ensures.items;
       fault = c.if-is_fault.ensures;
       printed = behind-pending _ _ s.journal.text.items _ _ _ (both-behind s.journal.text.items _ (text_of (s.number + 1) (next_step s s.line.items)) _ _ text shown) c.in_ok-write_printed.ensures.printed;

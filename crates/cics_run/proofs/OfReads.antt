@@ -1,0 +1,5 @@
+mod Examples
+pub mod Knowing
+pub mod Lists
+pub mod Looks
+pub mod Watching

@@ -1,0 +1,8 @@
+use Rattle.std.proofs.Common.{◌≡◌, take, reverse}
+use Rattle.std.specs.Prelude.{map}
+use Rattle.std.specs.List.{filter}
+use Rattle.cics_run.specs.Reads.Skews.{turn_at, begins}
+use Rattle.cics_run.proofs.reads.skews.turns.Given as goal
+
+abbrev pub invariant-loop-step : goal.invariant-loop-step
+invariant-loop-step l = l.found ≡ map (λ s. turn_at (reverse l.steps) s.place) (filter begins (take l.step-index l.steps))

@@ -1,0 +1,11 @@
+pub mod Steps
+pub mod Runs
+pub mod Findings
+pub mod Skews
+pub mod Written
+pub mod Text
+pub mod Laws
+pub mod Looks
+pub mod Changes
+pub mod Watched
+pub mod Watching

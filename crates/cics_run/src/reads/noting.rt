@@ -1,0 +1,158 @@
+//! The steps of a run so far, and what is found in them.
+
+ghost use Rattle.std.specs.Prelude.{◌≡◌, [], IfOk, OnOk};
+ghost use Rattle.cics_run.specs.Reads.Runs.{with_step};
+ghost use Rattle.cics_run.specs.Reads.Written.{findings};
+
+use crate::reads::found::{Finding, Lost, Pair, Seen};
+use crate::reads::ordering::{dirty_reads, in_order, lost_updates, push_all};
+use crate::reads::runs::{is_no_step, next_place};
+use crate::reads::seeing::{push_dirty, push_lost, push_seen};
+use crate::reads::skews::{read_skews, turns, write_skews};
+use crate::reads::steps::{Act, Step};
+use cics_names::{Items, Name8, NoMemory};
+use std::alloc::Global;
+use std::marker::Model;
+
+// The steps of a run, and what each of them saw and replaced.
+#[derive(Drop)]
+struct Noted {
+    steps: Items<Step>,
+    seen: Items<Seen>,
+    dirty: Items<Pair>,
+    lost: Items<Lost>,
+}
+
+impl Model for Noted {
+    ghost use Rattle.std.specs.Prelude.{◌≡◌, reverse};
+    ghost use Rattle.cics_run.specs.Reads.Runs.{Run};
+    ghost use Rattle.cics_run.specs.Reads.Findings.{all_seen, dirty_reads, all_lost};
+
+    ghost Value = { Run };
+
+    ghost view = { λ n. reverse n.steps };
+
+    ghost invariant = { λ n. record {
+      seen_by_steps : n.seen ≡ all_seen (reverse n.steps);
+      dirty_by_steps : n.dirty ≡ dirty_reads (reverse n.steps);
+      lost_by_steps : n.lost ≡ all_lost (reverse n.steps);
+    } };
+}
+
+impl Noted {
+    fn new(alloc: Global) -> Noted
+        ensures { result ≡ [] }
+    {
+        Noted {
+            steps: Items::new(alloc),
+            seen: Items::new(alloc),
+            dirty: Items::new(alloc),
+            lost: Items::new(alloc),
+        }
+    }
+
+    // Adds what a task did by a line, if it is a step.
+    fn with_step(self, line: u64, task: Name8, act: Act) -> Result<Noted, NoMemory>
+        ensures { IfOk result (λ noted. noted ≡ with_step self line task act) }
+    {
+        if is_no_step(self.steps.as_slice(), &task, &act)? {
+            return Ok(self);
+        }
+        let Noted {
+            mut steps,
+            mut seen,
+            mut dirty,
+            mut lost,
+        } = self;
+        let step = Step {
+            place: next_place(steps.as_slice(), line, task),
+            act,
+        };
+        let known = seen.len();
+        push_seen(steps.as_slice(), &step, &mut seen)?;
+        push_dirty(steps.as_slice(), &seen.as_slice()[known..], &mut dirty)?;
+        push_lost(steps.as_slice(), &step, &mut lost)?;
+        steps.push(step)?;
+        Ok(Noted {
+            steps,
+            seen,
+            dirty,
+            lost,
+        })
+    }
+
+    // Returns all that is found, in order.
+    fn findings(&self, alloc: Global) -> Result<Items<Finding>, NoMemory>
+        ensures { IfOk result (λ found. found ≡ findings self.now) }
+    {
+        let steps = self.steps.as_slice();
+        let mut found = dirty_reads(alloc, steps, self.dirty.as_slice())?;
+        let lost = lost_updates(alloc, steps, self.lost.as_slice())?;
+        push_all(&mut found, in_order(alloc, lost.as_slice())?.as_slice())?;
+        let read = read_skews(alloc, steps, self.seen.as_slice())?;
+        push_all(&mut found, in_order(alloc, read.as_slice())?.as_slice())?;
+        let turns = turns(alloc, steps)?;
+        let write = write_skews(alloc, steps, turns.as_slice())?;
+        push_all(&mut found, in_order(alloc, write.as_slice())?.as_slice())?;
+        Ok(found)
+    }
+}
+
+/// The steps of a run so far, and what is found in them.
+///
+/// Contracts see the steps, the newest first. Once a call returns `NoMemory`, the steps are lost,
+/// and each later call returns it too.
+#[derive(Drop)]
+pub struct Reads {
+    alloc: Global,
+    noted: Option<Noted>,
+}
+
+impl Model for Reads {
+    ghost use Rattle.std.specs.Prelude.{[], unwrap_or};
+    ghost use Rattle.cics_run.specs.Reads.Runs.{Run};
+
+    ghost Value = { Run };
+
+    ghost view = { λ r. unwrap_or r.noted [] };
+}
+
+impl Reads {
+    /// Returns a run without steps. It takes no memory.
+    pub fn new(alloc: Global) -> Reads
+        ensures { result ≡ [] }
+    {
+        Reads {
+            alloc,
+            noted: Some(Noted::new(alloc)),
+        }
+    }
+
+    /// Notes what a task did by the line of this number.
+    ///
+    /// A READ UPDATE is left out if the task's last step at its key is a look by another command.
+    ///
+    /// Errors: `NoMemory`.
+    pub fn note(&mut self, line: u64, task: Name8, act: Act) -> Result<(), NoMemory>
+        ensures { OnOk result (self.new ≡ with_step self.old line task act) }
+    {
+        let Some(noted) = self.noted.take() else {
+            return Err(NoMemory);
+        };
+        self.noted = Some(noted.with_step(line, task, act)?);
+        Ok(())
+    }
+
+    /// Returns all that is found in the run so far: the dirty reads, the lost updates, the read skews
+    /// and the write skews, those of one name in order.
+    ///
+    /// Errors: `NoMemory`.
+    pub fn findings(&self) -> Result<Items<Finding>, NoMemory>
+        ensures { IfOk result (λ found. found ≡ findings self.now) }
+    {
+        match &self.noted {
+            Some(noted) => noted.findings(self.alloc),
+            None => Err(NoMemory),
+        }
+    }
+}
