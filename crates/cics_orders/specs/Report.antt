@@ -1,4 +1,5 @@
 pub mod Along
+pub mod Findings
 pub mod Amiss
 pub mod Leads
 pub mod Open

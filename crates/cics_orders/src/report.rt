@@ -3,6 +3,7 @@
 mod along;
 mod amiss;
 mod counts;
+mod findings;
 mod laws;
 mod open;
 mod parts;

@@ -98,21 +98,21 @@ fn call_records(alloc: Global) -> Option<()> {
     is_same.then_some(())
 }
 
-// Undoes a change by its image, and drops the image.
-fn call_undoable<M: Undoable>(target: &mut M, mut image: M::Image)
+fn call_undo<M: Undoable>(target: &mut M, image: M::Image)
     requires { M.IsReady target.old image }
 {
-    let () = target.undo(&mut image);
+    let () = target.undo(image);
+}
+
+fn call_settle<M: Undoable>(target: &mut M, image: M::Image) {
     let () = target.settle(image);
 }
 
 fn call_images(alloc: Global) -> Option<()> {
     let mut file = File::new(alloc, DEFINITION);
-    let image: FileImage = file.write(record(alloc, b"0001aa")?, true).ok()?.image?;
-    let () = file.undo_one(image);
     let written = file.write(record(alloc, b"0001aa")?, true).ok()?;
     let mut images: Images<File> = Images::new(alloc);
-    let made: Result<(), NoMemory> = images.make_room(1_usize);
+    let made: Result<(), NoMemory> = images.make_room();
     made.ok()?;
     let () = images.store(written.image?);
     let () = images.back_out(&mut file);
@@ -129,10 +129,10 @@ fn call_file(alloc: Global) -> Option<()> {
     let _: Option<&Record> = file.last_to(KEY, false);
     let content = record(alloc, b"0001aa")?;
     let written: Result<Changed<FileImage>, NoMemory> = file.write(content, true);
-    written.ok()?;
+    call_settle::<File>(&mut file, written.ok()?.image?);
     let content = record(alloc, b"0001bb")?;
     let rewritten: Changed<FileImage> = file.rewrite(content, true);
-    call_undoable::<File>(&mut file, rewritten.image?);
+    call_undo::<File>(&mut file, rewritten.image?);
     let deleted: Result<Changed<FileImage>, NoMemory> = file.delete(KEY, true);
     variants::changed(&deleted.ok()?);
     let () = file.sweep(KEY);
@@ -174,10 +174,10 @@ fn call_temp_storage(alloc: Global) -> Option<()> {
     let written: Result<TsWritten, NoMemory> = store.write(name, item, true);
     variants::ts_written(&written.ok()?);
     let item = record(alloc, b"uno")?;
-    let rewritten: TsWritten = store.rewrite(&name, 1_u64, item, true);
-    rewritten.image?;
+    let rewritten: Result<TsWritten, NoMemory> = store.rewrite(&name, 1_u64, item, true);
+    call_settle::<TempStore>(&mut store, rewritten.ok()?.changed.image?);
     let deleted: Changed<TsImage> = store.delete(&name, true);
-    call_undoable::<TempStore>(&mut store, deleted.image?);
+    call_undo::<TempStore>(&mut store, deleted.image?);
     let read: Result<TsRead, NoMemory> = store.read_item(&name, 1_u64);
     variants::ts_read(&read.ok()?);
     let read: Result<TsRead, NoMemory> = store.read_next(&name);
@@ -195,11 +195,11 @@ fn call_transient_data(alloc: Global) -> Option<()> {
     let _: Option<&Record> = queue.first(true);
     let content = record(alloc, b"one")?;
     let written: Result<Changed<TdImage>, NoMemory> = queue.write(content);
-    written.ok()?;
+    call_settle::<TransQueue>(&mut queue, written.ok()?.image?);
     let read: Result<TdRead, NoMemory> = queue.read(true);
     variants::td_read(&read.ok()?);
     let deleted: Changed<TdImage> = queue.delete();
-    call_undoable::<TransQueue>(&mut queue, deleted.image?);
+    call_undo::<TransQueue>(&mut queue, deleted.image?);
     let _: bool = queue.committed_empty();
     let () = queue.commit_reader();
     let () = queue.commit_writer();

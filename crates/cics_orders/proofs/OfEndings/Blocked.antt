@@ -13,7 +13,7 @@ use Rattle.cics_dispatch.specs.Notes.Notes.{is_unit}
 use Rattle.cics_dispatch.specs.Machine.Machine.{Machine, Task, task_at}
 use Rattle.cics_dispatch.specs.Machine.Tasks.{own_unit, had_by}
 use Rattle.cics_dispatch.specs.Machine.Waits.{wait_of}
-use Rattle.cics_dispatch.specs.Machine.Blockers.{unit_of, shared, has_in_way, label_in_way, blockers_by, blockers_of}
+use Rattle.cics_dispatch.specs.Machine.Blockers.{unit_of, shared, unit_blocks, blocking_label, blockers_by, blockers_of}
 use Rattle.cics_dispatch.specs.Future.Futures.{own_by, unnumbered, IsSteady, HaveSameFuture}
 use Rattle.cics_dispatch.proofs.OfMachine.TaskPlaces.{task_at-place}
 use Rattle.cics_dispatch.proofs.OfFuture.Labels.{both, told_by, live_of, open_of, label_of_own, AreActing, same_label}
@@ -56,19 +56,19 @@ module _ (m n : Machine) (same : HaveSameFuture m n) where
   used_same x y held _ = refl
 
   module _ (label : Bytes) (op : Op) where
-    way_same : (t u : Task) → AreActing m n t u → label_in_way m.units (unit_of m label) op t ≡ label_in_way n.units (unit_of n label) op u
+    way_same : (t u : Task) → AreActing m n t u → blocking_label m.units (unit_of m label) op t ≡ blocking_label n.units (unit_of n label) op u
     way_same t u acting = λ i. if inside i then Some (same_label t u acting.bare i) else None
       where
-        inside : has_in_way m.units (unit_of m label) op t.unit ≡ has_in_way n.units (unit_of n label) op u.unit
+        inside : unit_blocks m.units (unit_of m label) op t.unit ≡ unit_blocks n.units (unit_of n label) op u.unit
         inside =
-            both (λ x. 0) (λ x. 0) (λ o p. has_in_way m.units (unit_of m label) op o ≡ has_in_way n.units (unit_of n label) op p) t.unit u.unit
+            both (λ x. 0) (λ x. 0) (λ o p. unit_blocks m.units (unit_of m label) op o ≡ unit_blocks n.units (unit_of n label) op p) t.unit u.unit
             (ap (λ (x : Task). x.unit) acting.bare) (λ none none_too. refl)
             (λ x y has too zero.
             let other = other_told m same.first t acting.there x has label ∙ ap (λ l. not (is_same l label)) (same_label t u acting.bare) ∙ sym (other_told n same.second u acting.too y too label) in
             λ i. other i && used_same x y (held_same t u acting x y has too) op i)
 
     ways_same : (ts us : List Task) → map unnumbered ts ≡ map unnumbered us → Stand m ts → Stand n us →
-        filter_map (label_in_way m.units (unit_of m label) op) ts ≡ filter_map (label_in_way n.units (unit_of n label) op) us
+        filter_map (blocking_label m.units (unit_of m label) op) ts ≡ filter_map (blocking_label n.units (unit_of n label) op) us
     ways_same [] [] bare stands stands_too = refl
     ways_same [] (u ∷ us) bare stands stands_too = cc
     ways_same (t ∷ ts) [] bare stands stands_too = cc

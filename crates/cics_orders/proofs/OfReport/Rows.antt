@@ -1,5 +1,5 @@
 -- Worked rows: reports on two endings and on one, and an order as a script.
-use Rattle.std.proofs.Common.{◌≡◌, [], ◌∷◌, ◌++◌, refl, Some, None, true, false}
+use Rattle.std.proofs.Common.{ℕ, ◌≡◌, [], ◌∷◌, ◌++◌, refl, Some, None, true, false}
 use Rattle.std.specs.Fmt.{digits}
 use lib.Chars.{codes}
 use Rattle.cics_names.specs.Ebcdic.{code_of, character_of}
@@ -10,6 +10,7 @@ use Rattle.cics_orders.specs.declared.search.exploring.Report.{Report}
 use Rattle.cics_orders.specs.declared.plans.plans.Planned.{Planned}
 use Rattle.cics_orders.specs.Report.Amiss.{is_amiss}
 use Rattle.cics_orders.specs.Report.Parts.{mark}
+use Rattle.cics_run.specs.declared.session.running.Orders.{Orders}
 use Rattle.cics_orders.specs.Report.Reporting.{report_text, every_text, endings_text, script_at}
 
 -- the label A
@@ -74,8 +75,12 @@ many = record {
   written = None;
 }
 
+-- a report within a limit is wanted
+abbrev within : ℕ → Orders
+within limit = record { told = true; limit = limit; ending = None; strict = false; reads = false }
+
 -- the parts of every ending are told once
-two_endings : report_text planned 200000 two ≡
+two_endings : report_text planned (within 200000) two ≡
     codes "LINE 4 B REFUSED 2 NoTask\n"
     ++ codes "ORDERS 12 SERIAL 2\n"
     ++ codes "ENDINGS 2 SERIAL 1\n"
@@ -91,7 +96,7 @@ unfolding every_text endings_text digits code_of character_of
 two_endings = refl
 
 -- a limit makes lower bounds of all numbers; one ending has all its parts
-cut_off : report_text planned 7 cut ≡
+cut_off : report_text planned (within 7) cut ≡
     codes "LINE 4 B REFUSED 2 NoTask\n"
     ++ codes "LIMIT 7 REACHED\n"
     ++ codes "ORDERS AT LEAST 7 SERIAL AT LEAST 7\n"
@@ -103,7 +108,7 @@ unfolding every_text endings_text digits code_of character_of
 cut_off = refl
 
 -- numbers of serial orders are exact if all of these were followed
-serial_exact : report_text planned 7 cut_but_serial ≡
+serial_exact : report_text planned (within 7) cut_but_serial ≡
     codes "LINE 4 B REFUSED 2 NoTask\n"
     ++ codes "LIMIT 7 REACHED\n"
     ++ codes "ORDERS AT LEAST 7 SERIAL 2\n"
@@ -115,7 +120,7 @@ unfolding every_text endings_text digits code_of character_of
 serial_exact = refl
 
 -- the greatest number that is kept is a lower bound
-counted_far : report_text planned 7 many ≡
+counted_far : report_text planned (within 7) many ≡
     codes "LINE 4 B REFUSED 2 NoTask\n"
     ++ codes "ORDERS AT LEAST 340282366920938463463374607431768211455 SERIAL 2\n"
     ++ codes "ENDINGS 2 SERIAL 1\n"

@@ -22,7 +22,9 @@ use Rattle.cics_orders.specs.declared.plans.plans.Planned.{Planned}
 use Rattle.cics_orders.specs.declared.plans.plans.RefusedLine.{RefusedLine}
 use Rattle.cics_orders.specs.declared.plans.plans.ScriptFault.{ScriptFault}
 use Rattle.cics_orders.specs.declared.plans.plans.ScriptFault.TheVariants as fault
+use Rattle.cics_run.specs.declared.session.running.Orders.{Orders}
 use Rattle.cics_orders.specs.Report.Along.{lines_along}
+use Rattle.cics_orders.specs.Report.Findings.{amiss_along}
 use Rattle.cics_orders.specs.Report.Open.{open_text}
 use Rattle.cics_orders.specs.Report.Parts.{mark_in, written_mark, told_in, shared, own_text}
 
@@ -110,26 +112,31 @@ heading_text r e =
 abbrev pub numbered_text : Report → ℕ → Reported → List ℕ
 numbered_text r k e = codes "ENDING " ++ (decimal k ++ heading_text r e)
 
--- its first order, and the parts that some ending lacks
-abbrev pub ending_text : Plan → Parts → Reported → List ℕ
-ending_text p all e = order_text p e.order ++ flat_map (own_text all) (told_in e.ending)
+-- what the reads of an order saw and missed that is amiss, if that is wanted
+abbrev pub amiss_if : Bool → Plan → Order → List ℕ
+amiss_if reads p o = if reads then amiss_along p o else []
+
+-- its first order, what the reads of that saw and missed, and the parts that some ending lacks
+abbrev pub ending_text : Bool → Plan → Parts → Reported → List ℕ
+ending_text reads p all e = order_text p e.order ++ (amiss_if reads p e.order ++ flat_map (own_text all) (told_in e.ending))
 
 -- the endings from a number on
-unfoldable pub endings_text : Plan → Report → Parts → ℕ → List Reported → List ℕ
-endings_text p r all k [] = []
-endings_text p r all k (e ∷ es) = numbered_text r k e ++ (ending_text p all e ++ endings_text p r all (k + 1) es)
+unfoldable pub endings_text : Bool → Plan → Report → Parts → ℕ → List Reported → List ℕ
+endings_text reads p r all k [] = []
+endings_text reads p r all k (e ∷ es) =
+    numbered_text r k e ++ (ending_text reads p all e ++ endings_text reads p r all (k + 1) es)
 
 -- the parts that each ending has, if there are some
 unfoldable pub every_text : Parts → List ℕ
 every_text parts = if length parts == 0 then [] else codes "EVERY ENDING\n" ++ flat_map (λ p. p) parts
 
--- the report within a limit
-abbrev pub report_text : Planned → ℕ → Report → List ℕ
-report_text planned limit r =
+-- the report that is wanted
+abbrev pub report_text : Planned → Orders → Report → List ℕ
+report_text planned w r =
     flat_map refused_text planned.refused
     ++ (flat_map open_text planned.plan.tasks
-    ++ (limit_text r limit
-    ++ (totals_text r ++ (every_text (shared r.endings) ++ endings_text planned.plan r (shared r.endings) 1 r.endings))))
+    ++ (limit_text r w.limit
+    ++ (totals_text r ++ (every_text (shared r.endings) ++ endings_text w.reads planned.plan r (shared r.endings) 1 r.endings))))
 
 -- ---- An order as a script
 

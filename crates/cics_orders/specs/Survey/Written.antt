@@ -33,7 +33,7 @@ WritesEnding r is_strict (Some text) before now status = (now ≡ before ++ text
 abbrev pub Writes : Orders → Survey → List ℕ → List ℕ → Surveyed → Type 0
 Writes w s before now status = by w.ending where
   by : Option ℕ → Type 0
-  by None = (now ≡ before ++ report_text s.planned w.limit s.report) × (status ≡ status_of s.report w.strict true)
+  by None = (now ≡ before ++ report_text s.planned w s.report) × (status ≡ status_of s.report w.strict true)
   by (Some k) = WritesEnding s.report w.strict (script_at s.planned.plan s.report k) before now status
 
 -- a text is what is wanted of the orders of a script that was taken apart, or the line of its fault

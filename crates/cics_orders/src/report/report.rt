@@ -4,17 +4,19 @@ ghost use Rattle.std.specs.Prelude.{◌≡◌, ◌++◌, OnOk};
 ghost use Rattle.std.specs.List.{flat_map};
 ghost use Rattle.cics_orders.specs.Report.Reporting.{fault_text, refused_text, word_of, word_text};
 ghost use Rattle.cics_orders.specs.Report.Reporting.{order_text, numbered_text, ending_text, endings_text};
-ghost use Rattle.cics_orders.specs.Report.Reporting.{every_text, report_text};
+ghost use Rattle.cics_orders.specs.Report.Reporting.{every_text, report_text, amiss_if};
 
 use crate::plans::{Plan, Planned, RefusedLine, ScriptFault, read};
 use crate::report::along::lines_along;
 use crate::report::counts::{push_heading, push_limit, push_totals};
+use crate::report::findings::push_amiss;
 use crate::report::open::push_open_tasks;
 use crate::report::parts::{push_own, push_parts, shared, told_in};
 use crate::search::Report;
 use crate::space::Ending;
 use cics_dispatch::{Event, Subject};
 use cics_names::{NoMemory, Record};
+use cics_run::session::Orders;
 use cics_run::stage::{Fault, journal};
 use cics_script::spelling::{push_bare, push_number, push_str};
 use cics_script::{Line, LineFault};
@@ -109,35 +111,47 @@ fn push_numbered(
     push_heading(out, report, ending)
 }
 
-// Appends the first order of an ending, and the parts that some ending lacks.
-fn push_ending(
-    out: &mut Vec<u8>,
-    plan: &Plan,
-    all: &[Record],
-    ending: &Ending,
-) -> Result<(), NoMemory>
-    ensures { OnOk result (out.new.items
-        ≡ out.old.items ++ ending_text plan.now all.now ending.now) }
+// How endings are told: by the plan, whether with what reads saw and missed, and the parts that each
+// ending has.
+#[derive(Clone, Copy)]
+struct Telling<'a> {
+    plan: &'a Plan,
+    reads: bool,
+    all: &'a [Record],
+}
+
+// Appends what the reads of an order saw and missed that is amiss, if that is wanted.
+fn push_reads(out: &mut Vec<u8>, telling: &Telling<'_>, order: &[usize]) -> Result<(), NoMemory>
+    ensures { OnOk result (out.new.items ≡ out.old.items
+        ++ amiss_if telling.now.reads telling.now.plan.now order.now) }
 {
-    push_order(out, plan, ending.order())?;
-    push_own(out, all, told_in(ending.parts()))
+    if !telling.reads {
+        return Ok(());
+    }
+    push_amiss(out, telling.plan, order)
+}
+
+// Appends the first order of an ending, what its reads saw and missed, and the parts that some
+// ending lacks.
+fn push_ending(out: &mut Vec<u8>, telling: &Telling<'_>, ending: &Ending) -> Result<(), NoMemory>
+    ensures { OnOk result (out.new.items ≡ out.old.items ++ ending_text telling.now.reads
+        telling.now.plan.now telling.now.all.now ending.now) }
+{
+    push_order(out, telling.plan, ending.order())?;
+    push_reads(out, telling, ending.order())?;
+    push_own(out, telling.all, told_in(ending.parts()))
 }
 
 // Appends each ending.
 #[tactic(auto, unfolding(crate::specs::Report::Reporting::endings_text))]
-fn push_endings(
-    out: &mut Vec<u8>,
-    plan: &Plan,
-    report: &Report,
-    all: &[Record],
-) -> Result<(), NoMemory>
-    ensures { OnOk result (out.new.items ≡ out.old.items
-        ++ endings_text plan.now report.now all.now 1 report.now.endings) }
+fn push_endings(out: &mut Vec<u8>, telling: &Telling<'_>, report: &Report) -> Result<(), NoMemory>
+    ensures { OnOk result (out.new.items ≡ out.old.items ++ endings_text telling.now.reads
+        telling.now.plan.now report.now telling.now.all.now 1 report.now.endings) }
 {
     let endings = report.endings.as_slice();
     for i in 0..endings.len() {
         push_numbered(out, report, i as u64 + 1, &endings[i])?;
-        push_ending(out, plan, all, &endings[i])?;
+        push_ending(out, telling, &endings[i])?;
     }
     Ok(())
 }
@@ -154,24 +168,31 @@ fn push_every(out: &mut Vec<u8>, all: &[Record]) -> Result<(), NoMemory>
     push_parts(out, all)
 }
 
-/// Appends the report on the orders of a script's lines, which were followed within a limit.
+/// Appends the report on the orders of a script's lines, which were followed within a limit
+/// (`wanted.limit`). With `wanted.reads` each order that is told is run once more, for what its
+/// reads saw and missed.
 ///
 /// Errors: `NoMemory`. Cost: O(endings * parts * parts of the first ending), O(bytes of the lines)
-/// for each order, and the bytes written.
+/// for each order, that of those runs, and the bytes written.
 pub fn push_report(
     out: &mut Vec<u8>,
     planned: &Planned,
-    limit: u64,
+    wanted: Orders,
     report: &Report,
 ) -> Result<(), NoMemory>
     ensures { OnOk result (out.new.items
-        ≡ out.old.items ++ report_text planned.now limit report.now) }
+        ≡ out.old.items ++ report_text planned.now wanted report.now) }
 {
     let all = shared(*out.allocator(), report.endings.as_slice())?;
     push_refused_lines(out, planned.refused.as_slice())?;
     push_open_tasks(out, planned.plan.tasks.as_slice())?;
-    push_limit(out, report, limit)?;
+    push_limit(out, report, wanted.limit)?;
     push_totals(out, report)?;
     push_every(out, all.as_slice())?;
-    push_endings(out, &planned.plan, report, all.as_slice())
+    let telling = Telling {
+        plan: &planned.plan,
+        reads: wanted.reads,
+        all: all.as_slice(),
+    };
+    push_endings(out, &telling, report)
 }

@@ -49,7 +49,7 @@ fn push_survey(out: &mut Vec<u8>, survey: &Survey, wanted: Orders) -> Result<Sur
     ensures { IfOk result (Writes wanted survey.now out.old.items out.new.items) }
 {
     let Some(number) = wanted.ending else {
-        push_report(out, &survey.planned, wanted.limit, &survey.report)?;
+        push_report(out, &survey.planned, wanted, &survey.report)?;
         return Ok(status_of(&survey.report, wanted.strict, true));
     };
     let is_there = push_script(out, &survey.planned.plan, &survey.report, number)?;

@@ -1,8 +1,8 @@
 -- What a recorder keeps of a line: a row for each event, and one for its fault.
 use Rattle.std.proofs.Common.{◌≡◌, ℕ, List, [], ◌∷◌, ◌++◌, map, refl, ap, sym, ◌∙◌, append_assoc, append-nil, Option, Some, None}
 use Rattle.cics_dispatch.specs.Machine.Events.{Happened}
-use Rattle.cics_run.specs.Stage.Seen.{after_events, after_fault}
-use Rattle.cics_run.specs.Stage.Stages.{Step}
+use Rattle.cics_run.specs.Stage.Seen.{after_events, after_fault, after_request}
+use Rattle.cics_run.specs.Stage.Stages.{Asked, Step}
 use Rattle.cics_run.specs.declared.stage.stage.Fault.{Fault}
 use Rattle.cics_picture.specs.declared.events.Told.{Told}
 use Rattle.cics_picture.specs.Draw.Recording.{told_of, fault_told, Recorded, recorder_sight, nothing_recorded, recorded}
@@ -25,7 +25,13 @@ fault-kept : (fault : Option Fault) (number : ℕ) (r : Recorded) → (after_fau
 fault-kept None number r = sym (append-nil r.told)
 fault-kept (Some fault) number r = refl
 
+request-kept : (asked : Option Asked) (number : ℕ) (r : Recorded) → after_request recorder_sight number r asked ≡ r
+request-kept None number r = refl
+request-kept (Some asked) number r = refl
+
 pub line-kept : (number : ℕ) (s : Step) → (recorded number s).told ≡ events_told s.events ++ faults_told number s.fault
 line-kept number s =
-    fault-kept s.fault number (after_events recorder_sight number nothing_recorded s.events)
-    ∙ ap (λ told. told ++ faults_told number s.fault) (events-kept s.events number nothing_recorded)
+    let r = after_request recorder_sight number nothing_recorded s.asked in
+    fault-kept s.fault number (after_events recorder_sight number r s.events)
+    ∙ ap (λ told. told ++ faults_told number s.fault)
+    (events-kept s.events number r ∙ ap (λ (x : Recorded). x.told ++ events_told s.events) (request-kept s.asked number nothing_recorded))

@@ -105,6 +105,7 @@ nothing_recorded = record { told = []; given = None }
 abbrev pub recorder_sight : Sight Recorded
 recorder_sight =
     record {
+      with_request = λ r number request before. r;
       with_event = λ r number h. record { told = r.told ++ told_of h.event ∷ []; given = later r.given (given_by h.event) };
       with_fault = λ r number fault. record { told = r.told ++ fault_told number fault ∷ []; given = r.given };
     }

@@ -9,7 +9,7 @@ ghost use Rattle.cics_picture.specs.Draw.Recording.{fault_told, gives_data, give
 ghost use Rattle.cics_picture.specs.Draw.Recording.{recorded_in, nothing_recorded};
 
 use crate::{Kind, Told};
-use cics_dispatch::{Event, Outcome, Region, Subject};
+use cics_dispatch::{Event, Outcome, Region, Request, Subject};
 use cics_names::{Condition, Name8, NoMemory, Record};
 use cics_run::stage::journal::{push_event, push_fault};
 use cics_run::stage::{Fault, Observer, tells_undefined};
@@ -196,6 +196,19 @@ impl Observer for Recorder {
     ghost seen = { recorded_in };
 
     ghost sight = { recorder_sight };
+
+    fn sees_requests(&self) -> bool {
+        false
+    }
+
+    fn see_request(
+        &mut self,
+        _number: u64,
+        _request: &Request,
+        _region: &Region,
+    ) -> Result<(), NoMemory> {
+        Ok(())
+    }
 
     fn see(&mut self, _number: u64, event: &Event, _region: &Region) -> Result<(), NoMemory> {
         self.is_undefined |= tells_undefined(event);

@@ -8,7 +8,7 @@ use cics_enqueue::{Resource, TakeFault, UnitId};
 use cics_images::Changed;
 use cics_ksds::{FileDef, FileImage, Removed};
 use cics_names::{AbendCode, Condition, Items, Name4, Name8, NameFault, Record};
-use cics_run::{Asked, Options, Orders, RunFault, Status, Wanted};
+use cics_run::{Asked, Options, RunFault, Status};
 use cics_script::{Line, LineFault};
 use cics_tempstor::{TsImage, TsRead, TsWritten};
 use cics_transdata::{Recovery, TdImage, TdRead};
@@ -66,8 +66,7 @@ pub(super) fn browsed(browsed: &Browsed) {
 }
 
 pub(super) fn ts_written(written: &TsWritten) {
-    shape!(written;
-        TsWritten { condition: Condition, number: Option<u64>, image: Option<TsImage> })
+    shape!(written; TsWritten { changed: Changed<TsImage>, number: Option<u64> })
 }
 
 pub(super) fn ts_read(read: &TsRead) {
@@ -262,9 +261,5 @@ pub(super) fn asked(asked: &Asked) {
     shape!(asked;
         Asked::Run(options: Options);
         Asked::Help(text: String);
-        Asked::Bad(text: String);
-        Asked::Extended(wanted: Wanted);
-        Asked::Check;
-        Asked::Picture;
-        Asked::Orders { wanted: Orders, progress: bool })
+        Asked::Bad(text: String))
 }
