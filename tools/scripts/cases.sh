@@ -21,10 +21,12 @@ add_case() {
 }
 
 # Whether a run with --strict of a journal finds something amiss: a refusal, an abend by a
-# condition or a time-out, or a task that still waits.
+# condition or a time-out, a task that still waits, or reads that saw or missed what wasn't
+# committed.
 is_amiss() {
     grep -Eq -e '^[^ ]+ (WOKEN )?(REFUSED [0-9]|ABEND (AKCS$|[A-Z]{4} [A-Z]+ [0-9]+$))' \
-        -e '^TASK [^ ]+ WAITING$' "$1"
+        -e '^TASK [^ ]+ WAITING$' -e '^DIRTY READ .* (BACKED OUT|OPEN)$' \
+        -e '^(LOST UPDATE|READ SKEW|WRITE SKEW) ' "$1"
 }
 
 # The runs of one script, by the files beside it.
@@ -68,6 +70,15 @@ add_script() {
         add_case "$1" "$title --with-script" 0 "$base.shown" same "$said" --with-script
     [ ! -f "$base.serial" ] ||
         add_case "$1" "$title --serial" 0 "$base.serial" same /dev/null --serial
+    if [ -f "$base.reads" ]; then
+        add_case "$1" "$title --reads" 0 "$base.reads" same "$said" --reads
+        strict=0
+        ! is_amiss "$base.reads" || strict=5
+        strict_said=$said
+        [ ! -f "$base.strict" ] || strict_said=$base.strict
+        add_case "$1" "$title --reads --strict" "$strict" "$base.reads" same "$strict_said" \
+            --reads --strict
+    fi
     [ ! -f "$base.svg" ] ||
         add_case "$1" "$title --picture" 0 "$base.svg" same /dev/null --picture
     [ ! -f "$base.orders" ] ||

@@ -83,6 +83,7 @@ is_said() {
     if [ "$told" = advice ]; then
         [ "$(head -c 14 "$came.said")" = 'cicsrun: line ' ] && [ "$(wc -l < "$came.said")" -le 3 ]
     else
+        [ -e "$told" ] || told=/dev/null
         cmp -s "$told" "$came.said"
     fi
 }
@@ -107,13 +108,36 @@ accept_run() {
     case $told in
     advice | /dev/null | "$room"/*) ;;
     *) cmp -s "$came.said" "$told" || {
-        cp -- "$came.said" "$told"
+        if [ -s "$came.said" ]; then cp -- "$came.said" "$told"; else rm -- "$told"; fi
         accepted=$((accepted + 1))
     } ;;
     esac
 }
 
-# Compares all runs, and shows each that differs.
+# Whether a run ended, printed and said what it has to.
+is_as_wanted() {
+    came=$whole
+    [ "$came_status" = "$status" ] && is_printed && came=$whole && is_said
+}
+
+# Shows how a run differs.
+show_difference() {
+    fail "$title"
+    [ "$came_status" = "$status" ] || echo "  ended with status $came_status, wanted $status" >&2
+    came=$whole
+    is_printed || case $way in
+    same | unshown) diff -u -L wanted -L came "$room/left" "$room/right" >&2 ;;
+    *) tail -n 3 "$came" >&2 ;;
+    esac
+    came=$whole
+    is_said || case $told in
+    advice) cat -- "$came.said" >&2 ;;
+    *) diff -u -L 'wanted on standard error' -L came "$told" "$came.said" >&2 ;;
+    esac
+}
+
+# Compares all runs, and shows each that differs. Accepted is only what stands in a file beside the
+# script, and no other status.
 compare_all() {
     while IFS='|' read -r number title status wanted way told; do
         came=$room/came/$number
@@ -121,24 +145,12 @@ compare_all() {
         [ -f "$came.said" ] || : > "$came.said"
         came_status=$(cat -- "$came.status" 2> /dev/null || echo none)
         whole=$came
-        if [ "$came_status" = "$status" ] && is_printed && came=$whole && is_said; then
-            continue
-        fi
-        came=$whole
-        [ -z "$accept" ] || {
+        ! is_as_wanted || continue
+        if [ -n "$accept" ] && [ "$came_status" = "$status" ]; then
+            came=$whole
             accept_run
-            continue
-        }
-        fail "$title"
-        [ "$came_status" = "$status" ] || echo "  ended with status $came_status, wanted $status" >&2
-        is_printed || case $way in
-        same | unshown) diff -u -L wanted -L came "$room/left" "$room/right" >&2 ;;
-        *) tail -n 3 "$came" >&2 ;;
-        esac
-        came=$whole
-        is_said || case $told in
-        advice) cat -- "$came.said" >&2 ;;
-        *) diff -u -L 'wanted on standard error' -L came "$told" "$came.said" >&2 ;;
-        esac
+            ! is_as_wanted || continue
+        fi
+        show_difference
     done < "$room/list"
 }

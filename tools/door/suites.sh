@@ -1,0 +1,94 @@
+# How tools/door/run tries bin/cicsrun-test.
+
+# A folder of scripts: nothing is recorded, all is recorded, a journal and a status differ, and what
+# is no run is never recorded.
+suites() {
+    mkdir -p -- "$room/a suite/bin" "$room/a suite/none" || exit 1
+    cp -- "$root/bin/cicsrun-test" "$room/a suite/bin" || exit 1
+    ln -s -- "$(readlink -f -- "$program")" "$room/a suite/bin/cicsrun" || exit 1
+    suite="$room/a suite/bin/cicsrun-test"
+    cd -- "$room/a suite" && mkdir s || exit 1
+    echo 'ATTACH T1 TRANSID(%TEST%)' | tr % "'" > s/attach.cics
+    echo 'CLOCK x' > s/fault.cics
+    printf -- '--no-list --strict' > s/refused.args
+    echo 'CLOCK 5
+CLOCK 4' > s/refused.cics
+    attached="T1 ATTACHED 'TEST'
++LISTING
++TASK T1 IDLE
++exit status 0"
+    try 'scripts without journals' "$suite" s
+    wants 1 "s/attach.cics: no attach.journal: read what came, and record it with --accept
+@@ -0,0 +1,4 @@
++$attached
+s/fault.cics: no fault.journal: read what came, and record it with --accept
+@@ -0,0 +1,2 @@
++LINE 1 FAULT 5 BadNumber
++exit status 1
+$(bin/cicsrun < s/fault.cics 2>&1 > /dev/null)
+s/refused.cics: no refused.journal: read what came, and record it with --accept
+@@ -0,0 +1,3 @@
++CLOCK 5
++CLOCK REFUSED 6 ClockBack
++exit status 5
+cicsrun: line 2: CLOCK doesn't go back
+cicsrun-test: 0 of 3 as recorded" ''
+    try '--accept' "$suite" --accept s
+    wants 0 's/attach.cics: recorded, exit status 0
+s/fault.cics: recorded, exit status 1
+s/refused.cics: recorded, exit status 5
+cicsrun-test: 3 of 3 as recorded' ''
+    [ "$(cat s/*.status | tr '\n' ' ')" = '1 5 ' ] || differs "the statuses are $(cat s/*.status)"
+    as_recorded='s/fault.cics: as recorded, exit status 1
+s/refused.cics: as recorded, exit status 5
+cicsrun-test: 3 of 3 as recorded'
+    try 'scripts as recorded' "$suite" s
+    wants 0 "$as_recorded" ''
+    rm s/fault.status
+    echo '  and more' >> s/attach.journal
+    echo 4 > s/refused.status
+    echo 'CLOCK 6' >> s/refused.journal
+    try 'a journal and a status that differ, and both' "$suite" s
+    wants 1 "s/attach.journal: - is recorded, + came
+@@ -1,5 +1,4 @@
+ T1 ATTACHED 'TEST'
+ LISTING
+ TASK T1 IDLE
+-  and more
+ exit status 0
+s/fault.status: - is recorded, + came
+@@ -1,2 +1,2 @@
+ LINE 1 FAULT 5 BadNumber
+-exit status 0
++exit status 1
+$(bin/cicsrun < s/fault.cics 2>&1 > /dev/null)
+s/refused.journal, s/refused.status: - is recorded, + came
+@@ -1,4 +1,3 @@
+ CLOCK 5
+ CLOCK REFUSED 6 ClockBack
+-CLOCK 6
+-exit status 4
++exit status 5
+cicsrun: line 2: CLOCK doesn't go back
+cicsrun-test: 0 of 3 as recorded" ''
+    echo 5 > s/refused.status
+    echo --bad > s/refused.args
+    try 'an option that cicsrun lacks' "$suite" --accept s
+    [ "$status" = 1 ] && [ "$(cat s/refused.status)" = 5 ] && grep -q "'--bad'" "$room/out" ||
+        differs "status $status: $(cat -- "$room/out")"
+    wants_suite_usage
+    cd / || exit 1
+}
+
+# Fails unless bin/cicsrun-test refuses bad arguments, and prints its help.
+wants_suite_usage() {
+    refusal="cicsrun-test: name one folder of scripts; try 'cicsrun-test --help'"
+    for words in '' --accept '--foo s' 's s' s/fault.cics; do
+        try "bin/cicsrun-test with '$words'" "$suite" $words
+        wants 2 '' "$refusal"
+    done
+    try 'a folder without scripts' "$suite" none
+    wants 2 '' 'cicsrun-test: no script NAME.cics is in none'
+    try 'the help of bin/cicsrun-test' "$suite" --help
+    wants 0 "$(sed -n '2,/^set/s/^# \{0,1\}//p' "$root/bin/cicsrun-test")" ''
+}
