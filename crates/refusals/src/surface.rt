@@ -129,12 +129,14 @@ fn call_file(alloc: Global) -> Option<()> {
     let _: Option<&Record> = file.last_to(KEY, false);
     let content = record(alloc, b"0001aa")?;
     let written: Result<Changed<FileImage>, NoMemory> = file.write(content, true);
-    call_settle::<File>(&mut file, written.ok()?.image?);
+    written.ok()?;
     let content = record(alloc, b"0001bb")?;
     let rewritten: Changed<FileImage> = file.rewrite(content, true);
     call_undo::<File>(&mut file, rewritten.image?);
     let deleted: Result<Changed<FileImage>, NoMemory> = file.delete(KEY, true);
-    variants::changed(&deleted.ok()?);
+    let deleted: Changed<FileImage> = deleted.ok()?;
+    variants::changed(&deleted);
+    call_settle::<File>(&mut file, deleted.image?);
     let () = file.sweep(KEY);
     let listing: Result<Items<Record>, NoMemory> = file.listing();
     listing.ok()?;
