@@ -271,8 +271,8 @@ impl Dispatcher {
         Some(file.definition())
     }
 
-    // Returns the first check that fails of a command of the task at an index, whose open update
-    // read of the command's file has the key `open_key`.
+    // Returns the first check that fails of a command of the task at an index. `open_key` is the
+    // key of the task's open update read of the command's file.
     #[inline(never)]
     fn failed_check(&self, at: usize, verb: &Verb, open_key: Option<&[u8]>) -> Option<Reason>
         requires within { at < length self.now.machine.tasks }

@@ -1,7 +1,7 @@
 //! A region: its tasks and their commands, who waits for whom, time-outs, abends and the shutdown.
 //!
-//! `cics_dispatch::machine` defines a region as a machine, and has the parts that it is made of. Each call of
-//! `Region` that changes it is one step. Read the modules in this order:
+//! `cics_dispatch::machine` defines a region as a machine, and has the parts that it is made of.
+//! Each call of `Region` that changes it is one step. Read the modules in this order:
 //!
 //! - `regions`, `playing`: the public calls.
 //! - `dispatcher`: the state of a region, and the step of each command.

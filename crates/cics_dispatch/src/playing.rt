@@ -22,8 +22,8 @@ fn refused(subject: Subject, refusal: Refused) -> Result<Event, NoMemory>
 }
 
 impl Region {
-    /// Plays a request, and returns its event: `attach`, `set_clock`, `issue` or `shutdown`. That of
-    /// a command has the first check that it failed, if it failed one.
+    /// Plays a request, and returns its event: `attach`, `set_clock`, `issue` or `shutdown`. That
+    /// of a command has the first check that it failed, if it failed one.
     ///
     /// Errors: `NoMemory`, which changes nothing. Any other refusal is an event.
     #[inline(always)]

@@ -426,7 +426,7 @@ impl Region {
     ///
     /// Errors: `NoMemory`.
     ///
-    /// Cost: O(bytes copied + tasks), however many commands wait.
+    /// Cost: that of `Units::listing`, and O(tasks), however many commands wait.
     pub fn listing(&self) -> Result<Listing, NoMemory>
         ensures listing { IfOk result (λ listing. listing ≡ region_listing self.now) }
         ensures replayed { IfOk result (λ listing.

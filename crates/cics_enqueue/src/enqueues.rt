@@ -1,4 +1,5 @@
-//! The enqueue table, and look-ups in it. `acquiring` and `releasing` have the calls that change it.
+//! The enqueue table, and look-ups in it. `acquiring` and `releasing` have the calls that change
+//! it.
 
 ghost use Rattle.cics_history.specs.declared.resources.Resource.TheVariants.{FileKey, FilePrefix};
 ghost use Rattle.std.specs.Prelude.{◌≡◌, ◌≤◌, ◌++◌, [], IfNone, IfSome, OnOk, length, option_map};

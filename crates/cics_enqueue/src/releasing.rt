@@ -106,7 +106,7 @@ impl Enqueues {
 
     /// Releases all that a unit owns. Takes no memory.
     ///
-    /// Cost: O(resources that it ever acquired).
+    /// Cost: O(k log resources), k the resources that it ever acquired.
     pub fn release_all(&mut self, unit: UnitId)
         ensures { self.new ≡ released self.old unit }
     {

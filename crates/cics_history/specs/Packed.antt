@@ -1,5 +1,5 @@
--- How an entry of the history lies in memory: packed, or apart as it was given. A packed one has its
--- kind with the name, one text, and one number.
+-- How an entry of the history lies in memory: packed, or apart as it was given. A packed one has
+-- its kind with the name, one text, and one number.
 use Rattle.std.specs.Prelude.{◌≡◌, ℕ, ◌+◌, ◌≤◌, Option, None, Some, IfSome, length, take, drop}
 use Rattle.std.specs.Bool.{then_some}
 use Rattle.cics_names.specs.Keyed.{Bytes}
@@ -60,8 +60,8 @@ IsPackable op content n = content ≡ None
 abbrev pub IsAt : ℕ → (key record_bytes : Bytes) → Type 0
 IsAt n key record_bytes = (take (length key) (drop n record_bytes) ≡ key) × (length key ≤ 255)
 
--- this number tells the place of the key or the item of a command, and no record of an answer stands
--- beside the command's own text
+-- This number tells the place of the key or the item of a command. No record of an answer stands
+-- beside the command's own text.
 abbrev pub IsTold : Op → Option Bytes → ℕ → Type 0
 IsTold (Write f k r) content n = IsAt n k r × (content ≡ None)
 IsTold (Rewrite f k r) content n = IsAt n k r × (content ≡ None)

@@ -50,8 +50,8 @@ queue_stamp q = text_stamp q.0 ++ list_stamp text_stamp q.1
 abbrev pub store_stamp : Store → List ℕ
 store_stamp s = list_stamp file_stamp s.files ++ (list_stamp queue_stamp s.ts ++ list_stamp queue_stamp s.td)
 
--- the stamp of a unit: what it did to recoverable files and queues, its update reads, and the values
--- that it enqueued on
+-- the stamp of a unit: what it did to recoverable files and queues, its update reads, and the
+-- values that it enqueued on
 unfoldable pub unit_stamp : UnitsState → ℕ → List ℕ
 unit_stamp s u =
     list_stamp op_stamp (map (λ e. e.op) (done_by s.opening s.trace u))

@@ -6,8 +6,8 @@ ghost use Rattle.cics_history.specs.Borrowed.{as_op};
 use crate::ops::Op;
 use cics_names::{Name4, Name8};
 
-/// An updating command whose bytes are borrowed: to read one takes no memory. A variant has what the
-/// variant of `Op` of its name has, in the same order. Contracts see the command (`as_op`).
+/// An updating command whose bytes are borrowed: to read one takes no memory. A variant has what
+/// the variant of `Op` of its name has, in the same order. Contracts see the command (`as_op`).
 #[derive(Drop)]
 pub enum OpRef<'a> {
     Write(Name8, &'a [u8], &'a [u8]),

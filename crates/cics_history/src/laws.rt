@@ -334,8 +334,8 @@ pub fn calls_keep_places()
 /// - `shown`: what a queue shows is what the history gives.
 /// - `committed`: if no other unit owns the reading end, a task may read what is shown, without
 ///   what another unit wrote.
-/// - `sees`: a task whose read needn't wait sees a record exactly if the queue shows one. So its
-///   read marks what a read of all shown records marks.
+/// - `sees`: a task whose read doesn't have to wait sees a record exactly if the queue shows one. So
+///   its read marks what a read of all shown records marks.
 pub fn calls_keep_marks()
     ensures begins { (o : OpeningState) → AreMarksOf (initial_units o) (marks_opened o) }
     ensures executes { (s : UnitsState) (p : Marks) (unit : Option ℕ) (op : Op) → IsSound s →
@@ -406,7 +406,8 @@ pub fn images_lead_back()
 /// - `first`: a reader gets the first record that it sees, whether or not it may see uncommitted
 ///   ones.
 /// - `read`: a reader that may not see uncommitted records reads as if it might, if it sees a
-///   record or none is shown. That is so if its read needn't wait (`sees` of `calls_keep_marks`).
+///   record or none is shown. That is so if its read doesn't have to wait (`sees` of
+///   `calls_keep_marks`).
 /// - `reader_commits`: a commit at the reading end removes what was read, if no open unit wrote it.
 pub fn queues_carry_their_marks()
     ensures shown { (s : TransState) → queue_of s ≡ shown (marks_of s) }

@@ -244,8 +244,8 @@ impl Answer {
 
 /// A command that was executed: its unit, what it asked for, and what it was answered.
 ///
-/// Contracts see these three. A history is long, so an entry is packed if its command and its answer
-/// fit: it has one text, and a key that lies in a record isn't kept beside it.
+/// Contracts see these three. A history is long, so an entry is packed if its command and its
+/// answer fit: it has one text, and a key that lies in a record isn't kept beside it.
 #[derive(Drop)]
 pub struct Entry {
     unit: UnitId,
@@ -265,10 +265,10 @@ impl Model for Entry {
 impl Entry {
     /// Returns the entry of any command and any answer.
     ///
-    /// Those of a region take no memory: a record moves in (`packed`). A key beside a record lies in
-    /// it, and a key or a prefix has at most 255 bytes. Only READ UPDATE and READQ TD are answered
-    /// with a record. WRITE, REWRITE and READ UPDATE are answered with no number, and a rewrite of
-    /// an item with none but the item's. Any others are boxed.
+    /// Those of a region take no memory: a record moves in (`packed`). A key beside a record lies
+    /// in it, and a key or a prefix has at most 255 bytes. Only READ UPDATE and READQ TD are
+    /// answered with a record. WRITE, REWRITE and READ UPDATE are answered with no number, and a
+    /// rewrite of an item with none but the item's. Any others are boxed.
     ///
     /// Errors: `NoMemory` if the memory for the box is refused.
     ///

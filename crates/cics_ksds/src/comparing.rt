@@ -10,8 +10,8 @@ use std::cmp::Ordering;
 /// How many bytes are compared as one number.
 pub(crate) const WORD: usize = 8;
 
-/// Returns the first eight bytes of a key as a number, whose highest digit is the first of them. Two
-/// numbers have the order of the bytes.
+/// Returns the first eight bytes of a key as a number, whose highest digit is the first of them.
+/// Two numbers have the order of the bytes.
 pub fn word_of(key: &[u8]) -> u64
     requires { 8 ≤ length key.now }
     ensures value { result ≡ number 0 (take 8 key.now) }

@@ -4,8 +4,8 @@ use Rattle.std.specs.Prelude.{◌≡◌, ℕ, ◌^◌, nat_lt, Bool, true, false
 use Rattle.std.specs.Int.{w64, to_be_bytes}
 use Rattle.cics_names.specs.Keyed.{Bytes}
 
--- whether the stamps of a type tell its values: where two stamps begin the same bytes, the values are
--- equal, and so are the bytes that follow
+-- whether the stamps of a type tell its values: where two stamps begin the same bytes, the values
+-- are equal, and so are the bytes that follow
 abbrev pub Splits : {X : Type 0} → (X → List ℕ) → Type 0
 Splits {X} f = (x y : X) (r s : List ℕ) → f x ++ r ≡ f y ++ s → (x ≡ y) × (r ≡ s)
 

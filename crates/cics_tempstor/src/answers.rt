@@ -19,8 +19,8 @@ pub struct TsRead {
 
 /// What WRITEQ TS is answered, with REWRITE or without.
 ///
-/// - `changed`: NORMAL if the item was added or replaced, ITEMERR if the queue is full or has no
-///   such item, QIDERR if there is no queue to replace an item of. And the image of the change, if
+/// - `changed`: NORMAL if the item was added or replaced. ITEMERR if the queue is full or has no
+///   such item. QIDERR if there is no queue to replace an item of. And the image of the change, if
 ///   it has one.
 /// - `number`: the number of the item, from 1 on, if the condition is NORMAL.
 #[derive(Drop)]

@@ -50,7 +50,7 @@ IsBound s op recovers = MatchBool (is_file_op op) (IsFileBound s (file_of op) re
 abbrev pub IsSeenIn : Bool → MarkedQueue → Type 0
 IsSeenIn own m = is_nothing (seen false (not own) m) ≡ is_nothing (shown m)
 
--- READQ TD needn't wait: of a LOGICAL queue it sees a record exactly if the queue shows one
+-- READQ TD doesn't have to wait: of a LOGICAL queue it sees a record exactly if the queue shows one
 abbrev pub IsSeen : StoreValue → Op → Bool → Type 0
 IsSeen s (TdRead q) own = IfSome (value_at q s.trans_data) (λ t. is_logical t.kind ≡ true → IsSeenIn own (marks_of t))
 IsSeen s _ own = Unit {0}

@@ -22,8 +22,8 @@ pub record IsBoundFor (core : CoreValue) (unit : ℕ) (b : BoundOp) : Type 0 whe
   -- either
   pub own : IsOwn b.op.now (is_writer core.table unit (queue_of b.op.now)) b.own
 
--- a command other than READ UPDATE can be applied. What it acts on is there, READQ TD needn't wait,
--- and there is room for its images
+-- a command other than READ UPDATE can be applied. What it acts on is there, READQ TD doesn't have
+-- to wait, and there is room for its images
 pub record CanApply (s : StoreValue) (b : BoundOp) (room : ℕ) : Type 0 where
   pub change : is_read b.op.now ≡ false
   pub bound : IsBound s b.op.now b.recoverable

@@ -1,8 +1,8 @@
 //! Units of work: they change files and queues side by side, and commit or are backed out.
 //!
 //! The definitions in `cics_history` say what each step does. Here are files, queues and locks in
-//! place. `cics_units::opening` has files and queues by name, and what they open with; `cics_units::replay` lists
-//! them. Read the modules in this order:
+//! place. `cics_units::opening` has files and queues by name, and what they open with;
+//! `cics_units::replay` lists them. Read the modules in this order:
 //!
 //! - `units`: the public calls on units, and the history of what they executed.
 //! - `units_core`: the steps of a command on what units change in place.

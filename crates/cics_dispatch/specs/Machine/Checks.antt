@@ -99,8 +99,8 @@ browsing_reason d browse (ReadPrev f n) = back_reason browse
 browsing_reason d browse (EndBr f) = browse_reason browse
 browsing_reason d browse _ = None
 
--- the first check that fails of a command on a defined file, from the key of its open update read
--- and the task's browse of it
+-- the first check that fails of a command on a defined file, by the key of the open update read and
+-- the browse of it
 abbrev pub file_reason : FileDef → Option Bytes → Option Position → Verb → Option Reason
 file_reason d open_read browse (Read f key given n generic gteq update) =
     read_reason d open_read key given generic gteq update

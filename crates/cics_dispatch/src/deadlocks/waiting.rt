@@ -26,7 +26,7 @@ fn is_blocked(region: &Region, number: usize) -> bool
 
 /// Returns how many tasks of a region wait for another one.
 ///
-/// Cost: O(tasks).
+/// Cost: O(tasks), and that of `Region::blocker` for each that waits.
 pub fn waiting_count(region: &Region) -> usize
     ensures { result ≡ waiting_count region.now.machine }
 {

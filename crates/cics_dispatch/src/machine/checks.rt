@@ -213,8 +213,8 @@ fn browsing_reason(definition: FileDef, browse: Option<&Browse>, verb: &Verb) ->
 /// `open_key` is the key of the task's open update read of the file, and `browse` its browse of it,
 /// each `None` if there is none.
 ///
-/// The checks come in this order: the options and the length of the key, the length of FROM, the
-/// open update read and the browse, and last the key in the record.
+/// The checks come in this order: the key's options and length, the length of FROM, the open update
+/// read and the browse, the key in the record.
 pub fn file_reason(
     definition: FileDef,
     open_key: Option<&[u8]>,

@@ -94,7 +94,7 @@ impl Listing {
     /// no task. `opening` says what of it is recoverable. `alloc` gives the memory for copies of
     /// all records.
     ///
-    /// Errors: `NoMemory`. Cost: O(bytes copied).
+    /// Errors: `NoMemory`. Cost: O(bytes copied + q * (log q + prefixes)), for q queues of items.
     pub fn of_store(
         alloc: Global,
         opening: &Opening,

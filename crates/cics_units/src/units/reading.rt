@@ -144,8 +144,8 @@ impl Units {
 
     /// Returns the units that committed, in commit order.
     ///
-    /// - `serializable`: run in this order, what they did gives what would stand in recoverable
-    ///   files and queues if the open units were backed out.
+    /// Clause `serializable` of other calls speaks of this order: what they did gives in it what
+    /// would stand in recoverable files and queues if the open units were backed out.
     pub fn commits(&self) -> &[UnitId]
         ensures commits { result.now ≡ self.now.state.commits }
     {
@@ -158,7 +158,7 @@ impl Units {
     /// - `replayed`: this is what `plain_replay` returns for the opening, the trace and the
     ///   outcomes.
     ///
-    /// Errors: `NoMemory`. Cost: O(bytes copied).
+    /// Errors: `NoMemory`. Cost: that of `Listing::of_store`.
     pub fn listing(&self) -> Result<Listing, NoMemory>
         ensures listing { IfOk result (λ listing. listing
             ≡ listing_of self.now.state.opening self.now.store) }
