@@ -11,8 +11,8 @@
 //! - `lines`: `read_line` returns the `Line` that the bytes say, or their first fault.
 //! - `columns`: `find_fault` returns that fault with its column.
 //!
-//! `cics_script::spelling` writes commands as lines. Cost of a call: O(bytes that it reads), but for
-//! `find_fault`.
+//! `cics_script::spelling` writes commands as lines. Cost of a call: O(bytes that it reads), but
+//! for `find_fault`.
 #![tactic(auto)]
 
 pub mod advice;

@@ -64,8 +64,8 @@ fault_in_quotes text =
     let coded = prefix_len has_code text in
     if not (is_some (text_in Quoted text)) && list_any is_quote (drop coded text) then 1 + coded else 0
 
--- how many bytes of a token stand before what is at fault in it: of a quoted literal that is closed,
--- but is none, those before its first byte that no quoted literal has
+-- how many bytes of a token stand before what is at fault in it: of a quoted literal that is
+-- closed, but is none, those before its first byte that no quoted literal has
 abbrev pub fault_within : List ℕ → ℕ
 fault_within [] = 0
 fault_within (c ∷ text) = if is_quote c then fault_in_quotes text else 0
@@ -74,7 +74,8 @@ fault_within (c ∷ text) = if is_quote c then fault_in_quotes text else 0
 abbrev pub told_column : List ℕ → Placed → Option ℕ
 told_column bytes placed = option_map (λ column. column + fault_within (drop (column - 1) bytes)) placed.column
 
--- the column of a cause: of a fault that was found the one that is told, of a definition some column
+-- the column of a cause: of a fault that was found the one that is told, of a definition some
+-- column
 abbrev pub IsColumnOf : List ℕ → Cause → Option ℕ → Type 0
 IsColumnOf bytes (causes.Line placed) column = column ≡ told_column bytes placed
 IsColumnOf bytes (causes.Definition fault) column = is_some column ≡ true

@@ -4,12 +4,12 @@ ghost use Rattle.std.specs.Prelude.{OnOk, IfOk};
 ghost use Rattle.cics_script.specs.Advice.Advice.{Advises, IsColumnOf};
 
 use crate::advice::bytes::{Unlisted, push_foreign};
-use crate::advice::context::{Context, is_one, is_word};
+use crate::advice::context::{Context, is_one};
 use crate::advice::filling::{Told, push_filled, subject_of};
 use crate::advice::origin::Origin;
 use crate::advice::placing::told_column;
 use crate::advice::showing::{push_marked, push_message};
-use crate::advice::tables::{DEFINITIONS, NEEDS};
+use crate::advice::tables::{DEFINITIONS, ELSEWHERE, NEEDS};
 use crate::advice::unknown::of_unknown;
 use crate::advice::values::{Split, of_value};
 use crate::spelling::push_str;
@@ -166,8 +166,11 @@ fn of_not_here<'a>(context: &Context<'a>) -> Told<'a> {
         let other = excluding(context).unwrap_or(&[]);
         return ("$ and % exclude each other", other);
     }
-    if is_word(context.token, "TRANSID") && is_word(subject_of(context), "RETURN") {
-        return ("& % isn't modelled (docs/LANGUAGE.md)", &[]);
+    let subject = subject_of(context);
+    for (words, options, text) in &ELSEWHERE {
+        if is_one(subject, words) && is_one(context.token, options) {
+            return (text, &[]);
+        }
     }
     ("& has no option %", &[])
 }

@@ -132,19 +132,39 @@ pub static NO_OPTIONS: [(&str, &str); 4] = [
     ("KEYS", "% is written KEYLENGTH(6) and KEYOFFSET(0)"),
 ];
 
+/// Options that stand elsewhere: the verbs or objects that lack them, and what to write.
+pub static ELSEWHERE: [(&str, &str, &str); 4] = [
+    (
+        "WRITE REWRITE WRITEQ",
+        "INTO",
+        "& has no option %: what is written stands in FROM",
+    ),
+    (
+        "READ READNEXT READPREV READQ",
+        "FROM",
+        "& has no option %: what is read comes INTO(AREA)",
+    ),
+    (
+        "TDQUEUE",
+        "RECOVERABLE UNRECOVERABLE",
+        "& has no option %: write LOGICAL, PHYSICAL or NONE",
+    ),
+    ("RETURN", "TRANSID", "& % isn't modelled (docs/LANGUAGE.md)"),
+];
+
 /// Words of other languages and products, and the option that stands for them.
 pub static MEANT: [(&str, &str); 7] = [
     ("KEY RECKEY", "RIDFLD"),
     ("QNAME", "QUEUE"),
     ("DSNAME DDNAME DSN", "FILE"),
-    ("RECORD VALUE VALUES", "FROM"),
+    ("RECORD VALUE VALUES DATA", "FROM"),
     ("TRANSACTION", "TRANSID"),
     ("TIMEOUT", "DTIMOUT"),
     ("NOWAIT", "NOSUSPEND"),
 ];
 
 /// Signs that begin no token, and what to do about them. The first row that fits counts.
-pub static SIGNS: [(&str, &str); 12] = [
+pub static SIGNS: [(&str, &str); 13] = [
     (".", "a line has no period at its end"),
     (",", "options are parted by blanks, not by commas"),
     ("\"", "a literal stands in single quotes, as 'ACCT'"),
@@ -154,6 +174,7 @@ pub static SIGNS: [(&str, &str); 12] = [
     ),
     ("--", OWN_LINE),
     ("-", "no minus stands here: a number is digits alone"),
+    ("+", "no plus stands here: a number is digits alone"),
     (";", "no semicolon stands in a line"),
     ("=", "a value stands in parentheses, as LENGTH(80)"),
     (":", "no colon stands in a line"),
@@ -228,7 +249,10 @@ pub static CODES: [(u8, u8); 11] = [
 
 /// What has to stand behind the first word of a line, or in its place.
 pub static SECOND: [(&str, &str); 8] = [
-    ("DEFINE", "DEFINE defines a FILE, a TSPREFIX or a TDQUEUE"),
+    (
+        "DEFINE",
+        "DEFINE defines a FILE, a TDQUEUE, or by TSPREFIX recoverable queues of temporary storage",
+    ),
     ("LOAD", "LOAD loads a record into a FILE or a TDQUEUE"),
     (
         "ATTACH",
