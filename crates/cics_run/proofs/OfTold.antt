@@ -1,3 +1,4 @@
 pub mod Put
+pub mod Nearest
 pub mod Strict
 pub mod Rows

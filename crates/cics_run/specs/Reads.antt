@@ -1,6 +1,8 @@
 pub mod Steps
 pub mod Runs
+pub mod Past
 pub mod Findings
+pub mod Seeing
 pub mod Skews
 pub mod Written
 pub mod Text

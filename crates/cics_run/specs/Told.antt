@@ -6,5 +6,7 @@ pub mod Parts
 pub mod Reasons
 pub mod Causes
 pub mod Nearest
+pub mod Instead
 pub mod Noted
 pub mod Remarks
+pub mod Findings

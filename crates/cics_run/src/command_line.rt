@@ -32,6 +32,9 @@ first sixteen tasks. Marks in a lane show events of its task, and bars show its
 units of work. An arrow goes from each wait to the task that is waited for, if
 both have lanes. The picture is written at the end of the run.
 
+The page shows the run line by line in a browser: at each step what stands, who
+changed it and what it was before, who holds what, and who waits for whom.
+
 With --reads the output tells what reads without a lock saw and missed, with the
 numbers of the lines. DIRTY READ: a read saw what wasn't committed. LOST UPDATE: a
 task replaced a change that its last look had missed. READ SKEW: a turn saw one
@@ -53,7 +56,8 @@ Exit status:
   2  bad arguments, a script that can't be opened, or no ending has this number
   3  no memory
   4  a read or a write failed, the script has more than 16,777,216 bytes, or a
-     picture would show more than 100,000 lines of the journal
+     picture or a page would show more than 100,000 lines of the journal, or a page
+     would have more than 64 MB of them
   5  with --strict: the whole script was run, and an event was refused, a task was
      abended by a condition or a time-out, or a task still waits at the end; with
      --reads also a finding that doesn't end in COMMITTED; with --orders: an ending
@@ -70,6 +74,7 @@ Each option, on examples of the repository:
   cicsrun --check examples/race.cics
   cicsrun --reads examples/lost-update.cics
   cicsrun --picture examples/deadlock.cics > deadlock.svg
+  cicsrun --page examples/deadlock.cics > deadlock.html
   cicsrun --orders --limit 5 examples/race.cics
   cicsrun --orders --told examples/race.cics
   cicsrun --orders --told --ending 2 examples/race.cics
@@ -94,9 +99,9 @@ const STATES: u64 = 30_000;
 /// What the help says of that.
 const LIMIT: &str = "Follow about N states (30000)";
 
-/// The options of a run, and those that go with none of them: the picture and the check. The first
+/// The options of a run, and those that go with none of them: the pictures and the check. The first
 /// two go with orders too.
-static RUNS: [&str; 9] = [
+static RUNS: [&str; 10] = [
     "strict",
     "reads",
     "no-list",
@@ -105,6 +110,7 @@ static RUNS: [&str; 9] = [
     "with-script",
     "why",
     "picture",
+    "page",
     "check",
 ];
 
@@ -125,6 +131,7 @@ pub enum Asked {
 /// - `Run`: a run of a script.
 /// - `Check`: what is at fault in the lines of a script, which isn't run.
 /// - `Picture`: the picture of a run.
+/// - `Page`: a run as a page to step through.
 /// - `Orders`: a report on the orders of a script's lines, or one of them as a script. `progress`
 ///   asks for lines on standard error that say how far the search is.
 /// - `Help`: the help or the version, which is to go to standard output.
@@ -135,6 +142,7 @@ pub enum Action {
     Run(Wanted),
     Check,
     Picture,
+    Page,
     Orders { wanted: Orders, progress: bool },
     Help(String),
     Bad(String),
@@ -157,7 +165,7 @@ const BEYOND: &str = "error: more is asked for than a run of standard input\n";
 /// input. These are bad:
 ///
 /// - an option that is given twice, and a second file;
-/// - `--serial` beside `--with-script`, and any option beside `--picture` or `--check`;
+/// - `--serial` beside `--with-script`, and any option beside `--picture`, `--page` or `--check`;
 /// - `--told`, `--limit`, `--ending` and `--progress` without `--orders`, any other option but
 ///   `--strict` and `--reads` beside it, and a number that isn't from 1 on;
 /// - `--reads` beside `--ending`, and beside `--orders` without `--told`;
@@ -227,6 +235,11 @@ fn apart_from_options<'a>(arg: Result<Arg<'a>, AllocError>) -> Result<Arg<'a>, A
     arg?.conflicts_with_all(&RUNS[..7])
 }
 
+// Returns an option that goes with none of the pictures.
+fn apart_from_pictures<'a>(arg: Arg<'a>) -> Result<Arg<'a>, AllocError> {
+    arg.conflicts_with_all(&RUNS[7..9])
+}
+
 // Adds an option to a command line. It takes the results of the calls before: so a row of calls has
 // no `?`, which would drop all that was made so far.
 fn with<'a>(
@@ -288,16 +301,19 @@ fn with_runs<'a>(alloc: Global, command: Command<'a>) -> Result<Command<'a>, All
     with(command, Ok(flag(alloc, "why", why)))
 }
 
-// Adds the options that go with no other: the picture and the check.
+// Adds the options that go with no other: the pictures and the check.
 fn with_lone_options<'a>(
     alloc: Global,
     command: Result<Command<'a>, AllocError>,
 ) -> Result<Command<'a>, AllocError> {
     let picture = "Print a picture of the run (SVG) in place of all that";
+    let page = "Print a page to step through the run (HTML) instead";
     let check = "Say what is at fault in each line, and run nothing";
     let picture = Ok(flag(alloc, "picture", picture));
-    let check = flag(alloc, "check", check).conflicts_with("picture");
+    let page = flag(alloc, "page", page).conflicts_with("picture");
+    let check = apart_from_pictures(flag(alloc, "check", check));
     let command = with(command, apart_from_options(picture));
+    let command = with(command, apart_from_options(page));
     with(command, apart_from_options(check))
 }
 
@@ -338,6 +354,9 @@ fn chosen(matches: &ArgMatches) -> Action {
     }
     if matches.get_flag("picture") {
         return Action::Picture;
+    }
+    if matches.get_flag("page") {
+        return Action::Page;
     }
     if matches.get_flag("orders") {
         let wanted = Orders {

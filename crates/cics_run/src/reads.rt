@@ -3,8 +3,9 @@
 //! - `steps`: the steps of a run, its looks, changes and ends, and the cells that they are at.
 //! - `looks`, `changes`: what a command looks at, and what it changes.
 //! - `watching`: the observer that notes the steps of a run.
+//! - `past`: the steps so far, with what is known by turn, by task and by cell.
+//! - `seeing`: what a look saw, and what a change replaced.
 //! - `noting`: `Reads`, the steps so far. It finds what is found in them.
-//! - `runs`, `seeing`: what came before a step; what a look saw, and what a change replaced.
 //! - `skews`: what two turns saw and missed of each other.
 //! - `found`, `ordering`, `writing`: what is found, its order, and its lines.
 //! - `laws`: what follows from the definitions.
@@ -15,7 +16,7 @@ pub mod laws;
 mod looks;
 mod noting;
 mod ordering;
-mod runs;
+mod past;
 mod seeing;
 mod skews;
 mod steps;
@@ -26,4 +27,4 @@ pub use found::{Fate, Finding, Pair};
 pub use noting::Reads;
 pub use steps::{Act, Bound, Cell, Change, Place, Spot, Step};
 pub use watching::Watcher;
-pub use writing::{is_any_amiss, push_findings};
+pub use writing::{is_amiss, is_any_amiss, push_findings};

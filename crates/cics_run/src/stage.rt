@@ -4,7 +4,7 @@
 //! - `draining`: a request, and what the region does by itself after it.
 //! - `observer`: who sees each event.
 //! - `printing`, `journal`: the observer that prints, and the lines of the journal.
-//! - `amiss`, `undefined`: what a strict run finds amiss, and names that aren't defined.
+//! - `amiss`: what a strict run finds amiss.
 //! - `notes`: which events are told to a person at the end of a run.
 
 pub mod amiss;
@@ -14,11 +14,9 @@ mod notes;
 mod observer;
 mod printing;
 mod stage;
-mod undefined;
 
 pub use cics_script::LineFault;
 pub use notes::{Note, Raised, Scope};
 pub use observer::Observer;
 pub use printing::Journal;
 pub use stage::{Fault, Stage};
-pub use undefined::{Named, keep_undefined, tells_undefined};

@@ -3,8 +3,9 @@
 //! - `remarks`: a line for each event that is told.
 //! - `noted`: the words of such a line. `reasons` has those on the check that a command failed, and
 //!   `causes` those on what came up as it was executed. `parts` finds the options of a command that
-//!   they name, and `nearest` a label that is almost another one.
-//! - `deadlocked`, `hints`: deadlocks, and undefined names.
+//!   they name. `nearest` finds a name that is almost another one, and `instead` tells of it.
+//! - `findings`: the words on a finding of `--reads`.
+//! - `deadlocked`, `hints`: deadlocks, and commands with RESP2 alone.
 //! - `amiss`, `waiting`: whether something is amiss at the end.
 //! - `faulty`: what a line with a fault needs.
 //! - `told`: all that is told at the end, or of a run that ended at a fault.
@@ -13,7 +14,9 @@ mod amiss;
 mod causes;
 mod deadlocked;
 mod faulty;
+mod findings;
 mod hints;
+mod instead;
 mod nearest;
 mod noted;
 mod parts;
@@ -26,5 +29,6 @@ pub use amiss::{is_amiss, strict_tells_all};
 pub use deadlocked::push_deadlocks;
 pub use faulty::push_told;
 pub use hints::keep_alone;
-pub use remarks::{Remark, Remarks};
+pub use instead::meant_queue;
+pub use remarks::{Remark, Remarks, push_remarks};
 pub use told::{told_at_end, told_of};

@@ -3,7 +3,8 @@
 mod checking;
 mod lines;
 mod reading;
+mod requests;
 
-pub use checking::check_script;
+pub use checking::{Nobody, check_script};
 pub use lines::{lines_of, next_line};
 pub use reading::read_script;

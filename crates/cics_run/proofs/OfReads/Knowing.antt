@@ -7,6 +7,7 @@ use Rattle.cics_run.specs.declared.reads.found.Lost.{Lost}
 use Rattle.cics_run.specs.declared.reads.steps.Cell.{Cell}
 use Rattle.cics_run.specs.declared.reads.steps.Step.{Step}
 use Rattle.cics_run.specs.Reads.Steps.{cells_of, is_view}
+use Rattle.cics_run.specs.Reads.Past.{mark_of}
 use Rattle.cics_run.specs.Reads.Findings.{replaced, replaced_at}
 use Rattle.cics_run.specs.Reads.Laws.{KnowsWhatItReplaces}
 
@@ -18,7 +19,7 @@ none_at f xs x none (k, below, is) =
     in omega (arith, ap length none)
 
 -- a look before the last change is told
-told_if : (d r c : Step) → is_view r.act ≡ true → length (replaced d (Some r) (Some c)) ≡ 0 → c.place.at ≤ r.place.at
+told_if : (d r c : Step) → is_view r.act ≡ true → length (replaced d (Some r) (Some (mark_of c))) ≡ 0 → c.place.at ≤ r.place.at
 told_if d r c view none = grind (arith, common_steps)
 
 pub knows_what_it_replaces : KnowsWhatItReplaces

@@ -1,34 +1,44 @@
 -- Dirty reads and lost updates, step by step.
-use Rattle.std.specs.Prelude.{Bool, false, not, ◌&&◌, ◌||◌, ◌==◌, nat_lt, if◌then◌else◌, Option, Some, None, List, [], ◌∷◌, ◌++◌, map, reverse}
-use Rattle.std.specs.List.{list_any, filter, flat_map}
+use Rattle.std.specs.Prelude.{ℕ, Bool, not, ◌&&◌, ◌||◌, nat_lt, if◌then◌else◌, Option, Some, None, option_map, List, [], ◌∷◌, ◌++◌, map}
+use Rattle.std.specs.List.{filter, flat_map, fold}
+use Rattle.std.specs.Map.{values_of}
+use Rattle.std.specs.BTreeMap.{insert_entry}
+use Rattle.std.specs.Ordering.{nat_cmp}
+use Rattle.cics_names.specs.Keyed.{is_same}
 use Rattle.cics_run.specs.declared.reads.steps.Cell.{Cell}
 use Rattle.cics_run.specs.declared.reads.steps.Step.{Step}
 use Rattle.cics_run.specs.declared.reads.found.Pair.{Pair}
 use Rattle.cics_run.specs.declared.reads.found.Seen.{Seen}
 use Rattle.cics_run.specs.declared.reads.found.Lost.{Lost}
 use Rattle.cics_run.specs.Reads.Steps.{looks_at, cells_of, is_view, is_adding, is_lasting}
-use Rattle.cics_run.specs.Reads.Runs.{Run, is_by, is_open, is_undone, last, near}
-
--- whether the last change of a cell that stands is this one
-abbrev pub is_that : Option Step → Step → Bool
-is_that None c = false
-is_that (Some l) c = l.place.at == c.place.at
-
--- whether a look behind a run is at a cell on which a change was last
-abbrev pub shows : Run → Step → Step → Bool
-shows run r c = list_any (λ x. looks_at r x && is_that (last x run) c) (cells_of c)
-
--- whether a look behind a run saw a change of another task
-abbrev pub saw : Run → Step → Step → Bool
-saw run r c = not (is_by r.place.task c) && shows run r c
+use Rattle.cics_run.specs.declared.reads.past.Mark.{Mark}
+use Rattle.cics_run.specs.Reads.Past.{mark_of, cells}
+use Rattle.cics_run.specs.Reads.Runs.{Run, is_open, is_undone, last, near}
 
 -- a look and a change that it saw
-abbrev pub seen : Step → Step → Seen
-seen r c = record { pair = record { look = r.place; change = c.place }; lasts = is_lasting c.act }
+abbrev pub seen : Step → Mark → Seen
+seen r c = record { pair = record { look = r.place; change = c.place }; lasts = c.lasts }
 
--- what a step behind a run saw if it is a look, in order of the changes
+-- what a look saw at a cell whose last change this is: a change of another task
+abbrev pub of_another : Step → Option Mark → List Seen
+of_another r None = []
+of_another r (Some c) = if is_same r.place.task c.place.task then [] else seen r c ∷ []
+
+-- what a look behind a run saw at a cell: the last change that stands, if another task made it
+abbrev pub seen_in : Run → Step → Cell → List Seen
+seen_in run r x = of_another r (option_map mark_of (last x run))
+
+-- what a look saw, by the numbers of the changes, with one more
+abbrev pub with_seen : List (ℕ × Seen) → Seen → List (ℕ × Seen)
+with_seen found s = insert_entry nat_cmp found s.pair.change.at s
+
+-- what a step behind a run saw at these cells, each change once, in order of the changes
+abbrev pub seen_among : Run → Step → List Cell → List Seen
+seen_among run r xs = values_of (fold with_seen [] (flat_map (seen_in run r) xs))
+
+-- what a step behind a run saw if it is a look
 abbrev pub seen_at : Run → Step → List Seen
-seen_at run r = if is_view r.act then map (seen r) (filter (saw run r) (reverse run)) else []
+seen_at run r = if is_view r.act then seen_among run r (filter (looks_at r) (cells run)) else []
 
 -- what each look saw, in order of the looks and then of the changes
 abbrev pub all_seen : Run → List Seen
@@ -53,7 +63,7 @@ dirty_reads [] = []
 dirty_reads (s ∷ run) = dirty_reads run ++ dirty_at run s
 
 -- what a change replaces at a cell, if its task's last step there is a look before the last change
-abbrev pub replaced : Step → Option Step → Option Step → List Lost
+abbrev pub replaced : Step → Option Step → Option Mark → List Lost
 replaced d (Some r) (Some c) =
     if is_view r.act && nat_lt r.place.at c.place.at
     then record { missed = record { look = r.place; change = c.place }; by = d.place; lasts = is_lasting d.act } ∷ []
@@ -62,7 +72,7 @@ replaced d r c = []
 
 -- what a change behind a run replaces at a cell, without knowing of it
 abbrev pub replaced_at : Run → Step → Cell → List Lost
-replaced_at run d x = replaced d (near d.place.task x run) (last x run)
+replaced_at run d x = replaced d (near d.place.task x run) (option_map mark_of (last x run))
 
 -- what it replaces so, in the order of its cells
 abbrev pub lost_at : Run → Step → List Lost

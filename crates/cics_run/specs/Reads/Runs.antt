@@ -6,7 +6,9 @@ use Rattle.cics_names.specs.Keyed.{Bytes, is_same}
 use Rattle.cics_run.specs.declared.reads.steps.Cell.{Cell}
 use Rattle.cics_run.specs.declared.reads.steps.Cell.TheVariants.{Record}
 use Rattle.cics_run.specs.declared.reads.steps.Act.{Act}
-use Rattle.cics_run.specs.declared.reads.steps.Act.TheVariants.{LookForUpdate}
+use Rattle.cics_run.specs.declared.reads.steps.Act.TheVariants.{LookForUpdate, End}
+use Rattle.cics_run.specs.declared.reads.found.Fate.{Fate}
+use Rattle.cics_run.specs.declared.reads.found.Fate.TheVariants.{Committed, BackedOut, Open}
 use Rattle.cics_run.specs.declared.reads.steps.Place.{Place}
 use Rattle.cics_run.specs.declared.reads.steps.Step.{Step}
 use Rattle.cics_run.specs.Reads.Steps.{changes, touches, is_plain, is_lasting, is_ending, is_undoing}
@@ -14,6 +16,11 @@ use Rattle.cics_run.specs.Reads.Steps.{changes, touches, is_plain, is_lasting, i
 -- the steps so far, the newest first
 abbrev pub Run : Type 0
 Run = List Step
+
+-- how what a task did ends its turn
+abbrev pub fate_by : Act → Fate
+fate_by (End committed) = if committed then Committed else BackedOut
+fate_by act = Open
 
 -- whether a task did a step
 abbrev pub is_by : Bytes → Step → Bool
@@ -44,6 +51,10 @@ is_open turn run = not (is_end (last_in turn run))
 -- whether what a turn did is backed out, if it doesn't last
 abbrev pub is_undone : ℕ → Run → Bool
 is_undone turn run = is_backout (last_in turn run)
+
+-- how a turn ended
+abbrev pub fate_of : ℕ → Run → Fate
+fate_of turn run = if is_open turn run then Open else if is_undone turn run then BackedOut else Committed
 
 -- whether a change stands: it lasts, or no backout of its turn came
 abbrev pub stands : Run → Step → Bool

@@ -1,6 +1,10 @@
 -- Read skews and write skews: what two turns saw and missed of each other.
-use Rattle.std.specs.Prelude.{ℕ, Bool, true, false, not, ◌&&◌, ◌||◌, ◌==◌, nat_lt, if◌then◌else◌, Option, Some, None, List, [], ◌∷◌, ◌++◌, map, reverse, take, drop, length, ◌+◌, ◌-◌, min}
-use Rattle.std.specs.List.{list_any, find, filter, flat_map, fold}
+use Rattle.std.specs.Prelude.{ℕ, Bool, true, false, not, ◌&&◌, ◌||◌, ◌==◌, nat_lt, if◌then◌else◌, Option, Some, None, List, [], ◌∷◌, ◌++◌, map, reverse, take, drop, length, ◌+◌, ◌-◌, min, unwrap_or}
+use Rattle.std.specs.List.{list_any, find, filter, flat_map, fold, prefix_len}
+use Rattle.std.specs.Map.{lookup, values_of}
+use Rattle.std.specs.BTreeMap.{insert_entry, is_at}
+use Rattle.std.specs.declared.cmp.Ordering.{Ordering}
+use Rattle.std.specs.Ordering.{nat_cmp, ordering_then}
 use Rattle.cics_names.specs.Keyed.{Bytes, is_same}
 use Rattle.cics_run.specs.declared.reads.steps.Cell.{Cell}
 use Rattle.cics_run.specs.declared.reads.steps.Place.{Place}
@@ -9,6 +13,7 @@ use Rattle.cics_run.specs.declared.reads.found.Pair.{Pair}
 use Rattle.cics_run.specs.declared.reads.found.Seen.{Seen}
 use Rattle.cics_run.specs.declared.reads.found.Turn.{Turn}
 use Rattle.cics_run.specs.declared.reads.found.Turns.{Turns}
+use Rattle.cics_run.specs.declared.reads.skews.Sides.{Sides}
 use Rattle.cics_run.specs.declared.reads.found.Finding.{Finding}
 use Rattle.cics_run.specs.declared.reads.found.Finding.TheVariants.{ReadSkew, WriteSkew}
 use Rattle.cics_run.specs.Reads.Steps.{looks_at, changes, cells_of}
@@ -40,9 +45,13 @@ begins s = s.place.turn == s.place.at
 abbrev pub turns : Run → List Turn
 turns run = map (λ s. turn_at run s.place) (filter begins (reverse run))
 
--- whether each of two turns began before the other one's last step
-abbrev pub overlap : Turn → Turn → Bool
-overlap one other = nat_lt one.number other.last && nat_lt other.number one.last
+-- whether a turn begins before the last step of another one
+abbrev pub begins_within : Turn → Turn → Bool
+begins_within one other = nat_lt other.number one.last
+
+-- those of the turns behind one that begin before its last step
+abbrev pub overlapping : Turn → List Turn → List Turn
+overlapping one behind = take (prefix_len (begins_within one) behind) behind
 
 -- the steps from the first one of a turn to its last one
 abbrev pub within : Run → Turn → List Step
@@ -90,21 +99,28 @@ first_pair missing (r ∷ looks) = first_or r (missing r) (first_pair missing lo
 abbrev pub first_missed : Run → Turns → Option Pair
 first_missed run t = first_pair (missed_by run t) (within run t.reader)
 
--- whether two looks saw a change of the same turns
-abbrev pub is_alike : Seen → Seen → Bool
-is_alike s p = s.pair.look.turn == p.pair.look.turn && s.pair.change.turn == p.pair.change.turn
-
 -- whether what a look saw stands
 abbrev pub is_standing : Run → Seen → Bool
 is_standing run s = s.lasts || not (is_undone s.pair.change.turn run)
 
+-- the turns of a look and of the change that it saw
+abbrev pub turns_seen : Seen → Sides
+turns_seen s = record { reader = s.pair.look.turn; writer = s.pair.change.turn }
+
+-- their order
+abbrev pub sides_cmp : Sides → Sides → Ordering
+sides_cmp a b = ordering_then (nat_cmp a.reader b.reader) (nat_cmp a.writer b.writer)
+
 -- the first of each two turns, with one more if it is that and stands
-abbrev pub with_first : Run → List Seen → Seen → List Seen
-with_first run firsts s = if is_standing run s && not (list_any (is_alike s) firsts) then firsts ++ s ∷ [] else firsts
+abbrev pub with_first : Run → List (Sides × Seen) → Seen → List (Sides × Seen)
+with_first run firsts s =
+    if is_standing run s
+    then insert_entry sides_cmp firsts (turns_seen s) (unwrap_or (lookup (is_at (sides_cmp (turns_seen s))) firsts) s)
+    else firsts
 
 -- of each two turns the first change of one that the other one saw
 abbrev pub first_seen : Run → List Seen → List Seen
-first_seen run found = fold (with_first run) [] found
+first_seen run found = values_of (fold (with_first run) [] found)
 
 -- what a turn missed, if it did, beside what it saw
 abbrev pub read_skew_of : Option Pair → Seen → List Finding
@@ -125,18 +141,20 @@ only_reading one other = record { reader = one; writer = other; alone = true }
 
 -- both at once, told with the smaller line first
 abbrev pub write_skew_of : Option Pair → Option Pair → List Finding
-write_skew_of (Some p) (Some q) = if nat_lt p.look.line q.look.line then WriteSkew p q ∷ [] else []
+write_skew_of (Some p) (Some q) = (if nat_lt p.look.line q.look.line then WriteSkew p q else WriteSkew q p) ∷ []
 write_skew_of p q = []
 
--- what two turns of two tasks missed of each other: that can be only if they overlap
+-- what two turns of two tasks missed of each other
 abbrev pub write_skew : Run → Turn → Turn → List Finding
 write_skew run one other =
-    if is_same one.task other.task || not (overlap one other) then []
+    if is_same one.task other.task then []
     else write_skew_of (first_missed run (only_reading one other)) (first_missed run (only_reading other one))
 
--- what is found of each two turns
+-- what is found of each two turns that overlap: else neither can miss a change of the other one and
+-- be missed by it
 abbrev pub of_turns : (Turn → Turn → List Finding) → List Turn → List Finding
-of_turns found all = flat_map (λ one. flat_map (found one) all) all
+of_turns found [] = []
+of_turns found (t ∷ ts) = flat_map (found t) (overlapping t ts) ++ of_turns found ts
 
 -- all read skews, by what was seen
 abbrev pub read_skews : Run → List Finding

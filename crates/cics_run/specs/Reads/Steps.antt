@@ -1,5 +1,5 @@
 -- The steps of a run: the cells that a step looks at, and those that it changes.
-use Rattle.std.specs.Prelude.{Bool, true, false, not, ◌&&◌, ◌||◌, ◌==◌, List, []}
+use Rattle.std.specs.Prelude.{Bool, true, false, not, ◌&&◌, ◌||◌, ◌==◌, Option, Some, None, List, []}
 use Rattle.std.specs.List.{list_any}
 use Rattle.cics_names.specs.Keyed.{Bytes, is_same, is_below}
 use Rattle.cics_run.specs.declared.reads.steps.Cell.{Cell}
@@ -18,6 +18,22 @@ same_cell (Record f k) (Record g l) = is_same f g && is_same k l
 same_cell (Record f k) (Item p m) = false
 same_cell (Item q n) (Record g l) = false
 same_cell (Item q n) (Item p m) = is_same q p && n == m
+
+-- the key of a bound
+abbrev pub key_of : Bound → Bytes
+key_of (In k) = k
+key_of (Out k) = k
+
+-- two cells between which all lie that a spot covers
+abbrev pub ends_of : Spot → Cell × Cell
+ends_of (spots.Keys f from to) = (Record f (key_of from), Record f (key_of to))
+ends_of (spots.Item q n) = (Item q n, Item q n)
+
+-- two cells between which all lie that a task looks at which does this, if it is a look
+abbrev pub view_ends : Act → Option (Cell × Cell)
+view_ends (Look spot) = Some (ends_of spot)
+view_ends (LookForUpdate f k) = Some (Record f k, Record f k)
+view_ends act = None
 
 -- whether a key isn't before the interval that begins at a bound
 abbrev pub is_from : Bound → Bytes → Bool

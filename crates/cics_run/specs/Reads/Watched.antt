@@ -157,8 +157,8 @@ abbrev pub doomed_if : Machine → Option Command → List Cell
 doomed_if m None = []
 doomed_if m (Some c) = doomed_by (store_of m.units) c.verb
 
--- If the next command to resume is one of such tasks, it is the first that nothing blocks: these are
--- the cells that it deletes.
+-- If the next command to resume is one of such tasks, it is the first that nothing blocks: these
+-- are the cells that it deletes.
 abbrev pub doomed_next : Machine → List Bytes → List Cell
 doomed_next m [] = []
 doomed_next m (label ∷ labels) =

@@ -1,19 +1,18 @@
 -- All that is found in a run, in order, and its text.
-use Rattle.std.specs.Prelude.{ℕ, Bool, false, not, ◌&&◌, ◌||◌, ◌==◌, nat_lt, if◌then◌else◌, Option, Some, None, List, [], ◌++◌, map}
-use Rattle.std.specs.List.{filter, fold, insert, prefix_len, slice_get}
+use Rattle.std.specs.Prelude.{ℕ, List, [], ◌++◌, map}
+use Rattle.std.specs.List.{filter, fold}
+use Rattle.std.specs.Map.{values_of}
+use Rattle.std.specs.BTreeMap.{insert_entry}
+use Rattle.std.specs.declared.cmp.Ordering.{Ordering}
+use Rattle.std.specs.Ordering.{nat_cmp, ordering_then}
 use Rattle.cics_run.specs.declared.reads.found.Pair.{Pair}
 use Rattle.cics_run.specs.declared.reads.found.Lost.{Lost}
-use Rattle.cics_run.specs.declared.reads.found.Fate.{Fate}
-use Rattle.cics_run.specs.declared.reads.found.Fate.TheVariants.{Committed, BackedOut, Open}
+use Rattle.cics_run.specs.declared.reads.ordering.Rank.{Rank}
 use Rattle.cics_run.specs.declared.reads.found.Finding.{Finding}
 use Rattle.cics_run.specs.declared.reads.found.Finding.TheVariants.{DirtyRead, LostUpdate, ReadSkew, WriteSkew}
-use Rattle.cics_run.specs.Reads.Runs.{Run, is_open, is_undone}
+use Rattle.cics_run.specs.Reads.Runs.{Run, fate_of}
 use Rattle.cics_run.specs.Reads.Findings.{dirty_reads, all_lost, is_kept}
 use Rattle.cics_run.specs.Reads.Skews.{read_skews, write_skews}
-
--- how a turn ended
-abbrev pub fate_of : ℕ → Run → Fate
-fate_of turn run = if is_open turn run then Open else if is_undone turn run then BackedOut else Committed
 
 -- a dirty read, with the fate of the change that it saw
 abbrev pub dirty : Run → Pair → Finding
@@ -37,32 +36,22 @@ by_of (LostUpdate p d) = d.at
 by_of (ReadSkew p q) = 0
 by_of (WriteSkew p q) = 0
 
--- whether a finding comes before another one of its name: by its look, the change that it missed,
--- and the change that replaced that
-abbrev pub comes_before : Finding → Finding → Bool
-comes_before f g =
-    nat_lt (pair_of f).look.at (pair_of g).look.at
-    || (pair_of f).look.at == (pair_of g).look.at
-    && (nat_lt (pair_of f).change.at (pair_of g).change.at
-    || (pair_of f).change.at == (pair_of g).change.at && nat_lt (by_of f) (by_of g))
+-- where a finding stands among those of its name: by its look, then by the change that it missed,
+-- then by the change that replaced that
+abbrev pub rank_of : Finding → Rank
+rank_of f = record { look = (pair_of f).look.at; change = (pair_of f).change.at; by = by_of f }
 
--- how many findings at the front come before one
-abbrev pub index_in : List Finding → Finding → ℕ
-index_in found f = prefix_len (λ g. comes_before g f) found
+-- the order of these
+abbrev pub rank_cmp : Rank → Rank → Ordering
+rank_cmp a b = ordering_then (nat_cmp a.look b.look) (ordering_then (nat_cmp a.change b.change) (nat_cmp a.by b.by))
 
--- whether a finding is the one that stands at its index
-abbrev pub is_there : Finding → Option Finding → Bool
-is_there f None = false
-is_there f (Some g) = not (comes_before f g)
-
--- findings in order with one more, unless it is there
-abbrev pub with_finding : List Finding → Finding → List Finding
-with_finding found f =
-    if is_there f (slice_get found (index_in found f)) then found else insert found (index_in found f) f
+-- findings by where they stand, with one more
+abbrev pub with_finding : List (Rank × Finding) → Finding → List (Rank × Finding)
+with_finding found f = insert_entry rank_cmp found (rank_of f) f
 
 -- findings in order, each once
 abbrev pub in_order : List Finding → List Finding
-in_order found = fold with_finding [] found
+in_order found = values_of (fold with_finding [] found)
 
 -- all that is found in a run: by the names, and those of one name in order
 abbrev pub findings : Run → List Finding

@@ -22,9 +22,10 @@ use Rattle.cics_run.specs.declared.session.running.RunFault.TheVariants as fault
 use Rattle.cics_run.specs.declared.session.running.Options.{Options}
 use Rattle.cics_run.specs.declared.told.remarks.Remarks.{Remarks}
 
--- The state after some lines: the stage, their number, the last of them, its fault, if any, whether
--- an event was amiss, and what was noted of reads, if that is wanted. The journal is there twice,
--- once with each line in front of its journal lines. The remarks depend on which events are told.
+-- The state after some lines: the stage, their number, the last of them, its fault, if any. It
+-- tells whether an event was amiss, and what was noted of reads, if that is wanted. The journal is
+-- there twice, once with each line in front of its journal lines. The remarks depend on which
+-- events are told.
 pub record Played : Type 0 where
   pub stage : Stage
   pub number : ℕ

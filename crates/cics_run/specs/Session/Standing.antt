@@ -127,7 +127,7 @@ Closes form bytes before now session result =
 abbrev pub final_stage : Played → Stage
 final_stage p = Running (region_of p.stage)
 
--- A session has the region in which these lines end, and knows whether one of their events was
+-- A session has the region in which these lines end. It knows whether one of their events was
 -- amiss, or something that reads saw or missed, if that is wanted.
 pub record HasEnd (reads : Bool) (session : Session) (p : Played) : Type 0 where
   pub stage : session.stage ≡ final_stage p

@@ -15,6 +15,7 @@ use Rattle.cics_dispatch.specs.declared.machine.outcomes.Outcome.TheVariants.{Re
 use Rattle.cics_dispatch.specs.declared.machine.outcomes.Refused.{Refused}
 use Rattle.cics_dispatch.specs.declared.machine.outcomes.Refused.TheVariants.{NoTask}
 use Rattle.cics_dispatch.specs.declared.machine.reasons.Reason.{Reason}
+use Rattle.cics_dispatch.specs.declared.machine.reasons.Reason.TheVariants.{FileNotDefined, QueueNotDefined}
 use Rattle.cics_run.specs.Stage.Amiss.{is_amiss, is_time_out}
 use Rattle.cics_run.specs.declared.stage.notes.Scope.{Scope}
 use Rattle.cics_run.specs.declared.stage.notes.Note.{Note}
@@ -60,7 +61,7 @@ abbrev pub noted_resumed : Bytes → Option Condition → Option Note → Option
 noted_resumed label None late = late
 noted_resumed label (Some c) late = Some (notes.Resumed label c)
 
--- what is noted of an event, if it is amiss or each condition is told
+-- what is noted of an event, if it is told
 abbrev pub noted_on : Scope → Event → Option Note
 noted_on scope (event.Issued label outcome reason) = noted_issued reason (raised_by outcome) (noted_late scope label outcome)
 noted_on scope (event.Woken w) = noted_resumed w.label (raised_by w.outcome) (noted_late scope w.label w.outcome)
@@ -70,9 +71,21 @@ noted_on scope (event.Attached label transaction) = None
 noted_on scope (event.ClockSet now) = None
 noted_on scope (event.ShutDown units) = None
 
--- what is noted of an event
+-- whether a check failed since a file or a queue of transient data isn't defined
+abbrev pub is_undefined : Option Reason → Bool
+is_undefined (Some FileNotDefined) = true
+is_undefined (Some QueueNotDefined) = true
+is_undefined _ = false
+
+-- whether a command names such a file or queue
+abbrev pub names_undefined : Event → Bool
+names_undefined (event.Issued label outcome reason) = is_undefined reason
+names_undefined _ = false
+
+-- what is noted of an event: one that is amiss is told, a name that isn't defined too, and
+-- otherwise each condition if that is wanted
 abbrev pub noted : Scope → Event → Option Note
-noted scope e = if is_amiss e || scope.why then noted_on scope e else None
+noted scope e = if (is_amiss e || scope.why) || names_undefined e then noted_on scope e else None
 
 -- a note stands behind those before it, if there is one
 abbrev pub with_note : List Note → Option Note → List Note

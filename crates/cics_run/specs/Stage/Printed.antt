@@ -11,8 +11,8 @@ use Rattle.cics_run.specs.declared.stage.notes.Note.{Note}
 use Rattle.cics_run.specs.declared.stage.printing.Journal.{Journal}
 use Rattle.cics_run.specs.declared.told.remarks.Remarks.{Remarks}
 
--- The text, whether an event in it is amiss, the notes on the last line's events, the remarks on the
--- lines before, and the steps of the run, if they are wanted.
+-- The text, whether an event in it is amiss, and the notes on the last line's events. Also the
+-- remarks on the lines before, and the steps of the run, if they are wanted.
 pub record Printed : Type 0 where
   pub text : List ℕ
   pub is_amiss : Bool

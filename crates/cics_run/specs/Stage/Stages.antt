@@ -27,8 +27,8 @@ pub record Asked : Type 0 where
   pub request : Request
   pub region : RegionValue
 
--- What a line does: the stage behind it, what it asks of the region, all that happens there, in its
--- order, and the line's fault, if it has one, which ends the run.
+-- What a line does: the stage behind it, what it asks of the region, and all that happens there, in
+-- its order. If the line has a fault, that ends the run.
 pub record Step : Type 0 where
   pub stage : Stage
   pub asked : Option Asked

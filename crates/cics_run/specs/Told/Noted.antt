@@ -16,6 +16,7 @@ use Rattle.cics_script.specs.declared.lines.Line.{Line}
 use Rattle.cics_script.specs.declared.lines.Line.TheVariants.{Issue}
 use Rattle.cics_script.specs.declared.faults.LineFault.{LineFault}
 use Rattle.cics_run.specs.Told.Causes.{general_text, cause_text}
+use Rattle.cics_run.specs.Told.Instead.{instead_text, instead_in, meant_words}
 use Rattle.cics_run.specs.Told.Nearest.{nearest_label}
 use Rattle.cics_run.specs.Told.Reasons.{reason_text}
 use Rattle.cics_run.specs.declared.stage.notes.Raised.{Raised}
@@ -46,9 +47,9 @@ abbrev pub reason_or_cause : Stage → Verb → Condition → Option Reason → 
 reason_or_cause stage verb c (Some reason) = reason_text (definition_in stage verb) verb reason
 reason_or_cause stage verb c None = cause_text verb c
 
--- the words on a condition that a command raised
+-- the words on a condition that a command raised, and on what is almost the name that isn't there
 abbrev pub raised_text : Stage → Verb → Raised → List ℕ
-raised_text stage verb r = reason_or_cause stage verb r.condition r.reason
+raised_text stage verb r = reason_or_cause stage verb r.condition r.reason ++ instead_in stage verb r.condition
 
 -- what came up, by the command of the line
 abbrev pub read_text : Stage → Result Line LineFault → Raised → List ℕ
@@ -73,14 +74,9 @@ refusal_words refused.DuplicateLabel = codes " was attached before"
 refusal_words refused.ClockBack = codes " doesn't go back"
 refusal_words refused.RegionDown = codes " comes after the shutdown"
 
--- a label that was attached
-abbrev pub near_text : Option Bytes → List ℕ
-near_text None = []
-near_text (Some near) = codes "; " ++ (bare near ++ codes " was")
-
 -- the nearest label that was attached, if no task has that of a command
 abbrev pub hint_text : Stage → Bytes → Refused → List ℕ
-hint_text (Running r) label refused.NoTask = near_text (nearest_label r.machine label)
+hint_text (Running r) label refused.NoTask = instead_text (nearest_label r.machine label) (codes " was")
 hint_text stage label refusal = []
 
 -- a refused request of a task
@@ -93,5 +89,6 @@ note_text stage bytes (notes.Issued raised) = issued_text stage (line bytes) rai
 note_text stage bytes (notes.Resumed label c) = resumed_text label c
 note_text stage bytes (notes.TimedOut label) = bare label ++ codes " was abended with AKCS, as by a time-out"
 note_text stage bytes (notes.Refused label refusal) = refused_text stage label refusal
+note_text stage bytes (notes.Meant queue) = bare queue ++ meant_words
 note_text stage bytes (notes.ClockRefused refusal) = codes "CLOCK" ++ refusal_words refusal
 note_text stage bytes (notes.ShutdownRefused refusal) = codes "SHUTDOWN" ++ refusal_words refusal

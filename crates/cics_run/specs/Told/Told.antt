@@ -1,5 +1,5 @@
 -- What a person is told of a run when it has ended.
-use Rattle.std.specs.Prelude.{◌≡◌, ◌⊎◌, ℕ, ◌+◌, ◌-◌, ◌==◌, ◌||◌, nat_lt, if◌then◌else◌, Option, Some, None, List, [], ◌++◌, length}
+use Rattle.std.specs.Prelude.{◌≡◌, ◌⊎◌, ℕ, ◌+◌, ◌-◌, ◌==◌, ◌&&◌, ◌||◌, nat_lt, if◌then◌else◌, Option, Some, None, List, [], ◌++◌, length, option_map}
 use Rattle.std.specs.Borrow.{Bor}
 use Rattle.cics_script.specs.Tokens.{after_blanks}
 use Rattle.cics_script.specs.Columns.{IsFoundIn}
@@ -18,6 +18,10 @@ use Rattle.cics_run.specs.declared.stage.stage.Stage.{Stage}
 use Rattle.cics_run.specs.declared.stage.stage.Stage.TheVariants.{Opening, Running}
 use Rattle.cics_run.specs.declared.session.session.Session.{Session}
 use Rattle.cics_run.specs.Told.Deadlocked.{deadlock_lines}
+use Rattle.cics_run.specs.Reads.Watched.{Watched}
+use Rattle.cics_run.specs.Reads.Watching.{watched_in}
+use Rattle.cics_run.specs.Reads.Written.{findings}
+use Rattle.cics_run.specs.Told.Findings.{found_remarks}
 use Rattle.cics_run.specs.Told.Remarks.{remark_lines}
 use Rattle.cics_run.specs.Told.Waiting.{waiting_line}
 use Rattle.cics_run.specs.declared.stage.notes.Scope.{Scope}
@@ -67,6 +71,19 @@ abbrev pub IsToldOfStage : Scope → Stage → List ℕ → List ℕ → Type 0
 IsToldOfStage scope (Opening o) before now = now ≡ before
 IsToldOfStage scope (Running r) before now = IsLonger (before ++ (strict_lines scope r.machine ++ few_deadlock_lines r.machine)) now
 
--- what is told at the end of a run: the remarks, and then the region
+-- what is told of what reads saw and missed
+abbrev pub watched_lines : Option (Bor (List ℕ)) → Watched → List ℕ
+watched_lines file w = remark_lines file (found_remarks (findings w.run))
+
+-- the same, if they were watched
+abbrev pub lines_if : Option (Bor (List ℕ)) → Option Watched → List ℕ
+lines_if file None = []
+lines_if file (Some w) = watched_lines file w
+
+-- a strict run tells it, if something is amiss
+abbrev pub found_lines : Option (Bor (List ℕ)) → Session → List ℕ
+found_lines file s = if s.journal.told.scope.strict && s.journal.is_amiss then lines_if file (option_map watched_in s.journal.watcher) else []
+
+-- what is told at the end of a run: the remarks, what reads saw and missed, and then the region
 abbrev pub IsToldAtEnd : Option (Bor (List ℕ)) → Session → List ℕ → Type 0
-IsToldAtEnd file s text = IsToldOfStage s.journal.told.scope s.stage (remark_lines file s.journal.told) text
+IsToldAtEnd file s text = IsToldOfStage s.journal.told.scope s.stage (remark_lines file s.journal.told ++ found_lines file s) text

@@ -1,17 +1,25 @@
--- What a check tells of a script. It finds the fault of each line, and plays no request.
-use Rattle.std.specs.Prelude.{⊤, ◌≡◌, ℕ, zero, suc, ◌+◌, ◌==◌, Bool, true, if◌then◌else◌, Option, Some, None, List, [], ◌∷◌, ◌++◌, codes}
+-- What a check tells of a script: the fault of each line, and what is amiss in requests. It plays no
+-- request but ATTACH.
+use Rattle.std.specs.Prelude.{⊤, ◌≡◌, ℕ, zero, suc, ◌+◌, ◌==◌, nat_lt, false, if◌then◌else◌, Option, Some, None, Result, Ok, Err, List, [], ◌∷◌, ◌++◌, codes}
 use Rattle.std.specs.Borrow.{Bor}
 use Rattle.std.specs.Fmt.{decimal}
 use Rattle.std.specs.List.{fold}
 use Rattle.std.specs.Io.KnownBytes.{Appends}
 use Rattle.cics_units.specs.declared.opening.opening.DefineFault.TheVariants.{NotThere}
 use Rattle.cics_dispatch.specs.Machine.Machine.{RegionValue}
+use Rattle.cics_script.specs.Lines.{line}
 use Rattle.cics_script.specs.declared.advice.origin.Origin.{Origin}
+use Rattle.cics_script.specs.declared.faults.LineFault.{LineFault}
+use Rattle.cics_script.specs.declared.lines.Line.{Line}
 use Rattle.cics_run.specs.Session.Lines.{all_lines}
 use Rattle.cics_run.specs.Session.Running.{is_faulty}
 use Rattle.cics_run.specs.Stage.Seen.{Sight}
-use Rattle.cics_run.specs.Stage.Stages.{Step, step, initial_stage}
+use Rattle.cics_run.specs.Stage.Stages.{Step, step, initial_stage, region_of, silent, followed}
+use Rattle.cics_run.specs.Told.Remarks.{no_remarks, with_note, remark_lines}
 use Rattle.cics_run.specs.Told.Told.{TellsFault}
+use Rattle.cics_run.specs.Whole.Requests.{is_played, note_on}
+use Rattle.cics_run.specs.declared.stage.notes.Note.{Note}
+use Rattle.cics_run.specs.declared.told.remarks.Remarks.{Remarks}
 use Rattle.cics_run.specs.declared.session.running.Status.{Status}
 use Rattle.cics_run.specs.declared.session.running.Status.TheVariants as status
 use Rattle.cics_run.specs.declared.stage.stage.Fault.{Fault}
@@ -19,32 +27,61 @@ use Rattle.cics_run.specs.declared.stage.stage.Fault.TheVariants as faults
 use Rattle.cics_run.specs.declared.stage.stage.Stage.{Stage}
 use Rattle.cics_run.specs.declared.stage.stage.Stage.TheVariants.{Opening, Running}
 use Rattle.cics_run.specs.declared.whole.checking.Checker.{Checker}
+use Rattle.cics_run.specs.declared.whole.checking.Found.{Found}
 
--- After some lines: the stage in which those without a fault end, how many lines there were, and
--- how many are told.
+-- After some lines: the stage in which those without a fault end, and the one to which definitions
+-- and ATTACH alone lead; how many lines there were, how many are told of their faults, and what is
+-- amiss in requests.
 pub record Checked : Type 0 where
   pub stage : Stage
+  pub known : Stage
   pub number : ℕ
   pub faulty : ℕ
+  pub remarks : Remarks
 
 -- before the first line
 abbrev pub unchecked : Checked
-unchecked = record { stage = initial_stage; number = 0; faulty = 0 }
+unchecked = record { stage = initial_stage; known = initial_stage; number = 0; faulty = 0; remarks = no_remarks (record { strict = false; why = false }) }
 
--- whether a fault is told behind so many faulty lines: what a load lacks may be defined by one of
--- them
-abbrev pub is_told : ℕ → Fault → Bool
-is_told faulty (faults.Definition NotThere) = faulty == 0
-is_told faulty fault = true
+-- what a check makes of a line: a definition and ATTACH as a run does, and of another request no
+-- more than the region of what is defined
+abbrev pub tried : Stage → Result Line LineFault → Step
+tried stage (Ok said) = if is_played said then followed stage (Ok said) else silent (Running (region_of stage))
+tried stage (Err fault) = followed stage (Err fault)
 
--- the fault that is told of a line
+-- what is amiss in a line, if it can be read
+abbrev pub amiss_in : Stage → Result Line LineFault → Option Note
+amiss_in stage (Ok said) = note_on stage said
+amiss_in stage (Err fault) = None
+
+-- the fault that is told of a line behind so many faulty ones: what a load lacks may be defined by
+-- one of them
 abbrev pub told_fault : ℕ → Option Fault → Option Fault
-told_fault faulty None = None
-told_fault faulty (Some fault) = if is_told faulty fault then Some fault else None
+told_fault faulty (Some (faults.Definition NotThere)) = if nat_lt 0 faulty then None else Some (faults.Definition NotThere)
+told_fault faulty fault = fault
+
+-- what is told to be amiss in a line behind so many faulty ones: what it lacks may be there by one
+-- of them
+abbrev pub told_note : ℕ → Option Note → Option Note
+told_note faulty note = if faulty == 0 then note else None
 
 -- the fault that is told of the next line
 abbrev pub next_fault : Checked → List ℕ → Option Fault
 next_fault c bytes = told_fault c.faulty (step c.stage bytes).fault
+
+-- what is told to be amiss in a line of which no fault is told
+abbrev pub note_beside : ℕ → Option Fault → Option Note → Option Note
+note_beside faulty (Some fault) found = None
+note_beside faulty None found = told_note faulty found
+
+-- what is told to be amiss in the next line
+abbrev pub next_note : Checked → List ℕ → Option Note
+next_note c bytes = note_beside c.faulty (next_fault c bytes) (amiss_in c.known (line bytes))
+
+-- the remarks with that on a line, if there is one
+abbrev pub with_found : Stage → ℕ → List ℕ → Remarks → Option Note → Remarks
+with_found stage number bytes r None = r
+with_found stage number bytes r (Some note) = with_note stage number bytes r note
 
 -- one faulty line more, if the line has a fault
 abbrev pub counted : ℕ → Option Fault → ℕ
@@ -53,7 +90,15 @@ counted faulty (Some fault) = faulty + 1
 
 -- one line more
 abbrev pub checked : Checked → List ℕ → Checked
-checked c bytes = record { stage = (step c.stage bytes).stage; number = c.number + 1; faulty = counted c.faulty (next_fault c bytes) }
+checked c bytes =
+    let known = (tried c.known (line bytes)).stage in
+    record {
+      stage = (step c.stage bytes).stage;
+      known = known;
+      number = c.number + 1;
+      faulty = counted c.faulty (next_fault c bytes);
+      remarks = with_found known (c.number + 1) bytes c.remarks (next_note c bytes);
+    }
 
 -- some lines, in their order
 abbrev pub check : List (List ℕ) → Checked
@@ -89,11 +134,12 @@ abbrev pub status_of : ℕ → Status
 status_of zero = status.Done
 status_of (suc n) = status.LineFault
 
--- All faults of a script were told, and then how many lines have one. The status is that of a run.
+-- All faults of a script were told, and then what is amiss in requests and how many lines have a
+-- fault. The status is that of a run.
 pub record Checks (file : Option (Bor (List ℕ))) (script : List ℕ) (old new : Option (List ℕ)) (s : Status) : Type 0 where
   pub text : List ℕ
   pub tells : TellsLines file unchecked (all_lines script) text
-  pub written : Appends old new (text ++ count_line (check (all_lines script)).faulty)
+  pub written : Appends old new (text ++ (remark_lines file (check (all_lines script)).remarks ++ count_line (check (all_lines script)).faulty))
   pub status : s ≡ (if is_faulty script then status.LineFault else status.Done)
 
 -- Nothing is seen of the lines.
@@ -105,12 +151,16 @@ abbrev pub IsLike : Stage → Stage → Type 0
 IsLike (Opening o) stage = stage ≡ Opening o
 IsLike (Running r) stage = (other : RegionValue) × (stage ≡ Running other)
 
--- a line has this fault, and leads to a stage like this
-abbrev pub Tried : Step → Stage → Option Fault → Type 0
-Tried s stage fault = (fault ≡ s.fault) × IsLike s.stage stage
+-- A line led to this stage, and this was found in it.
+pub record IsTried (before : Stage) (said : Result Line LineFault) (after : Stage) (found : Found) : Type 0 where
+  pub stage : after ≡ (tried before said).stage
+  pub fault : found.fault ≡ (tried before said).fault
+  pub note : found.note ≡ amiss_in before said
 
 -- A checker stands behind some lines.
 pub record IsBehind (checker : Checker) (c : Checked) : Type 0 where
-  pub stage : IsLike c.stage checker.stage
+  pub stage : checker.stage ≡ c.known
+  pub like : IsLike c.stage c.known
   pub number : checker.number ≡ c.number
   pub faulty : checker.faulty ≡ c.faulty
+  pub remarks : checker.remarks ≡ c.remarks

@@ -151,7 +151,7 @@ fn push_records(out: &mut Vec<u8>, records: &[Record]) -> Result<(), NoMemory>
 }
 
 /// Returns RECOVERABLE or UNRECOVERABLE.
-pub(crate) fn recoverable_title(recoverable: bool) -> &'static str
+pub fn recoverable_title(recoverable: bool) -> &'static str
     ensures { result.now ≡ recoverable_title recoverable }
 {
     if recoverable {
@@ -162,7 +162,7 @@ pub(crate) fn recoverable_title(recoverable: bool) -> &'static str
 }
 
 /// Returns LOGICAL, PHYSICAL or NONE.
-pub(crate) fn recovery_title(recovery: Recovery) -> &'static str
+pub fn recovery_title(recovery: Recovery) -> &'static str
     ensures { result.now ≡ recovery_title recovery }
 {
     match recovery {

@@ -5,8 +5,8 @@ ghost use Rattle.cics_run.specs.Reads.Runs.{with_step};
 ghost use Rattle.cics_run.specs.Reads.Written.{findings};
 
 use crate::reads::found::{Finding, Lost, Pair, Seen};
-use crate::reads::ordering::{dirty_reads, in_order, lost_updates, push_all};
-use crate::reads::runs::{is_no_step, next_place};
+use crate::reads::ordering::{dirty_reads, lost_updates, push_in_order};
+use crate::reads::past::Past;
 use crate::reads::seeing::{push_dirty, push_lost, push_seen};
 use crate::reads::skews::{read_skews, turns, write_skews};
 use crate::reads::steps::{Act, Step};
@@ -17,25 +17,25 @@ use std::marker::Model;
 // The steps of a run, and what each of them saw and replaced.
 #[derive(Drop)]
 struct Noted {
-    steps: Items<Step>,
+    past: Past,
     seen: Items<Seen>,
     dirty: Items<Pair>,
     lost: Items<Lost>,
 }
 
 impl Model for Noted {
-    ghost use Rattle.std.specs.Prelude.{◌≡◌, reverse};
+    ghost use Rattle.std.specs.Prelude.{◌≡◌};
     ghost use Rattle.cics_run.specs.Reads.Runs.{Run};
     ghost use Rattle.cics_run.specs.Reads.Findings.{all_seen, dirty_reads, all_lost};
 
     ghost Value = { Run };
 
-    ghost view = { λ n. reverse n.steps };
+    ghost view = { λ n. n.past };
 
     ghost invariant = { λ n. record {
-      seen_by_steps : n.seen ≡ all_seen (reverse n.steps);
-      dirty_by_steps : n.dirty ≡ dirty_reads (reverse n.steps);
-      lost_by_steps : n.lost ≡ all_lost (reverse n.steps);
+      seen_by_steps : n.seen ≡ all_seen n.past;
+      dirty_by_steps : n.dirty ≡ dirty_reads n.past;
+      lost_by_steps : n.lost ≡ all_lost n.past;
     } };
 }
 
@@ -44,7 +44,7 @@ impl Noted {
         ensures { result ≡ [] }
     {
         Noted {
-            steps: Items::new(alloc),
+            past: Past::new(alloc),
             seen: Items::new(alloc),
             dirty: Items::new(alloc),
             lost: Items::new(alloc),
@@ -55,26 +55,25 @@ impl Noted {
     fn with_step(self, line: u64, task: Name8, act: Act) -> Result<Noted, NoMemory>
         ensures { IfOk result (λ noted. noted ≡ with_step self line task act) }
     {
-        if is_no_step(self.steps.as_slice(), &task, &act)? {
+        if self.past.is_no_step(&task, &act)? {
             return Ok(self);
         }
         let Noted {
-            mut steps,
+            past,
             mut seen,
             mut dirty,
             mut lost,
         } = self;
         let step = Step {
-            place: next_place(steps.as_slice(), line, task),
+            place: past.next_place(line, task),
             act,
         };
         let known = seen.len();
-        push_seen(steps.as_slice(), &step, &mut seen)?;
-        push_dirty(steps.as_slice(), &seen.as_slice()[known..], &mut dirty)?;
-        push_lost(steps.as_slice(), &step, &mut lost)?;
-        steps.push(step)?;
+        push_seen(&past, &step, &mut seen)?;
+        push_dirty(&past, &seen.as_slice()[known..], &mut dirty)?;
+        push_lost(&past, &step, &mut lost)?;
         Ok(Noted {
-            steps,
+            past: past.with_step(step)?,
             seen,
             dirty,
             lost,
@@ -85,15 +84,15 @@ impl Noted {
     fn findings(&self, alloc: Global) -> Result<Items<Finding>, NoMemory>
         ensures { IfOk result (λ found. found ≡ findings self.now) }
     {
-        let steps = self.steps.as_slice();
-        let mut found = dirty_reads(alloc, steps, self.dirty.as_slice())?;
-        let lost = lost_updates(alloc, steps, self.lost.as_slice())?;
-        push_all(&mut found, in_order(alloc, lost.as_slice())?.as_slice())?;
-        let read = read_skews(alloc, steps, self.seen.as_slice())?;
-        push_all(&mut found, in_order(alloc, read.as_slice())?.as_slice())?;
-        let turns = turns(alloc, steps)?;
-        let write = write_skews(alloc, steps, turns.as_slice())?;
-        push_all(&mut found, in_order(alloc, write.as_slice())?.as_slice())?;
+        let past = &self.past;
+        let mut found = dirty_reads(alloc, past, self.dirty.as_slice())?;
+        let lost = lost_updates(alloc, past, self.lost.as_slice())?;
+        push_in_order(alloc, lost.as_slice(), &mut found)?;
+        let read = read_skews(alloc, past, self.seen.as_slice())?;
+        push_in_order(alloc, read.as_slice(), &mut found)?;
+        let turns = turns(alloc, past)?;
+        let write = write_skews(alloc, past, turns.as_slice())?;
+        push_in_order(alloc, write.as_slice(), &mut found)?;
         Ok(found)
     }
 }
@@ -143,8 +142,8 @@ impl Reads {
         Ok(())
     }
 
-    /// Returns all that is found in the run so far: the dirty reads, the lost updates, the read skews
-    /// and the write skews, those of one name in order.
+    /// Returns all that is found in the run so far: the dirty reads, the lost updates, the read
+    /// skews and the write skews, those of one name in order.
     ///
     /// Errors: `NoMemory`.
     pub fn findings(&self) -> Result<Items<Finding>, NoMemory>

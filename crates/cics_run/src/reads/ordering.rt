@@ -1,71 +1,65 @@
 //! All that is found in a run, in order.
 
-ghost use Rattle.std.specs.Prelude.{◌≡◌, ◌++◌, ◌≤◌, IfOk, OnOk, length, map, reverse};
+ghost use Rattle.std.specs.Prelude.{◌≡◌, ◌++◌, IfOk, OnOk, map};
 ghost use Rattle.std.specs.List.{filter};
-ghost use Rattle.std.specs.Option.{option_copied};
 ghost use Rattle.cics_run.specs.Reads.Findings.{is_kept};
-ghost use Rattle.cics_run.specs.Reads.Written.{fate_of, dirty, lost, pair_of, by_of, comes_before};
-ghost use Rattle.cics_run.specs.Reads.Written.{index_in, is_there, with_finding, in_order};
+ghost use Rattle.cics_run.specs.Reads.Written.{dirty, lost, pair_of, by_of, rank_of, with_finding, in_order};
 
-use crate::reads::found::{Fate, Finding, Lost, Pair};
-use crate::reads::runs::{is_open, is_undone};
-use crate::reads::steps::Step;
+use crate::reads::found::{Finding, Lost, Pair};
+use crate::reads::past::Past;
 use cics_names::{Items, NoMemory};
 use std::alloc::Global;
+use std::collections::BTreeMap;
 
-// Returns how a turn ended.
-fn fate_of(steps: &[Step], turn: u64) -> Fate
-    ensures { result ≡ fate_of turn (reverse steps.now) }
-{
-    if is_open(steps, turn) {
-        Fate::Open
-    } else if is_undone(steps, turn) {
-        Fate::BackedOut
-    } else {
-        Fate::Committed
-    }
+/// Where a finding stands among those of its name: the numbers of its look, of the change that it
+/// missed, and of the change that replaced that.
+#[derive(Clone, Copy, PartialEq, Eq, PartialOrd, Ord)]
+pub(crate) struct Rank {
+    pub(crate) look: u64,
+    pub(crate) change: u64,
+    pub(crate) by: u64,
 }
 
 // Returns a dirty read, with the fate of the change that it saw.
-fn dirty(steps: &[Step], pair: &Pair) -> Finding
-    ensures { result ≡ dirty (reverse steps.now) pair.now }
+fn dirty(past: &Past, pair: &Pair) -> Finding
+    ensures { result ≡ dirty past.now pair.now }
 {
-    Finding::DirtyRead(*pair, fate_of(steps, pair.change.turn))
+    Finding::DirtyRead(*pair, past.fate_of(pair.change.turn))
 }
 
 /// Returns the dirty reads, each with its fate.
 pub(crate) fn dirty_reads(
     alloc: Global,
-    steps: &[Step],
+    past: &Past,
     pairs: &[Pair],
 ) -> Result<Items<Finding>, NoMemory>
-    ensures { IfOk result (λ found. found ≡ map (dirty (reverse steps.now)) pairs.now) }
+    ensures { IfOk result (λ found. found ≡ map (dirty past.now) pairs.now) }
 {
     let mut found = Items::new(alloc);
     for pair in pairs {
-        found.push(dirty(steps, pair))?;
+        found.push(dirty(past, pair))?;
     }
     Ok(found)
 }
 
 // Returns whether a change that replaced another one stands.
-fn is_kept(steps: &[Step], one: &Lost) -> bool
-    ensures { result ≡ is_kept (reverse steps.now) one.now }
+fn is_kept(past: &Past, one: &Lost) -> bool
+    ensures { result ≡ is_kept past.now one.now }
 {
-    one.lasts || !is_undone(steps, one.by.turn)
+    one.lasts || !past.is_undone(one.by.turn)
 }
 
 /// Returns the lost updates whose changes stand, in order of these.
 pub(crate) fn lost_updates(
     alloc: Global,
-    steps: &[Step],
+    past: &Past,
     all: &[Lost],
 ) -> Result<Items<Finding>, NoMemory>
-    ensures { IfOk result (λ found. found ≡ map lost (filter (is_kept (reverse steps.now)) all.now)) }
+    ensures { IfOk result (λ found. found ≡ map lost (filter (is_kept past.now) all.now)) }
 {
     let mut found = Items::new(alloc);
     for one in all {
-        if is_kept(steps, one) {
+        if is_kept(past, one) {
             found.push(Finding::LostUpdate(one.missed, one.by))?;
         }
     }
@@ -94,67 +88,40 @@ fn by_of(found: &Finding) -> u64
     }
 }
 
-// Returns whether a finding comes before another one of its name.
-fn comes_before(one: &Finding, other: &Finding) -> bool
-    ensures { result ≡ comes_before one.now other.now }
+// Returns where a finding stands among those of its name.
+fn rank_of(found: &Finding) -> Rank
+    ensures { result ≡ rank_of found.now }
 {
-    let (first, second) = (pair_of(one), pair_of(other));
-    first.look.at < second.look.at
-        || first.look.at == second.look.at
-            && (first.change.at < second.change.at
-                || first.change.at == second.change.at && by_of(one) < by_of(other))
-}
-
-// Returns how many findings at the front come before one.
-fn index_in(found: &[Finding], one: &Finding) -> usize
-    ensures value { result ≡ index_in found.now one.now }
-    ensures within { result ≤ length found.now }
-{
-    found
-        .iter()
-        .take_while(|other| comes_before(other, one))
-        .count()
-}
-
-// Returns whether a finding is the one that stands at its index.
-fn is_there(one: &Finding, there: Option<&Finding>) -> bool
-    ensures { result ≡ is_there one.now (option_copied there.entry) }
-{
-    match there {
-        Some(other) => !comes_before(one, other),
-        None => false,
+    let pair = pair_of(found);
+    Rank {
+        look: pair.look.at,
+        change: pair.change.at,
+        by: by_of(found),
     }
 }
 
-// Puts a finding behind those that come before it, unless it is there.
-fn insert(found: &mut Vec<Finding>, one: Finding) -> Result<(), NoMemory>
-    ensures { OnOk result (found.new.items ≡ with_finding found.old.items one) }
+// Puts a finding where it stands.
+fn insert(found: &mut BTreeMap<Rank, Finding>, one: Finding) -> Result<(), NoMemory>
+    ensures { OnOk result (found.new.entries ≡ with_finding found.old.entries one) }
 {
-    let index = index_in(found.as_slice(), &one);
-    if is_there(&one, found.get(index)) {
-        return Ok(());
-    }
-    found.insert(index, one)?;
+    found.insert(rank_of(&one), one)?;
     Ok(())
 }
 
-/// Returns findings in order, each once.
-pub(crate) fn in_order(alloc: Global, all: &[Finding]) -> Result<Items<Finding>, NoMemory>
-    ensures { IfOk result (λ found. found ≡ in_order all.now) }
+/// Appends findings in order, each once.
+pub(crate) fn push_in_order(
+    alloc: Global,
+    all: &[Finding],
+    out: &mut Items<Finding>,
+) -> Result<(), NoMemory>
+    ensures { OnOk result (out.new ≡ out.old ++ in_order all.now) }
 {
-    let mut found = Vec::new(alloc);
+    let mut found = BTreeMap::new(alloc);
     for one in all {
         insert(&mut found, *one)?;
     }
-    Ok(Items::from_vec(found))
-}
-
-/// Appends findings.
-pub(crate) fn push_all(out: &mut Items<Finding>, all: &[Finding]) -> Result<(), NoMemory>
-    ensures { OnOk result (out.new ≡ out.old ++ all.now) }
-{
-    for one in all {
-        out.push(*one)?;
+    for (_, one) in found {
+        out.push(one)?;
     }
     Ok(())
 }

@@ -1,13 +1,13 @@
 //! The steps of a run: what its tasks looked at and changed, and where their turns ended.
 
-ghost use Rattle.std.specs.Prelude.{◌≡◌};
+ghost use Rattle.std.specs.Prelude.{◌≡◌, IfOk};
 ghost use Rattle.cics_names.specs.Keyed.{is_same};
-ghost use Rattle.cics_run.specs.Reads.Steps.{same_cell, is_from, is_upto, covers, views, altered};
+ghost use Rattle.cics_run.specs.Reads.Steps.{same_cell, is_from, is_upto, covers, views, altered, key_of, ends_of, view_ends};
 ghost use Rattle.cics_run.specs.Reads.Steps.{is_view, is_plain, is_adding, is_lasting};
 ghost use Rattle.cics_run.specs.Reads.Steps.{is_ending, is_undoing, changes, touches};
 ghost use Rattle.cics_run.specs.Reads.Runs.{is_by};
 
-use cics_names::{Items, Name8, Record};
+use cics_names::{Items, Name8, NoMemory, Record};
 
 /// What a step is at: a key of a file, or an item of a temporary storage queue by its number.
 #[derive(PartialEq, Eq, PartialOrd, Ord, Drop)]
@@ -56,8 +56,8 @@ pub enum Act {
     End { is_committed: bool },
 }
 
-/// Where a step stands: the number of steps before it, the line and the task that issued it, and
-/// its turn, by the number of steps before the first one of the turn.
+/// Where a step stands: the number of steps before it, its line and its task, and its turn, by the
+/// number of steps before the turn's first one.
 #[derive(Clone, Copy, PartialEq, Eq)]
 pub struct Place {
     pub at: u64,
@@ -88,6 +88,18 @@ fn is_same_key(one: &Record, other: &Record) -> bool
 }
 
 impl Cell {
+    /// Returns the same cell.
+    ///
+    /// Errors: `NoMemory`.
+    pub fn copy(&self) -> Result<Cell, NoMemory>
+        ensures { IfOk result (λ cell. cell ≡ self.now) }
+    {
+        match self {
+            Cell::Record(file, key) => Ok(Cell::Record(*file, key.copy()?)),
+            Cell::Item(queue, number) => Ok(Cell::Item(*queue, *number)),
+        }
+    }
+
     /// Returns whether two cells are the same.
     pub fn is_same(&self, other: &Cell) -> bool
         ensures { result ≡ same_cell self.now other.now }
@@ -105,6 +117,16 @@ impl Cell {
 }
 
 impl Bound {
+    // Returns its key.
+    fn key(&self) -> &Record
+        ensures { result.now ≡ key_of self.now }
+    {
+        match self {
+            Bound::In(key) => key,
+            Bound::Out(key) => key,
+        }
+    }
+
     // Returns whether a key isn't before the interval that begins here.
     fn is_from(&self, key: &Record) -> bool
         ensures { result ≡ is_from self.now key.now }
@@ -127,6 +149,19 @@ impl Bound {
 }
 
 impl Spot {
+    // Returns two cells between which all lie that a look here covers.
+    fn ends(&self) -> Result<(Cell, Cell), NoMemory>
+        ensures { IfOk result (λ ends. ends ≡ ends_of self.now) }
+    {
+        Ok(match self {
+            Spot::Keys { file, from, to } => (
+                Cell::Record(*file, from.key().copy()?),
+                Cell::Record(*file, to.key().copy()?),
+            ),
+            Spot::Item(queue, number) => (Cell::Item(*queue, *number), Cell::Item(*queue, *number)),
+        })
+    }
+
     /// Returns whether a look here covers a cell.
     pub fn covers(&self, cell: &Cell) -> bool
         ensures { result ≡ covers self.now cell.now }
@@ -157,6 +192,24 @@ impl Act {
             },
             _ => false,
         }
+    }
+
+    /// Returns two cells between which all lie that it looks at, if it is a look.
+    ///
+    /// Errors: `NoMemory`.
+    pub fn ends(&self) -> Result<Option<(Cell, Cell)>, NoMemory>
+        ensures { IfOk result (λ ends. ends ≡ view_ends self.now) }
+    {
+        Ok(match self {
+            Act::Look(spot) => Some(spot.ends()?),
+            Act::LookForUpdate(file, key) => {
+                Some((
+                    Cell::Record(*file, key.copy()?),
+                    Cell::Record(*file, key.copy()?),
+                ))
+            }
+            _ => None,
+        })
     }
 
     /// Returns the cells that it changes.

@@ -10,9 +10,11 @@ ghost use Rattle.cics_run.specs.Reads.Watched.{unless_failed, executed, line_of}
 ghost use Rattle.cics_run.specs.Reads.Watched.{with_backout, with_backouts, run_after, began, with_line, with_label};
 ghost use Rattle.cics_run.specs.Reads.Watched.{may_delete, deleting, doomed_if, doomed_next, behind};
 ghost use Rattle.cics_run.specs.Reads.Watching.{watched_in};
+ghost use Rattle.cics_run.specs.Reads.Written.{findings};
 ghost use Rattle.cics_run.specs.declared.reads.steps.Act.TheVariants.{End as EndOf};
 
 use crate::reads::changes::{act_at, deletes_several, doomed_by};
+use crate::reads::found::Finding;
 use crate::reads::looks::spot_of;
 use crate::reads::noting::Reads;
 use crate::reads::steps::{Act, Cell};
@@ -177,6 +179,15 @@ impl Watcher {
             deleters: Vec::new(alloc),
             alloc,
         }
+    }
+
+    /// Returns what the reads of the run saw and missed.
+    ///
+    /// Errors: `NoMemory`.
+    pub fn findings(&self) -> Result<Items<Finding>, NoMemory>
+        ensures { IfOk result (λ found. found ≡ findings (watched_in self.now).run) }
+    {
+        self.reads.findings()
     }
 
     /// Appends what the reads of the run saw and missed, with its heading. Returns whether

@@ -115,8 +115,8 @@ fn push_line(out: &mut Vec<u8>, found: &Finding) -> Result<(), NoMemory>
     push_str(out, "\n")
 }
 
-// Returns whether a finding is amiss: each is but a dirty read of what is committed in the end.
-fn is_amiss(found: &Finding) -> bool
+/// Returns whether a finding is amiss: each is but a dirty read of what is committed in the end.
+pub fn is_amiss(found: &Finding) -> bool
     ensures { result ≡ is_amiss found.now }
 {
     match found {

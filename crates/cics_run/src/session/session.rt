@@ -25,11 +25,10 @@ use crate::session::running::{Options, Status, Wanted};
 use crate::session::streams::Sink;
 use crate::session::writing::{Stop, write_pending, write_printed};
 use crate::stage::journal::push_script_line;
-use crate::stage::{Fault, Journal, Named, Stage, keep_undefined};
+use crate::stage::{Fault, Journal, Stage};
 use cics_dispatch::Region;
 use cics_names::NoMemory;
 use std::alloc::Global;
-use std::mem::replace;
 
 const LF: u8 = 10;
 
@@ -49,8 +48,6 @@ pub struct Session {
     pub fault: Option<Fault>,
     /// Whether each line is printed in front of its journal lines.
     pub with_script: bool,
-    /// Names that commands had and that aren't defined, each once, at most 64.
-    pub undefined: Vec<Named>,
 }
 
 // What is printed at the end of a run, and the steps of the run, if those are wanted.
@@ -70,7 +67,6 @@ impl Drop for Session {
             journal: _journal,
             fault: _fault,
             with_script: _with_script,
-            undefined: _undefined,
         } = self;
     }
 }
@@ -156,7 +152,6 @@ impl Session {
             journal: Journal::new(alloc),
             fault: None,
             with_script: false,
-            undefined: Vec::new(alloc),
         }
     }
 
@@ -192,8 +187,6 @@ impl Session {
         self.fault = self
             .journal
             .print_line(&mut self.stage, self.number, &self.line)?;
-        let is_undefined = replace(&mut self.journal.is_undefined, false);
-        keep_undefined(&mut self.undefined, &self.line, is_undefined);
         let is_fault = self.fault.is_some();
         write_printed(&mut self.journal.text, sink, is_fault)?;
         if is_fault {
@@ -267,8 +260,8 @@ impl Session {
     }
 
     /// Runs the last line if it lacks its LF. Without a fault it writes what is wanted of the
-    /// listing, the replay, the reads and the serial run. The status tells whether there was a fault. On error
-    /// the first part of the output is written.
+    /// listing, the replay, the reads and the serial run. The status tells whether there was a
+    /// fault. On error the first part of the output is written.
     pub(crate) fn finish<K: Sink>(&mut self, wanted: Wanted, sink: &mut K) -> Result<Status, Stop>
         requires { self.old.number + 1 < 2 ^ 64 }
         ensures finishes { WhereverStands (form_of wanted) (K.contents sink.old) self.old
@@ -362,7 +355,8 @@ fn push_listed(region: &Region, options: Options, out: &mut Vec<u8>) -> Result<(
     Ok(())
 }
 
-// Prints what reads saw and missed, if that is wanted, and returns whether something of it is amiss.
+// Prints what reads saw and missed, if that is wanted, and returns whether something of it is
+// amiss.
 fn push_watched(watcher: &Option<Watcher>, out: &mut Vec<u8>) -> Result<bool, NoMemory>
     ensures text { OnOk result (out.new.items
         ≡ with_reads out.old.items (option_map watched_in watcher.now)) }

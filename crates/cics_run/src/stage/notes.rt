@@ -3,10 +3,11 @@
 ghost use Rattle.std.specs.Prelude.{◌≡◌, OnOk};
 ghost use Rattle.cics_run.specs.Stage.Notes.{raised_by, noted_abend, noted_late, is_no_task};
 ghost use Rattle.cics_run.specs.Stage.Notes.{refused_note, noted_refusal, noted_on, with_note};
+ghost use Rattle.cics_run.specs.Stage.Notes.{is_undefined, names_undefined};
 
 use crate::stage::amiss::is_time_out;
 use cics_dispatch::{Event, Outcome, Reason, Refused, Subject};
-use cics_names::{AbendCode, Condition, Name8, NoMemory};
+use cics_names::{AbendCode, Condition, Name4, Name8, NoMemory};
 
 /// Which events are told beside abends by a condition and commands of no task.
 #[derive(Clone, Copy, PartialEq, Eq)]
@@ -35,6 +36,9 @@ pub enum Note {
     TimedOut(Name8),
     /// A request of a task was refused.
     Refused(Name8, Refused),
+    /// A command of temporary storage has the name of this queue of transient data. Only a check
+    /// notes it.
+    Meant(Name4),
     /// The clock was refused.
     ClockRefused(Refused),
     /// The shutdown was refused.
@@ -127,9 +131,30 @@ fn noted_on(scope: Scope, event: &Event) -> Option<Note>
     }
 }
 
-/// Adds what is told of an event that is amiss, or of one of a run with `why`:
+// Returns whether a check failed since a file or a queue of transient data isn't defined.
+fn is_undefined(reason: &Option<Reason>) -> bool
+    ensures { result ≡ is_undefined reason.now }
+{
+    matches!(
+        reason,
+        Some(Reason::FileNotDefined | Reason::QueueNotDefined)
+    )
+}
+
+/// Returns whether a command names a file or a queue of transient data that isn't defined.
+pub fn names_undefined(event: &Event) -> bool
+    ensures { result ≡ names_undefined event.now }
+{
+    match event {
+        Event::Issued(_, _, reason) => is_undefined(reason),
+        _ => false,
+    }
+}
+
+/// Adds what is told of an event that is amiss, of a name that isn't defined, or of a run with
+/// `why`:
 ///
-/// - always an abend by a condition, and a command of no task;
+/// - always an abend by a condition, a command of no task, and a name that isn't defined;
 /// - with `strict` any other refused request, and an abend with the code of a time-out;
 /// - with `why` also a condition other than NORMAL that a task handles.
 #[cold]

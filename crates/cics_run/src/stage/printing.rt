@@ -10,8 +10,7 @@ ghost use Rattle.cics_run.specs.Stage.Stages.{step, IsPlayed};
 use crate::reads::Watcher;
 use crate::stage::amiss::is_amiss;
 use crate::stage::journal::{push_event, push_fault};
-use crate::stage::notes::{Note, push_noted};
-use crate::stage::undefined::tells_undefined;
+use crate::stage::notes::{Note, names_undefined, push_noted};
 use crate::stage::{Fault, Observer, Stage};
 use crate::told::{Remarks, keep_alone};
 use cics_dispatch::{Event, Region, Request};
@@ -25,8 +24,6 @@ pub struct Journal {
     pub text: Vec<u8>,
     /// Whether an event was amiss.
     pub is_amiss: bool,
-    /// Whether a command was answered that what it names isn't defined.
-    pub is_undefined: bool,
     /// What is told of the events of the last line.
     pub notes: Vec<Note>,
     /// What is told of the events of the lines before.
@@ -52,7 +49,6 @@ impl Journal {
         Journal {
             text: Vec::new(alloc),
             is_amiss: false,
-            is_undefined: false,
             notes: Vec::new(alloc),
             told: Remarks::new(alloc),
             alone: Vec::new(alloc),
@@ -122,8 +118,7 @@ impl Observer for Journal {
         }
         let is_amiss = is_amiss(event);
         self.is_amiss |= is_amiss;
-        self.is_undefined |= tells_undefined(event);
-        if is_amiss || self.told.scope.why {
+        if is_amiss || self.told.scope.why || names_undefined(event) {
             push_noted(&mut self.notes, self.told.scope, event)?;
         }
         push_event(&mut self.text, event)

@@ -106,8 +106,8 @@ impl Stage {
         }
     }
 
-    // Runs a line that was read.
-    fn follow<O: Observer>(
+    /// Runs a line that was read. The observer sees its request and its events.
+    pub(crate) fn follow<O: Observer>(
         &mut self,
         number: u64,
         line: Line,

@@ -12,9 +12,9 @@ use crate::session::Session;
 use crate::told::waiting::is_left_waiting;
 
 /// Returns whether a strict run that ended with `Status::Done` ends with status 5: an event of it
-/// was amiss (`cics_run::stage::amiss`), a task still waits, or reads are wanted and a finding isn't
-/// COMMITTED. The session is the one that was run: clause `kept` of `run_over` says that it has the
-/// end of the script's lines.
+/// was amiss (`cics_run::stage::amiss`), a task still waits, or reads are wanted and a finding
+/// isn't COMMITTED. The session is the one that was run: clause `kept` of `run_over` says that it
+/// has the end of the script's lines.
 ///
 /// Cost: O(tasks).
 pub fn is_amiss(session: &Session) -> bool
@@ -24,7 +24,7 @@ pub fn is_amiss(session: &Session) -> bool
     session.journal.is_amiss || is_left_waiting(session)
 }
 
-/// With `strict` a person is told of each event that is amiss.
+/// With `strict` each event that is amiss is noted, as one of those that a person is told of.
 pub fn strict_tells_all()
     ensures { (why : Bool) (e : EventOf) → is_event_amiss e ≡ true
         → is_some (noted (record { strict = true; why = why }) e) ≡ true }

@@ -102,21 +102,6 @@ pub fn push_wait(
     Ok(())
 }
 
-// Appends such a wait, and a comma.
-fn push_link(
-    out: &mut Vec<u8>,
-    region: &Region,
-    label: &Name8,
-    blocker: &Name8,
-) -> Result<(), NoMemory>
-    ensures { OnOk result (out.new.items
-        ≡ out.old.items ++ link_text region.now.machine label.now blocker.now) }
-{
-    push_wait(out, region, label, blocker)?;
-    push_str(out, ", ")?;
-    Ok(())
-}
-
 // Appends tasks that wait for each other: each for the next one, the last for the first.
 fn push_waits(
     out: &mut Vec<u8>,
@@ -129,7 +114,8 @@ fn push_waits(
 {
     let mut at = *first;
     for next in others {
-        push_link(out, region, &at, next)?;
+        push_wait(out, region, &at, next)?;
+        push_str(out, ", ")?;
         at = *next;
     }
     push_wait(out, region, &at, first)

@@ -3,16 +3,16 @@
 ghost use Rattle.std.specs.Prelude.{◌≡◌, ◌++◌, Some, None, unwrap_or, IfOk, OnOk};
 ghost use Rattle.std.specs.Option.{option_copied};
 ghost use Rattle.cics_run.specs.Told.Noted.{undefined, definition_in, condition_head, raised_text};
-ghost use Rattle.cics_run.specs.Told.Noted.{issued_text, resumed_text, refusal_words, near_text};
-ghost use Rattle.cics_run.specs.Told.Noted.{hint_text, refused_text, note_text};
-ghost use Rattle.cics_run.specs.Told.Nearest.{nearest_label};
+ghost use Rattle.cics_run.specs.Told.Noted.{issued_text, resumed_text, refusal_words, hint_text};
+ghost use Rattle.cics_run.specs.Told.Noted.{reason_or_cause, refused_text, note_text};
 ghost use Rattle.cics_script.specs.Lines.{line as line_of};
 
 use crate::stage::{Note, Raised, Stage};
 use crate::told::causes::{general_text, push_cause};
+use crate::told::instead::{meant_words, push_instead, push_instead_in};
 use crate::told::nearest::nearest_label;
 use crate::told::reasons::push_reason;
-use cics_dispatch::{Refused, Region};
+use cics_dispatch::Refused;
 use cics_ksds::FileDef;
 use cics_names::{Condition, Name8, NoMemory, Verb};
 use cics_script::spelling::{push_bare, push_str};
@@ -49,6 +49,22 @@ fn push_condition_name(out: &mut Vec<u8>, condition: Condition) -> Result<(), No
     push_str(out, ": ")
 }
 
+// Appends the check that a command failed, or what came up as it was executed.
+fn push_reason_or_cause(
+    out: &mut Vec<u8>,
+    stage: &Stage,
+    verb: &Verb,
+    raised: Raised,
+) -> Result<(), NoMemory>
+    ensures { OnOk result (out.new.items
+        ≡ out.old.items ++ reason_or_cause stage.now verb.now raised.condition raised.reason) }
+{
+    match raised.reason {
+        Some(reason) => push_reason(out, definition_in(stage, verb), verb, reason),
+        None => push_cause(out, verb, raised.condition),
+    }
+}
+
 // Appends what is told of a condition that a command was answered.
 fn push_raised(
     out: &mut Vec<u8>,
@@ -59,10 +75,8 @@ fn push_raised(
     ensures { OnOk result (out.new.items
         ≡ out.old.items ++ raised_text stage.now verb.now raised) }
 {
-    match raised.reason {
-        Some(reason) => push_reason(out, definition_in(stage, verb), verb, reason),
-        None => push_cause(out, verb, raised.condition),
-    }
+    push_reason_or_cause(out, stage, verb, raised)?;
+    push_instead_in(out, stage, verb, raised.condition)
 }
 
 // Appends what is told of a condition that the command of a line was answered.
@@ -108,22 +122,7 @@ fn refusal_words(refusal: Refused) -> &'static str
     }
 }
 
-// Appends the label of a task that was attached, if one is almost the label of no task.
-fn push_near(out: &mut Vec<u8>, region: &Region, label: &Name8) -> Result<(), NoMemory>
-    ensures { OnOk result (out.new.items
-        ≡ out.old.items ++ near_text (nearest_label region.now.machine label.now)) }
-{
-    match nearest_label(region, label) {
-        Some(near) => {
-            push_str(out, "; ")?;
-            push_bare(out, &near.bytes())?;
-            push_str(out, " was")
-        }
-        None => Ok(()),
-    }
-}
-
-// Appends such a label, if no task has that of a command.
+// Appends the nearest label that was attached, if no task has that of a command.
 fn push_hint(
     out: &mut Vec<u8>,
     stage: &Stage,
@@ -134,7 +133,9 @@ fn push_hint(
         ≡ out.old.items ++ hint_text stage.now label.now refusal) }
 {
     match (refusal, stage) {
-        (Refused::NoTask, Stage::Running(region)) => push_near(out, region, label),
+        (Refused::NoTask, Stage::Running(region)) => {
+            push_instead(out, nearest_label(region, label), " was")
+        }
         _ => Ok(()),
     }
 }
@@ -167,6 +168,10 @@ pub fn push_note(out: &mut Vec<u8>, stage: &Stage, line: &[u8], note: &Note) -> 
             push_str(out, " was abended with AKCS, as by a time-out")
         }
         Note::Refused(label, refusal) => push_refused(out, stage, label, *refusal),
+        Note::Meant(queue) => {
+            push_bare(out, &queue.bytes())?;
+            push_str(out, meant_words())
+        }
         Note::ClockRefused(refusal) => {
             push_str(out, "CLOCK")?;
             push_str(out, refusal_words(*refusal))

@@ -2,10 +2,13 @@
 
 ghost use Rattle.std.specs.Prelude.{◌≡◌, ◌++◌, [], false, OnOk};
 ghost use Rattle.std.specs.List.{flat_map, fold};
-ghost use Rattle.cics_run.specs.Told.Remarks.{with_remark, with_note, remark_line, more_line};
+ghost use Rattle.cics_run.specs.Told.Findings.{with_finding};
+ghost use Rattle.cics_run.specs.Told.Remarks.{counted, with_note, remark_line, more_line};
 ghost use Rattle.cics_run.specs.Told.Remarks.{remark_lines};
 
+use crate::reads::{Finding, is_amiss};
 use crate::stage::{Note, Scope, Stage};
+use crate::told::findings::{line_of, push_finding};
 use crate::told::noted::push_note;
 use cics_names::{Items, NoMemory};
 use cics_script::advice::{Origin, push_place};
@@ -52,14 +55,21 @@ impl Remarks {
         }
     }
 
+    // Counts a remark that isn't kept.
+    fn count(&mut self)
+        ensures { self.new ≡ counted self.old }
+    {
+        if self.more < u64::MAX {
+            self.more += 1;
+        }
+    }
+
     // Adds the remark on a note. Beyond 64 it only counts.
     fn add(&mut self, stage: &Stage, number: u64, line: &[u8], note: &Note) -> Result<(), NoMemory>
         ensures { OnOk result (self.new ≡ with_note stage.now number line.now self.old note.now) }
     {
         if self.kept.len() >= MOST {
-            if self.more < u64::MAX {
-                self.more += 1;
-            }
+            self.count();
             return Ok(());
         }
         let mut text = Vec::new(stage.allocator());
@@ -86,6 +96,37 @@ impl Remarks {
     {
         for note in notes {
             self.add(stage, number, line, note)?;
+        }
+        Ok(())
+    }
+
+    // Adds the remark on what reads saw or missed, if that is amiss. Beyond 64 it only counts.
+    fn add_finding(&mut self, alloc: Global, found: &Finding) -> Result<(), NoMemory>
+        ensures { OnOk result (self.new ≡ with_finding self.old found.now) }
+    {
+        if !is_amiss(found) {
+            return Ok(());
+        }
+        if self.kept.len() >= MOST {
+            self.count();
+            return Ok(());
+        }
+        let mut text = Vec::new(alloc);
+        push_finding(&mut text, found)?;
+        self.kept.push(Remark {
+            number: line_of(found),
+            text: Items::from_vec(text),
+        })
+    }
+
+    /// Adds a remark on each finding of `--reads` that is amiss.
+    ///
+    /// Errors: `NoMemory`.
+    pub fn add_findings(&mut self, alloc: Global, found: &[Finding]) -> Result<(), NoMemory>
+        ensures { OnOk result (self.new ≡ fold with_finding self.old found.now) }
+    {
+        for one in found {
+            self.add_finding(alloc, one)?;
         }
         Ok(())
     }

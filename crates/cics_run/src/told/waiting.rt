@@ -77,7 +77,7 @@ fn push_first(out: &mut Vec<u8>, region: &Region, label: &Name8) -> Result<(), N
 /// Appends how many tasks of a region wait, and for whom and what the first does. Appends nothing
 /// if none waits.
 ///
-/// Cost: O(tasks).
+/// Cost: that of `waiting_count`.
 pub fn push_waiting(out: &mut Vec<u8>, region: &Region) -> Result<(), NoMemory>
     ensures { OnOk result (out.new.items ≡ out.old.items ++ waiting_line region.now.machine) }
 {

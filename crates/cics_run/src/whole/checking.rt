@@ -1,30 +1,34 @@
-//! The faults of all lines of a script, none of which is run.
+//! The faults of all lines of a script, and what is amiss in its requests. Of these it plays ATTACH
+//! alone.
 
-ghost use Rattle.std.specs.Prelude.{⊤, ◌≡◌, ◌++◌, ◌+◌, ◌<◌, ◌≤◌, ◌^◌, OnOk, IfOk};
+ghost use Rattle.std.specs.Prelude.{⊤, ◌≡◌, ◌++◌, ◌+◌, ◌<◌, ◌≤◌, ◌^◌, OnOk, IfOk, Ok};
 ghost use Rattle.std.specs.Io.KnownBytes.{Appends};
 ghost use Rattle.cics_run.specs.Session.Running.{write_failures};
 ghost use Rattle.cics_run.specs.Session.Printing.{stopped_writes};
 ghost use Rattle.cics_run.specs.Session.Streams.{Rises, failures};
-ghost use Rattle.cics_run.specs.Stage.Stages.{step};
-ghost use Rattle.cics_run.specs.Whole.Checks.{Checked, IsBehind, IsLike, checked, count_line};
-ghost use Rattle.cics_run.specs.Whole.Checks.{Checks, Tried, is_told, status_of, TellsBehind};
-ghost use Rattle.cics_run.specs.declared.stage.stage.Stage.{Stage as StageValue};
+ghost use Rattle.cics_script.specs.Lines.{line as line_of};
+ghost use Rattle.cics_run.specs.Told.Remarks.{remark_lines};
+ghost use Rattle.cics_run.specs.Whole.Checks.{Checked, IsBehind, checked, count_line};
+ghost use Rattle.cics_run.specs.Stage.Stages.{IsPlayed};
+ghost use Rattle.cics_run.specs.Whole.Checks.{Checks, tried, IsTried, told_fault, told_note, with_found};
+ghost use Rattle.cics_run.specs.Whole.Checks.{status_of, TellsBehind};
 
 use crate::session::{RunFault, Sink, Status, Stop, ended, write_pending, write_printed};
-use crate::stage::{Fault, Observer, Stage};
-use crate::told::push_told;
+use crate::stage::{Fault, Note, Observer, Stage};
+use crate::told::{Remarks, push_remarks, push_told};
 use crate::whole::next_line;
+use crate::whole::requests::{is_played, note_on};
 use cics_dispatch::{Event, Region, Request};
 use cics_names::NoMemory;
 use cics_script::advice::Origin;
 use cics_script::spelling::{push_number, push_str};
-use cics_script::{Line, read_line};
+use cics_script::{Line, LineFault, read_line};
 use cics_units::DefineFault;
 use std::alloc::Global;
 
 /// Ignores every event.
 #[derive(Drop)]
-struct Nobody;
+pub struct Nobody;
 
 impl Observer for Nobody {
     ghost use Rattle.cics_run.specs.Whole.Checks.{no_sight};
@@ -57,11 +61,18 @@ impl Observer for Nobody {
     }
 }
 
+/// The fault of a line, and what is amiss in its request.
+#[derive(Clone, Copy)]
+struct Found {
+    fault: Option<Fault>,
+    note: Option<Note>,
+}
+
 /// A check between two lines.
 #[derive(Drop)]
 struct Checker {
     alloc: Global,
-    /// The definitions, or a region for which there was a request. None was played on it.
+    /// The definitions, or a region with the tasks that were attached.
     stage: Stage,
     /// How many lines there were.
     number: u64,
@@ -69,30 +80,60 @@ struct Checker {
     faulty: u64,
     /// What is told and not yet written.
     text: Vec<u8>,
+    /// What is amiss in requests.
+    remarks: Remarks,
 }
 
-// Returns whether a fault is told after this number of faulty lines. What a load lacks may be defined by
-// one of them.
-fn is_told(faulty: u64, fault: Fault) -> bool
-    ensures { result ≡ is_told faulty fault }
+// Returns the fault that is told of a line, after this number of faulty lines. What a load lacks may
+// be defined by one of them.
+fn told_fault(faulty: u64, fault: Option<Fault>) -> Option<Fault>
+    ensures { result ≡ told_fault faulty fault }
 {
     match fault {
-        Fault::Definition(DefineFault::NotThere) => faulty == 0,
-        _ => true,
+        Some(Fault::Definition(DefineFault::NotThere)) if faulty > 0 => None,
+        _ => fault,
     }
 }
 
-// Returns the fault of a line, and plays no request.
-fn try_line(alloc: Global, stage: &mut Stage, line: &[u8]) -> Result<Option<Fault>, NoMemory>
-    ensures { (s : StageValue) → IsLike s stage.old
-        → IfOk result (Tried (step s line.now) stage.new) }
+// Returns what is told to be amiss in a line, after this number of faulty lines. What it lacks may be
+// there by one of them.
+fn told_note(faulty: u64, note: Option<Note>) -> Option<Note>
+    ensures { result ≡ told_note faulty note }
+{
+    if faulty == 0 { note } else { None }
+}
+
+// Plays a line that was read, if a check does, and returns its fault.
+fn play(stage: &mut Stage, said: Line) -> Result<Option<Fault>, NoMemory>
+    ensures { IfOk result (IsPlayed (tried stage.old (Ok said)) stage.new) }
+{
+    if is_played(&said) {
+        return stage.follow(0, said, &mut Nobody);
+    }
+    stage.open()?;
+    Ok(None)
+}
+
+// Tries a line that was read.
+fn try_read(stage: &mut Stage, said: Line) -> Result<Found, NoMemory>
+    ensures { IfOk result (IsTried stage.old (Ok said) stage.new) }
+{
+    let note = note_on(stage, &said);
+    let fault = play(stage, said)?;
+    Ok(Found { fault, note })
+}
+
+// Tries a line: plays it if it is a definition or an ATTACH, and returns what is found in it.
+fn try_line(alloc: Global, stage: &mut Stage, line: &[u8]) -> Result<Found, NoMemory>
+    ensures { IfOk result (IsTried stage.old (line_of line.now) stage.new) }
 {
     match read_line(alloc, line) {
-        Ok(Line::Attach(_, _, _) | Line::Clock(_) | Line::Issue(_, _) | Line::Shutdown) => {
-            stage.open()?;
-            Ok(None)
-        }
-        _ => stage.run_line(alloc, 0, line, &mut Nobody),
+        Ok(said) => try_read(stage, said),
+        Err(LineFault::NoMemory) => Err(NoMemory),
+        Err(fault) => Ok(Found {
+            fault: Some(Fault::Line(fault)),
+            note: None,
+        }),
     }
 }
 
@@ -112,7 +153,7 @@ fn push_count(out: &mut Vec<u8>, faulty: u64) -> Result<(), NoMemory>
 }
 
 impl Checker {
-    // Takes one line more, and tells of its fault.
+    // Takes one line more, and tells of its fault, or keeps what is amiss in it.
     fn check_line(&mut self, file: Option<&[u8]>, line: &[u8]) -> Result<(), NoMemory>
         requires number { self.old.number + 1 < 2 ^ 64 }
         requires faulty { self.old.faulty ≤ self.old.number }
@@ -123,12 +164,10 @@ impl Checker {
         ensures faulty { OnOk result (self.new.faulty ≤ self.new.number) }
     {
         self.number += 1;
-        let Some(fault) = try_line(self.alloc, &mut self.stage, line)? else {
-            return Ok(());
+        let found = try_line(self.alloc, &mut self.stage, line)?;
+        let Some(fault) = told_fault(self.faulty, found.fault) else {
+            return self.keep(line, found.note);
         };
-        if !is_told(self.faulty, fault) {
-            return Ok(());
-        }
         self.faulty += 1;
         let origin = Origin {
             file,
@@ -137,13 +176,31 @@ impl Checker {
         push_told(&mut self.text, origin, line, fault)
     }
 
-    // Tells how many lines are at fault, and returns whether one is.
-    fn finish<K: Sink>(&mut self, sink: &mut K) -> Result<Status, Stop>
+    // Keeps what is amiss in the line, if no line before it is at fault.
+    fn keep(&mut self, line: &[u8], note: Option<Note>) -> Result<(), NoMemory>
+        ensures { OnOk result (self.new ≡ record self.old {
+          remarks = with_found self.old.stage self.old.number line.now self.old.remarks
+              (told_note self.old.faulty note);
+        }) }
+    {
+        match told_note(self.faulty, note) {
+            Some(note) => {
+                self.remarks
+                    .add_all(&self.stage, self.number, line, &[note])
+            }
+            None => Ok(()),
+        }
+    }
+
+    // Tells what is amiss in requests and how many lines are at fault, and returns whether one is.
+    fn finish<K: Sink>(&mut self, file: Option<&[u8]>, sink: &mut K) -> Result<Status, Stop>
         ensures told { OnOk result (Appends (K.contents sink.old) (K.contents sink.new)
-            (self.old.text.items ++ count_line self.old.faulty)) }
+            (self.old.text.items ++ (remark_lines file.entry self.old.remarks
+            ++ count_line self.old.faulty))) }
         ensures status { IfOk result (λ status. status ≡ status_of self.old.faulty) }
         ensures failed { Rises (K.failed sink.old) (K.failed sink.new) (stopped_writes result) }
     {
+        push_remarks(&mut self.text, file, &self.remarks)?;
         push_count(&mut self.text, self.faulty)?;
         write_pending(&mut self.text, sink)?;
         Ok(match self.faulty {
@@ -170,11 +227,12 @@ fn check_lines<K: Sink>(
         number: 0,
         faulty: 0,
         text: Vec::new(alloc),
+        remarks: Remarks::new(alloc),
     };
     let mut rest = script;
     'lines: loop {
         let Some((line, after)) = next_line(rest) else {
-            return checker.finish(sink);
+            return checker.finish(file, sink);
         };
         checker.check_line(file, line)?;
         write_printed(&mut checker.text, sink, false)?;
@@ -182,9 +240,14 @@ fn check_lines<K: Sink>(
     }
 }
 
-/// Tells what is at fault in each line of a script, as `told_of` does of one, and then how many
-/// lines are. No request is played, and a line with a fault changes nothing. A load into what isn't
-/// defined is told only if no line before it is at fault. `file` is the name of the script's file.
+/// Tells what is at fault in each line of a script, as `told_of` does of one. Then it tells what is
+/// amiss in requests, and how many lines are at fault. A request is amiss if its label was attached
+/// before or never was, if it names a file or queue that isn't defined, or if a command of temporary
+/// storage has the name of a transient data queue: 64 of these are told.
+///
+/// No request but ATTACH is played, and a line with a fault changes nothing. What a line lacks may be
+/// defined by a faulty one: behind such a line nothing is told of it. `file` is the name of the
+/// script's file.
 ///
 /// Returns `Status::LineFault` exactly if a run of the script does. Errors: `NoMemory`,
 /// `WriteFault`. Cost: O(bytes), with one reading more for each word of a faulty line.

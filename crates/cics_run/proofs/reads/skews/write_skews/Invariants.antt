@@ -1,10 +1,7 @@
-use Rattle.std.proofs.Common.{◌≡◌, ◌++◌, take, reverse}
-use Rattle.std.specs.List.{flat_map}
-use Rattle.cics_run.specs.Reads.Skews.{write_skew}
+use Rattle.std.proofs.Common.{◌≡◌, ◌++◌, drop}
+use Rattle.cics_run.specs.Reads.Skews.{of_turns, write_skew}
 use Rattle.cics_run.proofs.reads.skews.write_skews.Given as goal
 
-abbrev pub invariant-loop-one : goal.invariant-loop-one
-invariant-loop-one l = l.found ≡ flat_map (λ one. flat_map (write_skew (reverse l.steps) one) l.turns) (take l.one-index l.turns)
-
-abbrev pub invariant-loop-other : goal.invariant-loop-other
-invariant-loop-other l = l.found ≡ l.initial.found ++ flat_map (write_skew (reverse l.steps) l.one) (take l.other-index l.turns)
+-- what is found so far, and what is left, is all
+abbrev pub invariant-loop-at : goal.invariant-loop-at
+invariant-loop-at l = l.found ++ of_turns (write_skew l.past) (drop l.at l.turns) ≡ of_turns (write_skew l.past) l.turns

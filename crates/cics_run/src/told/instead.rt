@@ -1,0 +1,110 @@
+//! What stands in place of a name that isn't there.
+
+ghost use Rattle.std.specs.Prelude.{◌≡◌, ◌++◌, OnOk};
+ghost use Rattle.std.specs.Option.{option_copied};
+ghost use Rattle.cics_run.specs.Told.Instead.{instead_text, meant_queue, meant_words};
+ghost use Rattle.cics_run.specs.Told.Instead.{instead_of_queue, instead_of_file, instead_of_name};
+ghost use Rattle.cics_run.specs.Told.Instead.{instead_in};
+
+use crate::stage::Stage;
+use crate::told::nearest::{nearest_file, nearest_queue};
+use cics_names::{Condition, Name4, Name8, NoMemory, Verb};
+use cics_script::spelling::{push_bare, push_str};
+use cics_units::Opening;
+
+/// Appends the label or the file that stands in place of another one, if there is one, and what is
+/// told of it.
+pub fn push_instead(out: &mut Vec<u8>, name: Option<Name8>, behind: &str) -> Result<(), NoMemory>
+    ensures { OnOk result (out.new.items ≡ out.old.items ++ instead_text name behind.now) }
+{
+    let Some(name) = name else {
+        return Ok(());
+    };
+    push_str(out, "; ")?;
+    push_bare(out, &name.bytes())?;
+    push_str(out, behind)
+}
+
+// Appends the queue that stands in place of another one, if there is one, and what is told of it.
+fn push_instead_queue(out: &mut Vec<u8>, name: Option<Name4>, behind: &str) -> Result<(), NoMemory>
+    ensures { OnOk result (out.new.items ≡ out.old.items ++ instead_text name behind.now) }
+{
+    let Some(name) = name else {
+        return Ok(());
+    };
+    push_str(out, "; ")?;
+    push_bare(out, &name.bytes())?;
+    push_str(out, behind)
+}
+
+/// Returns what is told of a queue of transient data that a command of temporary storage names.
+pub fn meant_words() -> &'static str
+    ensures { result.now ≡ meant_words }
+{
+    " is a TD queue: without TD, TS is meant"
+}
+
+/// Returns the queue of transient data with the name that a command of temporary storage has,
+/// capitals or not.
+///
+/// Cost: O(queues).
+pub fn meant_queue(opening: &Opening, verb: &Verb) -> Option<Name4>
+    ensures { result ≡ meant_queue opening.now verb.now }
+{
+    match verb {
+        Verb::WriteqTs { queue, .. } | Verb::ReadqTs { queue, .. } | Verb::DeleteqTs { queue } => {
+            nearest_queue(opening, 1, &queue.bytes())
+        }
+        _ => None,
+    }
+}
+
+// Appends what stands in place of the queue that a command names.
+fn push_instead_of_queue(out: &mut Vec<u8>, opening: &Opening, verb: &Verb) -> Result<(), NoMemory>
+    ensures { OnOk result (out.new.items
+        ≡ out.old.items ++ instead_of_queue opening.now verb.now) }
+{
+    match verb {
+        Verb::WriteqTd { queue, .. } | Verb::ReadqTd { queue, .. } | Verb::DeleteqTd { queue } => {
+            push_instead_queue(out, nearest_queue(opening, 2, &queue.bytes()), " is")
+        }
+        _ => push_instead_queue(out, meant_queue(opening, verb), meant_words()),
+    }
+}
+
+// Appends what stands in place of the file that a command names.
+fn push_instead_of_file(
+    out: &mut Vec<u8>,
+    opening: &Opening,
+    file: Option<&Name8>,
+) -> Result<(), NoMemory>
+    ensures { OnOk result (out.new.items
+        ≡ out.old.items ++ instead_of_file opening.now (option_copied file.entry)) }
+{
+    match file {
+        Some(name) => push_instead(out, nearest_file(opening, name), " is"),
+        None => Ok(()),
+    }
+}
+
+/// Appends what is defined almost as the file or queue that a command names, if its condition says
+/// that this isn't there. Of a queue of temporary storage it is one of transient data.
+pub fn push_instead_in(
+    out: &mut Vec<u8>,
+    stage: &Stage,
+    verb: &Verb,
+    condition: Condition,
+) -> Result<(), NoMemory>
+    ensures { OnOk result (out.new.items
+        ≡ out.old.items ++ instead_in stage.now verb.now condition) }
+{
+    let Stage::Running(region) = stage else {
+        return Ok(());
+    };
+    let opening = region.units().opening();
+    match condition {
+        Condition::Dsiderr => push_instead_of_file(out, opening, verb.file()),
+        Condition::Qiderr => push_instead_of_queue(out, opening, verb),
+        _ => Ok(()),
+    }
+}
