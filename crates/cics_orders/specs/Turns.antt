@@ -1,5 +1,5 @@
--- Turns. A task gives its lines in turns: a turn begins with a line, and ends with SYNCPOINT or with
--- the task. In a serial order no other task gives a line within a turn, and no SHUTDOWN comes.
+-- Turns. A task gives its lines in turns: a turn begins with a line, and ends with SYNCPOINT or
+-- with the task. In a serial order no other task gives a line within a turn, and no SHUTDOWN comes.
 use Rattle.std.specs.Prelude.{ℕ, zero, suc, Bool, true, false, not, ◌&&◌, ◌||◌, ◌==◌, List, Option, Some, None, is_some, Result, Ok, slice_get}
 use Rattle.std.specs.List.{list_any}
 use Rattle.cics_names.specs.Keyed.{Bytes}

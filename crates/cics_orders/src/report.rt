@@ -10,7 +10,7 @@ mod parts;
 mod report;
 mod scripts;
 
-pub use amiss::is_amiss;
+pub use amiss::{AmissEnding, first_amiss};
 pub use laws::{faults_are_those_of_runs, scripts_lead_there};
 pub use report::{push_fault, push_report};
 pub use scripts::push_script;

@@ -232,8 +232,8 @@ impl Walker {
         }
     }
 
-    /// Returns whether a lane breaks a turn: its next line is a command or SHUTDOWN, and the task of
-    /// another lane is within a turn. An order with such a line isn't serial.
+    /// Returns whether a lane breaks a turn: its next line is a command or SHUTDOWN, and the task
+    /// of another lane is within a turn. An order with such a line isn't serial.
     ///
     /// Cost: O(lanes).
     #[tactic(auto, unfolding(crate::specs::Turns::breaks))]

@@ -1,5 +1,5 @@
--- Which plans are those of scripts: no two tasks have the same label, and each lane has lines of its
--- own.
+-- Which plans are those of scripts: no two tasks have the same label, and each lane has lines of
+-- its own.
 use Rattle.std.specs.Prelude.{Bool, true, false, not, ◌&&◌, if◌then◌else◌, List, [], ◌∷◌, Result, Ok}
 use Rattle.std.specs.List.{list_all}
 use Rattle.cics_names.specs.Keyed.{Bytes, is_same}

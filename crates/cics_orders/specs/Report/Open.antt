@@ -37,8 +37,8 @@ abbrev pub ends_task : Result Line LineFault → Bool
 ends_task (Ok (Issue label command)) = is_ending command.verb
 ends_task _ = false
 
--- a unit may be open behind a line: not behind SYNCPOINT, and else if it may before, or the line may
--- begin one
+-- a unit may be open behind a line: not behind SYNCPOINT, and else if it may before, or the line
+-- may begin one
 abbrev pub may_be_open : Bool → Result Line LineFault → Bool
 may_be_open before (Ok (Issue label command)) = if is_syncpoint command.verb then false else before || may_begin command.verb
 may_be_open before _ = before

@@ -65,7 +65,7 @@ abbrev pub IsWay : {S : Type 0} → Lanes S → S → Order → Type 0
 IsWay lanes s [] = Unit {0}
 IsWay lanes s (l ∷ o) = IsOneOf l (lanes.givers s 0) × IsWay lanes (lanes.given s l) o
 
--- Two states of one stamp: the same lanes may give, which lead to states of one stamp again, the
+-- Two states of one stamp: the same lanes may give, which lead to states of one stamp again. The
 -- states end in the same parts, and the same lanes break a turn.
 pub record AreStampedAlike {S : Type 0} (lanes : Lanes S) (ending : S → List (List ℕ)) (breaks : S → ℕ → Bool) (stamp : S → List ℕ) (x y : S) : Type 0 where
   pub givers : lanes.givers x 0 ≡ lanes.givers y 0

@@ -1,5 +1,5 @@
 -- What is written of the orders of a script.
-use Rattle.std.specs.Prelude.{◌≡◌, ℕ, ◌+◌, ◌≤◌, Bool, true, false, ◌&&◌, if◌then◌else◌, List, [], ◌++◌, length, Option, Some, None, Result, Ok, Err}
+use Rattle.std.specs.Prelude.{◌≡◌, ℕ, ◌+◌, ◌≤◌, Bool, true, false, List, [], ◌++◌, length, Option, Some, None, Result, Ok, Err}
 use Rattle.std.specs.Io.KnownBytes.{Appends, Consumes, IsAtEnd}
 use Rattle.cics_run.specs.Session.Lines.{all_lines}
 use Rattle.cics_run.specs.Session.Running.{most_bytes}
@@ -11,18 +11,24 @@ use Rattle.cics_orders.specs.Plans.Taking.{initial_taken, taken_apart, planned}
 use Rattle.cics_orders.specs.declared.plans.plans.Planned.{Planned}
 use Rattle.cics_orders.specs.declared.plans.plans.ScriptFault.{ScriptFault}
 use Rattle.cics_orders.specs.declared.search.exploring.Report.{Report}
-use Rattle.cics_orders.specs.Report.Amiss.{is_amiss}
+use Rattle.cics_orders.specs.Report.Amiss.{first_amiss}
+use Rattle.cics_orders.specs.declared.report.amiss.AmissEnding.{AmissEnding}
 use Rattle.cics_orders.specs.Report.Reporting.{fault_text, report_text, script_at}
 use Rattle.cics_orders.specs.Survey.Surveys.{IsSurvey}
 use Rattle.cics_orders.specs.declared.survey.surveys.Survey.{Survey}
 use Rattle.cics_orders.specs.declared.survey.running.Surveyed.{Surveyed}
 use Rattle.cics_orders.specs.declared.survey.running.Surveyed.TheVariants as surveyed
 
--- how a script was told that is there: strictly, that something is amiss, if it is. Else there are
--- so many endings, and at least so many if orders were left out.
+-- strictly, the first ending that is amiss, if one is
+abbrev pub amiss_of : Bool → Option AmissEnding → Surveyed
+amiss_of true (Some ending) = surveyed.Amiss ending
+amiss_of is_strict ending = surveyed.Done
+
+-- how a script was told that is there: strictly, what is amiss, if something is. Else there are so
+-- many endings, and at least so many if orders were left out.
 abbrev pub status_of : Report → Bool → Bool → Surveyed
 status_of r is_strict false = surveyed.NoEnding (length r.endings) r.is_whole
-status_of r is_strict true = if is_strict && is_amiss r then surveyed.Amiss else surveyed.Done
+status_of r is_strict true = amiss_of is_strict (first_amiss r)
 
 -- the script of an ending stands behind what was there, if there is one
 abbrev pub WritesEnding : Report → Bool → Option (List ℕ) → List ℕ → List ℕ → Surveyed → Type 0

@@ -111,8 +111,8 @@ fn push_numbered(
     push_heading(out, report, ending)
 }
 
-// How endings are told: by the plan, whether with what reads saw and missed, and the parts that each
-// ending has.
+// How endings are told: by the plan, whether with what reads saw and missed, and the parts that
+// each ending has.
 #[derive(Clone, Copy)]
 struct Telling<'a> {
     plan: &'a Plan,

@@ -58,7 +58,7 @@ struct Search {
     alloc: Global,
     scope: Scope,
     // If its levels so far have more states than this in which a lane may give, it follows only
-    // some of each level from there on.
+    // some of each further level.
     limit: u64,
     // How many of each level it follows then.
     share: u64,
@@ -345,8 +345,8 @@ fn parts_as_written(walk: &mut Walker, told: bool) -> Result<Option<Items<Record
     }
 }
 
-// Follows the orders from the initial state of a walker. `wanted` says whether endings have all that
-// tasks were told, and how many states are followed.
+// Follows the orders from the initial state of a walker. `wanted` says whether endings have all
+// that tasks were told, and how many states are followed.
 fn explore<P: Progress>(
     alloc: Global,
     walk: &mut Walker,

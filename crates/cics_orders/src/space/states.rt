@@ -192,8 +192,8 @@ pub fn go_to(walk: &mut Walker, order: &[usize]) -> Result<(), NoMemory>
 /// Goes to the state after the order as written: the lines of the script, but for those that its
 /// plain run refuses. Returns whether there is such an order.
 ///
-/// There is none if a line is refused because its task waits, and the task gives a later line, or
-/// may give one at the end.
+/// There is none if a line is refused because its task waits, and the task gives a later line or
+/// may give one.
 ///
 /// Errors: `NoMemory`. Cost: a restart, and that of the lines.
 pub fn go_as_written(walk: &mut Walker) -> Result<bool, NoMemory>

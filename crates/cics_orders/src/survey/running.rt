@@ -5,7 +5,7 @@ ghost use Rattle.cics_run.specs.Session.Running.{most_reads, read_failures, writ
 ghost use Rattle.cics_run.specs.Session.Streams.{Rises, RisesAtMost, failures};
 ghost use Rattle.cics_orders.specs.Survey.Written.{status_of, Writes, IsPrinted, Surveys};
 
-use crate::report::{is_amiss, push_fault, push_report, push_script};
+use crate::report::{AmissEnding, first_amiss, push_fault, push_report, push_script};
 use crate::search::{Progress, Report};
 use crate::survey::surveys::{Survey, survey_script};
 use cics_names::NoMemory;
@@ -18,8 +18,8 @@ use std::alloc::Global;
 pub enum Surveyed {
     /// The report is written, or the order that is wanted.
     Done,
-    /// That is written. `strict` is wanted, and the report is amiss (`is_amiss`).
-    Amiss,
+    /// That is written. `strict` is wanted, and this ending is the first that is amiss.
+    Amiss(AmissEnding),
     /// The line with the script's first fault is written.
     LineFault,
     /// No ending has the number that is wanted. There are so many, or at least so many if orders
@@ -37,10 +37,9 @@ fn status_of(report: &Report, is_strict: bool, is_there: bool) -> Surveyed
             has_all: report.is_whole,
         };
     }
-    if is_strict && is_amiss(report) {
-        Surveyed::Amiss
-    } else {
-        Surveyed::Done
+    match first_amiss(report) {
+        Some(ending) if is_strict => Surveyed::Amiss(ending),
+        _ => Surveyed::Done,
     }
 }
 
