@@ -16,10 +16,10 @@ use Rattle.cics_picture.specs.Bars.{nobody, new_lane, new_lanes, nobodies, lane_
 use Rattle.cics_picture.specs.Drawings.{Drawn, nothing_drawn, Row, with_row, Printed, rows_of, turned, turned_from, any_caught, word_if, with_text, with_end, with_line, drawn, finished}
 
 -- a lane that is set, and another one
-set-here : (ls : List Lane) (i : ℕ) (l : Lane) → i < length ls → lane_at (slice_set ls i l) i ≡ l
+pub set-here : (ls : List Lane) (i : ℕ) (l : Lane) → i < length ls → lane_at (slice_set ls i l) i ≡ l
 set-here ls i l within = unwrap_or-slice_get (slice_set ls i l) i new_lane ∙ get_or-set_same ls i l new_lane within
 
-set-other : (ls : List Lane) (i j : ℕ) (l : Lane) → j ≢ i → lane_at (slice_set ls i l) j ≡ lane_at ls j
+pub set-other : (ls : List Lane) (i j : ℕ) (l : Lane) → j ≢ i → lane_at (slice_set ls i l) j ≡ lane_at ls j
 set-other ls i j l other = unwrap_or-slice_get (slice_set ls i l) j new_lane ∙ get_or-set_other ls i j l new_lane other ∙ sym (unwrap_or-slice_get ls j new_lane)
 
 -- there are as many lanes as before
@@ -31,23 +31,68 @@ turned-long : (standings : List Standing) (first l : ℕ) (d : Drawn) → length
 turned-long [] first l d = refl
 turned-long (s ∷ standings) first l d = turned-long standings first (l + 1) (turned first l s d) ∙ length-set d.lanes l _
 
-rows-long : (rows : List Row) (d : Drawn) → length (fold with_row d rows).lanes ≡ length d.lanes
+pub rows-long : (rows : List Row) (d : Drawn) → length (fold with_row d rows).lanes ≡ length d.lanes
 rows-long [] d = refl
 rows-long (r ∷ rows) d = rows-long rows (with_row d r) ∙ behind-long d.lanes d.rows r.told.kind (row_lane d.tasks r.told)
 
-end-long : (first : ℕ) (standings : List Standing) (d : Drawn) → length (with_end first standings d).lanes ≡ length d.lanes
-end-long first standings d = turned-long standings first 0 (with_text d (word_if (any_caught d.lanes 0 standings) (row_y (d.rows - 1) + 4)))
+-- a drawing with the word of a line that brought a task into a deadlock
+abbrev pub worded : List Standing → Drawn → Drawn
+worded standings d = with_text d (word_if (any_caught d.lanes 0 standings) (row_y (d.rows - 1) + 4))
 
-line-long : (p : Printed) (d : Drawn) → length (with_line d p).lanes ≡ length d.lanes
+end-long : (first : ℕ) (standings : List Standing) (d : Drawn) → length (with_end first standings d).lanes ≡ length d.lanes
+end-long first standings d = turned-long standings first 0 (worded standings d)
+
+pub line-long : (p : Printed) (d : Drawn) → length (with_line d p).lanes ≡ length d.lanes
 line-long p d = end-long (row_y d.rows) p.standings (fold with_row d (rows_of p)) ∙ rows-long (rows_of p) d
 
-lines-long : (lines : List Printed) (d : Drawn) → length (fold with_line d lines).lanes ≡ length d.lanes
+pub lines-long : (lines : List Printed) (d : Drawn) → length (fold with_line d lines).lanes ≡ length d.lanes
 lines-long [] d = refl
 lines-long (p ∷ lines) d = lines-long lines (with_line d p) ∙ line-long p d
 
-all-long : length new_lanes ≡ 16
+pub all-long : length new_lanes ≡ 16
 unfolding new_lanes
 all-long = refl
+
+-- a lane keeps behind events what each of its own leaves
+module _ {X : Type 0} (f : Lane → X) (same : (l : Lane) (row : ℕ) (k : Kind) → f (noted l row k) ≡ f l) (lane : ℕ) where
+  pub behind-keeps : (ls : List Lane) (row : ℕ) (k : Kind) (o : Option ℕ) → lane < length ls → f (lane_at (lanes_behind ls row k o) lane) ≡ f (lane_at ls lane)
+  behind-keeps ls row k None within = refl
+  behind-keeps ls row k (Some i) within =
+      elim (lane == i) as (λ b. (lane == i) ≡ b → f (lane_at (lanes_behind ls row k (Some i)) lane) ≡ f (lane_at ls lane)) [
+        | true ↦ λ e.
+            let here : lane ≡ i = eqb-true lane i e in
+            subst (λ n. f (lane_at (lanes_behind ls row k (Some n)) lane) ≡ f (lane_at ls lane)) here
+            (ap f (set-here ls lane (noted (lane_at ls lane) row k) within) ∙ same (lane_at ls lane) row k)
+        | false ↦ λ e. ap f (set-other ls i lane (noted (lane_at ls i) row k) (eqb-false lane i e))
+      ] refl
+
+  pub rows-keep : (rows : List Row) (d : Drawn) → lane < length d.lanes → f (lane_at (fold with_row d rows).lanes lane) ≡ f (lane_at d.lanes lane)
+  rows-keep [] d within = refl
+  rows-keep (r ∷ rows) d within =
+      rows-keep rows (with_row d r) (subst (λ n. lane < n) (sym (behind-long d.lanes d.rows r.told.kind (row_lane d.tasks r.told))) within)
+      ∙ behind-keeps d.lanes d.rows r.told.kind (row_lane d.tasks r.told) within
+
+-- the lanes that turn
+module _ (lane : ℕ) where
+  -- lanes below those that turn stay
+  turns-past : (standings : List Standing) (first i : ℕ) (d : Drawn) → lane < i → lane_at (turned_from first i standings d).lanes lane ≡ lane_at d.lanes lane
+  turns-past [] first i d past = refl
+  turns-past (s ∷ standings) first i d past =
+      turns-past standings first (i + 1) (turned first i s d) (omega arith) ∙ set-other d.lanes i lane _ (λ same. omega arith)
+
+  -- a lane turns to how its task stands
+  pub turns-lane : (standings : List Standing) (first i k : ℕ) (s : Standing) (d : Drawn) → lane < length d.lanes → slice_get standings k ≡ Some s → i + k ≡ lane
+      → lane_at (turned_from first i standings d).lanes lane ≡ lane_behind (lane_at d.lanes lane) (max (lane_at d.lanes lane).last first) s
+  turns-lane [] first i k s d within there at = cc
+  turns-lane (x ∷ standings) first i zero s d within there at =
+      let here : i ≡ lane = omega arith in
+      let same : x ≡ s = cc in
+      turns-past standings first (i + 1) (turned first i x d) (omega arith)
+      ∙ subst (λ j. lane_at (turned first j x d).lanes lane ≡ lane_behind (lane_at d.lanes lane) (max (lane_at d.lanes lane).last first) s) (sym here)
+      (set-here d.lanes lane _ within ∙ ap (lane_behind (lane_at d.lanes lane) (max (lane_at d.lanes lane).last first)) same)
+  turns-lane (x ∷ standings) first i (suc k) s d within there at =
+      turns-lane standings first (i + 1) k s (turned first i x d) (subst (λ n. lane < n) (sym (length-set d.lanes i _)) within) there (omega arith)
+      ∙ ap (λ l. lane_behind l (max l.last first) s) (set-other d.lanes i lane _ (λ same. omega arith))
 
 -- a task keeps its unit, or it is gone
 kept-or-gone : (before now : Option ℕ) (unit : ℕ) → before ≡ Some unit → (now ≡ Some unit) ⊎ (gone before now ≡ Some unit)
@@ -80,20 +125,8 @@ module _ (lane unit : ℕ) where
   last-bars : (xs ys : List Bar) → list_any (is_bar_of lane unit) ys ≡ true → list_any (is_bar_of lane unit) (xs ++ ys) ≡ true
   last-bars xs ys has = list_any-append (is_bar_of lane unit) xs ys ∙ or-true (list_any (is_bar_of lane unit) xs) _ has
 
-  -- an event leaves a task's standing
-  behind-stands : (ls : List Lane) (row : ℕ) (k : Kind) (o : Option ℕ) → lane < length ls → (lane_at (lanes_behind ls row k o) lane).standing ≡ (lane_at ls lane).standing
-  behind-stands ls row k None within = refl
-  behind-stands ls row k (Some i) within =
-      elim (lane == i) as (λ b. (lane == i) ≡ b → (lane_at (lanes_behind ls row k (Some i)) lane).standing ≡ (lane_at ls lane).standing) [
-        | true ↦ λ e.
-            let same : lane ≡ i = eqb-true lane i e in
-            subst (λ n. (lane_at (lanes_behind ls row k (Some n)) lane).standing ≡ (lane_at ls lane).standing) same
-            (ap (λ l. l.standing) (set-here ls lane (noted (lane_at ls lane) row k) within))
-        | false ↦ λ e. ap (λ l. l.standing) (set-other ls i lane (noted (lane_at ls i) row k) (eqb-false lane i e))
-      ] refl
-
   row-has : (r : Row) (d : Drawn) → lane < length d.lanes → Has d → Has (with_row d r)
-  row-has r d within (inl has) = inl (ap (λ s. s.unit) (behind-stands d.lanes d.rows r.told.kind (row_lane d.tasks r.told) within) ∙ has)
+  row-has r d within (inl has) = inl (behind-keeps (λ l. l.standing.unit) (λ l row k. refl) lane d.lanes d.rows r.told.kind (row_lane d.tasks r.told) within ∙ has)
   row-has r d within (inr has) = inr has
 
   rows-have : (rows : List Row) (d : Drawn) → lane < length d.lanes → Has d → Has (fold with_row d rows)
@@ -125,7 +158,7 @@ module _ (lane unit : ℕ) where
       turns-have standings first (i + 1) (turned first i s d) (subst (λ n. lane < n) (sym (length-set d.lanes i _)) within) (turn-has first i s d within has)
 
   end-has : (first : ℕ) (standings : List Standing) (d : Drawn) → lane < length d.lanes → Has d → Has (with_end first standings d)
-  end-has first standings d within has = turns-have standings first 0 (with_text d (word_if (any_caught d.lanes 0 standings) (row_y (d.rows - 1) + 4))) within has
+  end-has first standings d within has = turns-have standings first 0 (worded standings d) within has
 
   lines-have : (lines : List Printed) (d : Drawn) → lane < length d.lanes → Has d → Has (fold with_line d lines)
   lines-have [] d within has = has
@@ -133,24 +166,6 @@ module _ (lane unit : ℕ) where
       let rows = fold with_row d (rows_of p) in
       lines-have lines (with_line d p) (subst (λ n. lane < n) (sym (line-long p d)) within)
       (end-has (row_y d.rows) p.standings rows (subst (λ n. lane < n) (sym (rows-long (rows_of p) d)) within) (rows-have (rows_of p) d within has))
-
-  -- lanes below those that turn stay
-  turns-past : (standings : List Standing) (first i : ℕ) (d : Drawn) → lane < i → lane_at (turned_from first i standings d).lanes lane ≡ lane_at d.lanes lane
-  turns-past [] first i d past = refl
-  turns-past (s ∷ standings) first i d past =
-      turns-past standings first (i + 1) (turned first i s d) (omega arith) ∙ set-other d.lanes i lane _ (λ same. omega arith)
-
-  -- the standing of a lane is the one to which it turned
-  turns-stand : (standings : List Standing) (first i k : ℕ) (s : Standing) (d : Drawn) → lane < length d.lanes → slice_get standings k ≡ Some s → i + k ≡ lane
-      → (lane_at (turned_from first i standings d).lanes lane).standing ≡ s
-  turns-stand [] first i k s d within there at = cc
-  turns-stand (x ∷ standings) first i zero s d within there at =
-      let here : i ≡ lane = omega arith in
-      let same : x ≡ s = cc in
-      ap (λ l. l.standing) (turns-past standings first (i + 1) (turned first i x d) (omega arith))
-      ∙ subst (λ j. (lane_at (turned first j x d).lanes lane).standing ≡ s) (sym here) (ap (λ l. l.standing) (set-here d.lanes lane _ within) ∙ same)
-  turns-stand (x ∷ standings) first i (suc k) s d within there at =
-      turns-stand standings first (i + 1) k s (turned first i x d) (subst (λ n. lane < n) (sym (length-set d.lanes i _)) within) there (omega arith)
 
 nobody-there : (lane : ℕ) → lane < 16 → slice_get nobodies lane ≡ Some nobody
 unfolding nobodies
@@ -164,8 +179,7 @@ nobody-there lane room = replicated lane 16 room
 -- behind the run no task has a unit: each has its bar
 over : (lane unit : ℕ) (d : Drawn) → lane < 16 → lane < length d.lanes → Has lane unit d → list_any (is_bar_of lane unit) (finished d).bars ≡ true
 over lane unit d room within has =
-    let text = word_if (any_caught d.lanes 0 nobodies) (row_y (d.rows - 1) + 4) in
-    let stands = turns-stand lane unit nobodies (row_y d.rows) 0 lane nobody (with_text d text) within (nobody-there lane room) (omega arith) in
+    let stands = ap (λ l. l.standing) (turns-lane lane nobodies (row_y d.rows) 0 lane nobody (worded nobodies d) within (nobody-there lane room) (omega arith)) in
     elim (end-has lane unit (row_y d.rows) nobodies d within has) [
       | inl still ↦ let never : None ≡ Some unit = sym (ap (λ s. s.unit) stands) ∙ still in cc
       | inr bar ↦ bar
@@ -179,8 +193,7 @@ unit-barred before after p lane unit s room there is =
     let long : length d.lanes ≡ 16 = lines-long before nothing_drawn ∙ all-long in
     let within : lane < length rows.lanes = subst (λ n. lane < n) (sym (rows-long (rows_of p) d ∙ long)) room in
     let now = with_line d p in
-    let text = word_if (any_caught rows.lanes 0 p.standings) (row_y (rows.rows - 1) + 4) in
-    let stands = turns-stand lane unit p.standings (row_y d.rows) 0 lane s (with_text rows text) within there (omega arith) in
+    let stands = ap (λ l. l.standing) (turns-lane lane p.standings (row_y d.rows) 0 lane s (worded p.standings rows) within there (omega arith)) in
     let within-now : lane < length now.lanes = subst (λ n. lane < n) (sym (line-long p d ∙ long)) room in
     let has = lines-have lane unit after now within-now (inl (ap (λ s. s.unit) stands ∙ is)) in
     let all : fold with_line now after ≡ drawn (before ++ p ∷ after) = sym (fold-append with_line nothing_drawn before (p ∷ after)) in

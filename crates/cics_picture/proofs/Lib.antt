@@ -4,5 +4,9 @@ pub mod WellFormed
 pub mod Counted
 pub mod Waits
 pub mod Kept
+pub mod Spans
+pub mod Places
 pub mod OfXml
 pub mod OfDraw
+pub mod OfPage
+pub mod OfViews

@@ -17,10 +17,10 @@ use Rattle.cics_names.specs.Keyed.{Bytes}
 use Rattle.cics_picture.specs.Lanes.{most_lanes, lane_of, tasks_behind, row_lane, lane_x, row_y}
 use Rattle.cics_picture.specs.declared.bars.Standing.{Standing}
 use Rattle.cics_picture.specs.declared.bars.Bar.{Bar}
-use Rattle.cics_picture.specs.Bars.{nobodies, lane_at, is_caught, look_of, look_class, bar_text}
-use Rattle.cics_picture.specs.Elements.{ring_shape, stays_shape, shows_shape, class, words, number_words, shape, stroke, field, spoken, namespace, picture_start, moved_start, tip, head, cut}
-use Rattle.cics_picture.specs.Drawings.{Drawn, nothing_drawn, label_text, arrow_to, beside, lane_marks, marks_of, row_number, waited, line_text, told_text, Row, with_row, rows_of, Printed, drawn, ring_if, stays_if, link_if, shows_if, turned, turned_from, any_caught, word_if, with_text, with_end, with_line, finished}
-use Rattle.cics_picture.specs.Sheets.{style_text, bands, lane_lines, headings, legend_item, answers_legend, ways_legend, region_legend, sign_item, units_legend, heading, ground, bars_text, moved_texts, whole_sheet, sheet, width_of, height_of}
+use Rattle.cics_picture.specs.Bars.{nobodies, lane_at, new_blocker, is_caught, look_of, look_class, bar_text}
+use Rattle.cics_picture.specs.Elements.{dot_shape, ring_shape, stays_shape, shows_shape, class, words, number_words, shape, stroke, field, spoken, namespace, picture_start, moved_start, tip, head, cut}
+use Rattle.cics_picture.specs.Drawings.{Drawn, nothing_drawn, label_text, arrow_to, beside, side_mark, lane_marks, marks_of, row_number, waited, line_text, told_text, Row, with_row, rows_of, Printed, drawn, moved_if, ring_if, stays_if, link_if, shows_if, turned, turned_from, any_caught, word_if, with_text, with_end, with_line, finished}
+use Rattle.cics_picture.specs.Sheets.{style_text, bands, lane_lines, headings, legend_item, answers_legend, ways_legend, ends_legend, region_legend, sign_item, units_legend, heading, ground, bars_text, moved_texts, whole_sheet, sheet, width_of, height_of}
 use Rattle.cics_picture.specs.declared.style.TheConstants.{STYLE}
 use Rattle.cics_picture.proofs.Markup.{IsMarkup, nothing, itself, behind, within}
 use lib.Chars.{codes}
@@ -58,11 +58,22 @@ arrow-to lane y None = nothing
 arrow-to lane y (Some holder) =
     behind _ _ (stroke-there (codes "aw") (lane_x lane) y (tip lane holder) y) (shape-there (codes "fw") (head lane holder) (tip lane holder) y)
 
+either : (b : Bool) (x y : List ℕ) → IsMarkup x → IsMarkup y → IsMarkup (cond b x y)
+either true x y p q = p
+either false x y p q = q
+
+moved-arrow : (lane y : ℕ) (holder : Option ℕ) → IsMarkup (moved_if holder lane y)
+moved-arrow lane y None = nothing
+moved-arrow lane y (Some holder) =
+    either (nat_lt holder most_lanes) _ _ (behind _ _ (arrow-to lane y (Some holder)) (shape-there (codes "fw") dot_shape (lane_x lane) y)) nothing
+
 at-side : (tasks : List Bytes) (lane y : ℕ) (t : Told) (k : Kind) → IsMarkup (beside tasks lane y t k)
 at-side tasks lane y t kind.Attached = at-place (codes "b m") (lane_x lane) 98 (label_text t.task)
 at-side tasks lane y t kind.Waiting = arrow-to lane y (lane_of tasks t.blocker)
 at-side tasks lane y t kind.Normal = nothing
 at-side tasks lane y t kind.Woken = nothing
+at-side tasks lane y t kind.Committed = nothing
+at-side tasks lane y t kind.BackedOut = nothing
 at-side tasks lane y t kind.Ended = nothing
 at-side tasks lane y t kind.Abended = nothing
 at-side tasks lane y t kind.Refused = nothing
@@ -70,8 +81,12 @@ at-side tasks lane y t kind.Condition = nothing
 at-side tasks lane y t kind.Clock = nothing
 at-side tasks lane y t kind.Down = nothing
 
+at-left : (y : ℕ) (k : Kind) (task : Option Bytes) → IsMarkup (side_mark y k task)
+at-left y k None = shape-there (class_of k) (shape_of k) 66 y
+at-left y k (Some label) = nothing
+
 in-lane : (tasks : List Bytes) (y : ℕ) (t : Told) (lane : Option ℕ) → IsMarkup (lane_marks tasks y t lane)
-in-lane tasks y t None = nothing
+in-lane tasks y t None = at-left y t.kind t.task
 in-lane tasks y t (Some lane) = behind _ _ (at-side tasks lane y t t.kind) (shape-there (class_of t.kind) (shape_of t.kind) (lane_x lane) y)
 
 all-marks : (tasks : List Bytes) (y : ℕ) (t : Told) (k : Kind) → IsMarkup (marks_of tasks y t k)
@@ -81,14 +96,12 @@ all-marks tasks y t kind.Attached = in-lane tasks y t (lane_of tasks t.task)
 all-marks tasks y t kind.Normal = in-lane tasks y t (lane_of tasks t.task)
 all-marks tasks y t kind.Waiting = in-lane tasks y t (lane_of tasks t.task)
 all-marks tasks y t kind.Woken = in-lane tasks y t (lane_of tasks t.task)
+all-marks tasks y t kind.Committed = in-lane tasks y t (lane_of tasks t.task)
+all-marks tasks y t kind.BackedOut = in-lane tasks y t (lane_of tasks t.task)
 all-marks tasks y t kind.Ended = in-lane tasks y t (lane_of tasks t.task)
 all-marks tasks y t kind.Abended = in-lane tasks y t (lane_of tasks t.task)
 all-marks tasks y t kind.Refused = in-lane tasks y t (lane_of tasks t.task)
 all-marks tasks y t kind.Condition = in-lane tasks y t (lane_of tasks t.task)
-
-either : (b : Bool) (x y : List ℕ) → IsMarkup x → IsMarkup y → IsMarkup (cond b x y)
-either true x y p q = p
-either false x y p q = q
 
 number-drawn : (y number : ℕ) → IsMarkup (row_number y number)
 number-drawn y number = either (number == 0) _ _ nothing (number-there (codes "d e") 52 y number)
@@ -123,10 +136,11 @@ dashed (Some changer) lane y = behind _ _ (link lane changer y) (shape-there (co
 turns-drawn : (standings : List Standing) (first lane : ℕ) (d : Drawn) → IsDrawn d → IsDrawn (turned_from first lane standings d)
 turns-drawn [] first lane d p = p
 turns-drawn (s ∷ standings) first lane d p =
-    turns-drawn standings first (lane + 1) (turned first lane s d) (
-      behind _ _ p.0 (behind _ _ (ring (is_caught (lane_at d.lanes lane) s) lane (row_y (d.rows - 1))) (behind _ _ (diamond s.stays lane (lane_at d.lanes lane).last) (dashed s.shows lane (lane_at d.lanes lane).last))),
-      p.1,
-    )
+    let l = lane_at d.lanes lane in
+    let y = row_y (d.rows - 1) in
+    let signs = behind _ _ (moved-arrow lane y (new_blocker l.standing.blocker s.blocker)) (ring (is_caught l s) lane y) in
+    turns-drawn standings first (lane + 1) (turned first lane s d)
+    (behind _ _ p.0 (behind _ _ signs (behind _ _ (diamond s.stays lane l.last) (dashed s.shows lane l.last))), p.1)
 
 end-drawn : (first : ℕ) (standings : List Standing) (d : Drawn) → IsDrawn d → IsDrawn (with_end first standings d)
 end-drawn first standings d p =
@@ -162,15 +176,19 @@ meaning x k text = behind _ _ (shape-there (class_of k) (shape_of k) x 52) (at-p
 
 answers : IsMarkup answers_legend
 unfolding answers_legend
-answers = behind _ _ (meaning 24 kind.Attached _) (behind _ _ (meaning 124 kind.Normal _) (behind _ _ (meaning 224 kind.Condition _) (meaning 384 kind.Refused _)))
+answers = behind _ _ (meaning 24 kind.Attached _) (behind _ _ (meaning 114 kind.Normal _) (behind _ _ (meaning 204 kind.Condition _) (meaning 354 kind.Refused _)))
 
 ways : IsMarkup ways_legend
 unfolding ways_legend
-ways = behind _ _ (meaning 484 kind.Waiting _) (behind _ _ (meaning 564 kind.Woken _) (behind _ _ (meaning 664 kind.Ended _) (meaning 754 kind.Abended _)))
+ways = behind _ _ (meaning 444 kind.Waiting _) (meaning 514 kind.Woken _)
+
+ends : IsMarkup ends_legend
+unfolding ends_legend
+ends = behind _ _ (meaning 604 kind.Committed _) (behind _ _ (meaning 704 kind.BackedOut _) (behind _ _ (meaning 804 kind.Ended _) (meaning 884 kind.Abended _)))
 
 region : IsMarkup region_legend
 unfolding region_legend
-region = behind _ _ (meaning 854 kind.Clock _) (meaning 934 kind.Down _)
+region = behind _ _ (meaning 974 kind.Clock _) (meaning 1054 kind.Down _)
 
 sign-meaning : (x : ℕ) (name path text : List ℕ) → IsMarkup (sign_item x name path text)
 unfolding sign_item
@@ -184,7 +202,7 @@ units =
 
 head-there : (title : List ℕ) → IsMarkup (heading title)
 unfolding heading
-head-there title = behind _ _ (at-place (codes "h1") 16 30 (cut 96 title)) (behind _ _ answers (behind _ _ ways (behind _ _ region units)))
+head-there title = behind _ _ (at-place (codes "h1") 16 30 (cut 96 title)) (behind _ _ answers (behind _ _ ways (behind _ _ ends (behind _ _ region units))))
 
 under : (d : Drawn) (title : List ℕ) → IsMarkup (ground d title)
 under d title =

@@ -12,9 +12,9 @@ use Rattle.cics_picture.specs.Lanes.{lane_x, row_y}
 use Rattle.cics_picture.specs.Elements.{field}
 use lib.Chars.{codes}
 
--- no unit and no deadlock
+-- no unit, no wait and no deadlock
 abbrev pub nobody : Standing
-nobody = record { unit = None; is_deadlocked = false; stays = false; shows = None }
+nobody = record { unit = None; is_deadlocked = false; blocker = None; stays = false; shows = None }
 
 -- a lane before the first event
 abbrev pub new_lane : Lane
@@ -74,6 +74,12 @@ is_bar_of lane unit b = (b.unit == unit) && (b.x == lane_x lane - 7)
 -- whether a task is in a deadlock, and was in none before
 abbrev pub is_caught : Lane → Standing → Bool
 is_caught l s = s.is_deadlocked && not l.standing.is_deadlocked
+
+-- the task that blocks a waiting one now, if another one did before
+abbrev pub new_blocker : Option ℕ → Option ℕ → Option ℕ
+new_blocker None now = None
+new_blocker (Some before) None = None
+new_blocker (Some before) (Some now) = if before == now then None else Some now
 
 -- the look of a unit's bar
 abbrev pub look_of : List Look → ℕ → Look

@@ -1,3 +1,4 @@
+pub mod Notes
 pub mod Titles
 pub mod Standings
 pub mod Recording

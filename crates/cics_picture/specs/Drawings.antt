@@ -1,5 +1,5 @@
 -- What the rows of a picture draw: one row for each event, in order.
-use Rattle.std.specs.Prelude.{ℕ, ◌==◌, nat_lt, ◌+◌, ◌-◌, ◌*◌, max, Bool, true, false, if◌then◌else◌, List, [], ◌∷◌, ◌++◌, length, slice_get, slice_set, Option, Some, None, unwrap_or}
+use Rattle.std.specs.Prelude.{ℕ, ◌==◌, nat_lt, ◌+◌, ◌-◌, ◌*◌, max, min, Bool, true, false, if◌then◌else◌, List, [], ◌∷◌, ◌++◌, length, slice_get, slice_set, Option, Some, None, unwrap_or}
 use Rattle.std.specs.List.{fold, flat_map}
 use Rattle.cics_names.specs.Keyed.{Bytes}
 use Rattle.cics_script.specs.Texts.{bare}
@@ -12,8 +12,8 @@ use Rattle.cics_picture.specs.declared.bars.Bar.{Bar}
 use Rattle.cics_picture.specs.declared.events.Told.{Told}
 use Rattle.cics_picture.specs.Events.{class_of}
 use Rattle.cics_picture.specs.Lanes.{most_lanes, lane_of, tasks_behind, row_lane, lane_x, row_y}
-use Rattle.cics_picture.specs.Elements.{words, number_words, shape, ring_shape, stays_shape, shows_shape, mark, stroke, arrow, link, cut}
-use Rattle.cics_picture.specs.Bars.{new_lanes, nobodies, lane_at, lanes_behind, gone, lane_behind, ended, is_caught}
+use Rattle.cics_picture.specs.Elements.{words, number_words, shape, dot_shape, ring_shape, stays_shape, shows_shape, mark, stroke, arrow, link, cut}
+use Rattle.cics_picture.specs.Bars.{new_lanes, nobodies, lane_at, lanes_behind, gone, lane_behind, ended, new_blocker, is_caught}
 use lib.Chars.{codes}
 
 -- What is drawn so far: the number of rows and the script's line of each, the tasks that have
@@ -52,16 +52,22 @@ beside tasks lane y told Attached = words (codes "b m") (lane_x lane) 98 (label_
 beside tasks lane y told Waiting = arrow_to lane (lane_of tasks told.blocker) y
 beside tasks lane y told kind = []
 
+-- an event of no task has its mark to the left of the lanes
+abbrev pub side_mark : ℕ → Kind → Option Bytes → List ℕ
+side_mark y kind None = mark kind 66 y
+side_mark y kind (Some label) = []
+
 -- the marks of an event, in the lane of its task
 abbrev pub lane_marks : List Bytes → ℕ → Told → Option ℕ → List ℕ
-lane_marks tasks y told None = []
+lane_marks tasks y told None = side_mark y told.kind told.task
 lane_marks tasks y told (Some lane) = beside tasks lane y told told.kind ++ mark told.kind (lane_x lane) y
 
 -- a line across the lanes
 abbrev pub across : List Bytes → ℕ → Kind → List ℕ
 across tasks y kind = stroke (class_of kind) 66 y (66 + 60 * length tasks) y
 
--- an event of the region has a line across the lanes, one of a task its marks if that has a lane
+-- A clock, a shutdown and a fault have a line across the lanes. An event of a task has its marks if
+-- that has a lane, and a refused clock or shutdown one beside the lanes.
 abbrev pub marks_of : List Bytes → ℕ → Told → Kind → List ℕ
 marks_of tasks y told Clock = across tasks y Clock
 marks_of tasks y told Down = across tasks y Down
@@ -85,9 +91,9 @@ waited lines lanes (Some lane) = unwrap_or (slice_get lines (lane_at lanes lane)
 abbrev pub line_text : ℕ → ℕ → List ℕ → List ℕ → List ℕ
 line_text y number line asked = if number == 0 then words (codes "d") 78 y (cut 90 asked) else words (codes "line") 78 y (cut 90 line)
 
--- what the row tells, beside it
+-- what the row tells, beside it, with its note
 abbrev pub told_text : ℕ → Told → List ℕ
-told_text y told = words (class_of told.kind) 744 y (cut 70 told.text)
+told_text y told = words (class_of told.kind) 744 y (cut (70 - min (length told.note) 36) told.text ++ told.note)
 
 -- A row: the number and the text of the line that it shows, or 0 and nothing, and what it tells.
 pub record Row : Type 0 where
@@ -138,6 +144,12 @@ rows_of p = rows_from p.number p.line p.told
 abbrev pub all_rows : List Printed → List Row
 all_rows lines = flat_map rows_of lines
 
+-- an arrow to a task that blocks that of a lane now, if it has a lane, and a dot where it begins
+abbrev pub moved_if : Option ℕ → ℕ → ℕ → List ℕ
+moved_if None lane y = []
+moved_if (Some holder) lane y =
+    if nat_lt holder most_lanes then arrow lane holder y ++ shape (codes "fw") dot_shape (lane_x lane) y else []
+
 -- a ring round the lane of a task that is caught in a deadlock
 abbrev pub ring_if : Bool → ℕ → ℕ → List ℕ
 ring_if caught lane y = if caught then shape (codes "dl") ring_shape (lane_x lane) y else []
@@ -155,19 +167,20 @@ abbrev pub shows_if : Option ℕ → ℕ → ℕ → List ℕ
 shows_if None lane y = []
 shows_if (Some changer) lane y = link_if lane changer y ++ shape (codes "un") shows_shape (lane_x lane) y
 
+-- The arrow of a lane to the task that blocks its own now, if another one did before, and the ring of
+-- a deadlock that caught its task. Both stand in the last row.
+abbrev pub turn_signs : Drawn → ℕ → Lane → Standing → List ℕ
+turn_signs d lane l s =
+    moved_if (new_blocker l.standing.blocker s.blocker) lane (row_y (d.rows - 1)) ++ ring_if (is_caught l s) lane (row_y (d.rows - 1))
+
 -- A lane turns to how its task stands after a line whose first row has this height. If the task's
--- unit has ended, its bar ends. Diamond and dashed ring stand in the row of the lane's last event,
--- the ring of a deadlock in the line's last row.
+-- unit has ended, its bar ends. Diamond and dashed ring stand in the row of the lane's last event.
 abbrev pub turned : ℕ → ℕ → Standing → Drawn → Drawn
 turned first lane s d =
     let l = lane_at d.lanes lane in
     let y = max l.last first in
-    record {
-      rows = d.rows;
-      lines = d.lines;
-      tasks = d.tasks;
-      marks = d.marks ++ (ring_if (is_caught l s) lane (row_y (d.rows - 1)) ++ (stays_if s.stays lane l.last ++ shows_if s.shows lane l.last));
-      texts = d.texts;
+    record d {
+      marks = d.marks ++ (turn_signs d lane l s ++ (stays_if s.stays lane l.last ++ shows_if s.shows lane l.last));
       lanes = slice_set d.lanes lane (lane_behind l y s);
       bars = d.bars ++ ended lane l.top y (gone l.standing.unit s.unit);
     }
@@ -188,7 +201,7 @@ word_if caught y = if caught then words (codes "ma e") 1264 y (codes "deadlock")
 
 -- what is drawn with this text behind the texts
 abbrev pub with_text : Drawn → List ℕ → Drawn
-with_text d text = record { rows = d.rows; lines = d.lines; tasks = d.tasks; marks = d.marks; texts = d.texts ++ text; lanes = d.lanes; bars = d.bars }
+with_text d text = record d { texts = d.texts ++ text }
 
 -- a line ends whose first row has this height
 abbrev pub with_end : ℕ → List Standing → Drawn → Drawn

@@ -86,6 +86,10 @@ arrow from to y = stroke (codes "aw") (lane_x from) y (tip from to) y ++ shape (
 abbrev pub link : ℕ → ℕ → ℕ → List ℕ
 link from to y = stroke (codes "un") (tip to from) y (tip from to) y
 
+-- the dot where an arrow begins
+abbrev pub dot_shape : List ℕ
+dot_shape = codes "M-3 0a3 3 0 1 0 6 0a3 3 0 1 0 -6 0z"
+
 -- the dashed ring round a read that shows what isn't committed
 abbrev pub shows_shape : List ℕ
 shows_shape = codes "M-9 0a9 9 0 1 0 18 0a9 9 0 1 0 -18 0z"

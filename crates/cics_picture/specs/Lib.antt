@@ -5,5 +5,7 @@ pub mod Bars
 pub mod Drawings
 pub mod Sheets
 pub mod Arrows
+pub mod Spans
 pub mod Xml
 pub mod Draw
+pub mod Page

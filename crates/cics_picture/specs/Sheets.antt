@@ -47,21 +47,25 @@ legend_item x kind text = mark kind x 52 ++ words (codes "d s") (x + 14) 56 text
 unfoldable pub answers_legend : List ℕ
 answers_legend =
     legend_item 24 kind.Attached (codes "attached")
-    ++ (legend_item 124 kind.Normal (codes "answered")
-    ++ (legend_item 224 kind.Condition (codes "another condition")
-    ++ legend_item 384 kind.Refused (codes "refused")))
+    ++ (legend_item 114 kind.Normal (codes "answered")
+    ++ (legend_item 204 kind.Condition (codes "another condition")
+    ++ legend_item 354 kind.Refused (codes "refused")))
 
--- what the other marks mean
+-- what the marks of waits mean
 unfoldable pub ways_legend : List ℕ
-ways_legend =
-    legend_item 484 kind.Waiting (codes "waits")
-    ++ (legend_item 564 kind.Woken (codes "goes on")
-    ++ (legend_item 664 kind.Ended (codes "ended")
-    ++ legend_item 754 kind.Abended (codes "abended")))
+ways_legend = legend_item 444 kind.Waiting (codes "waits") ++ legend_item 514 kind.Woken (codes "goes on")
+
+-- what the marks of ends mean
+unfoldable pub ends_legend : List ℕ
+ends_legend =
+    legend_item 604 kind.Committed (codes "syncpoint")
+    ++ (legend_item 704 kind.BackedOut (codes "rollback")
+    ++ (legend_item 804 kind.Ended (codes "ended")
+    ++ legend_item 884 kind.Abended (codes "abended")))
 
 -- what the lines across the lanes mean
 unfoldable pub region_legend : List ℕ
-region_legend = legend_item 854 kind.Clock (codes "clock") ++ legend_item 934 kind.Down (codes "shutdown or fault")
+region_legend = legend_item 974 kind.Clock (codes "clock") ++ legend_item 1054 kind.Down (codes "shutdown or fault")
 
 -- what a bar, a ring or a diamond means, of a class and a path
 unfoldable pub sign_item : ℕ → List ℕ → List ℕ → List ℕ → List ℕ
@@ -79,7 +83,7 @@ units_legend =
 
 -- the title, and the legend below it
 unfoldable pub heading : List ℕ → List ℕ
-heading title = words (codes "h1") 16 30 (cut 96 title) ++ (answers_legend ++ (ways_legend ++ (region_legend ++ units_legend)))
+heading title = words (codes "h1") 16 30 (cut 96 title) ++ (answers_legend ++ (ways_legend ++ (ends_legend ++ (region_legend ++ units_legend))))
 
 -- what stands under the rows: title, style, paper, shades, heading, and the lines of the lanes
 abbrev pub ground : Drawn → List ℕ → List ℕ

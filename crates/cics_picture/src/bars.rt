@@ -6,14 +6,14 @@ ghost use Rattle.std.specs.List.{flat_map};
 ghost use Rattle.cics_picture.specs.Lanes.{most_lanes, row_y};
 ghost use Rattle.cics_picture.specs.Bars.{new_lanes, nobodies, lane_at, lanes_behind, has_same};
 ghost use Rattle.cics_picture.specs.Bars.{noted, gone, lane_behind, ended, is_caught, look_of};
-ghost use Rattle.cics_picture.specs.Bars.{look_class, bar_text};
-ghost use Rattle.cics_picture.specs.Drawings.{drawn_of, ring_if, stays_if, link_if, shows_if};
+ghost use Rattle.cics_picture.specs.Bars.{new_blocker, look_class, bar_text};
+ghost use Rattle.cics_picture.specs.Drawings.{drawn_of, moved_if, ring_if, stays_if, link_if, shows_if};
 ghost use Rattle.cics_picture.specs.Drawings.{turned, turned_from};
 ghost use Rattle.cics_picture.specs.Drawings.{any_caught};
 ghost use Rattle.cics_picture.specs.Drawings.{word_if, with_end, finished};
 
 use crate::drawing::Drawing;
-use crate::elements::{push_field, push_link, push_shape, push_words};
+use crate::elements::{push_arrow, push_field, push_link, push_shape, push_words};
 use crate::events::Kind;
 use crate::lanes::{MOST_LANES, lane_x, row_y};
 use cics_names::{Items, NoMemory};
@@ -25,6 +25,8 @@ pub struct Standing {
     pub unit: Option<u64>,
     /// Whether it is in a deadlock.
     pub is_deadlocked: bool,
+    /// The number of the task that blocks it, if it waits: that is its lane, if it has one.
+    pub blocker: Option<usize>,
     /// Whether its unit changed an unrecoverable file or queue in the line: no backout undoes that.
     pub stays: bool,
     /// If it read what another task's unit has changed and not committed: the lane of that task, or
@@ -60,10 +62,11 @@ pub enum Look {
     Hollow,
 }
 
-/// No unit and no deadlock.
+/// No unit, no wait and no deadlock.
 pub const NOBODY: Standing = Standing {
     unit: None,
     is_deadlocked: false,
+    blocker: None,
     stays: false,
     shows: None,
 };
@@ -171,10 +174,44 @@ fn push_ended(
 }
 
 // Returns whether a task is in a deadlock, and was in none before.
-fn is_caught(before: Lane, standing: Standing) -> bool
-    ensures { result ≡ is_caught before standing }
+fn is_caught(before: &Lane, standing: &Standing) -> bool
+    ensures { result ≡ is_caught before.now standing.now }
 {
     standing.is_deadlocked && !before.standing.is_deadlocked
+}
+
+// Returns the task that blocks a waiting one now, if another one did before.
+fn new_blocker(before: &Lane, standing: &Standing) -> Option<usize>
+    ensures { result ≡ new_blocker before.now.standing.blocker standing.now.blocker }
+{
+    let former = before.standing.blocker?;
+    let blocker = standing.blocker?;
+    if former == blocker {
+        None
+    } else {
+        Some(blocker)
+    }
+}
+
+// Puts an arrow to a task that blocks a lane's now, if that has a lane, and a dot where it begins.
+fn push_moved_if(
+    out: &mut Vec<u8>,
+    blocker: Option<usize>,
+    lane: usize,
+    y: u64,
+) -> Result<(), NoMemory>
+    requires { lane < most_lanes }
+    ensures { OnOk result (out.new.items ≡ out.old.items ++ moved_if blocker lane y) }
+{
+    let Some(holder) = blocker else {
+        return Ok(());
+    };
+    if holder >= MOST_LANES {
+        return Ok(());
+    }
+    push_arrow(out, lane, holder, y)?;
+    let dot = "M-3 0a3 3 0 1 0 6 0a3 3 0 1 0 -6 0z";
+    push_shape(out, "fw".as_bytes(), dot.as_bytes(), (lane_x(lane), y))
 }
 
 // Puts a ring round the lane of a task that is caught in a deadlock.
@@ -239,7 +276,7 @@ fn any_caught(lanes: &[Lane], standings: &[Standing]) -> bool
     ensures { result ≡ any_caught lanes.now 0 standings.now }
 {
     for (lane, standing) in standings.iter().enumerate() {
-        if is_caught(lane_at(lanes, lane), *standing) {
+        if is_caught(&lane_at(lanes, lane), standing) {
             return true;
         }
     }
@@ -289,11 +326,14 @@ impl Drawing {
             ≡ turned first lane standing (drawn_of self.old)) }
     {
         let before = lane_at(&self.lanes, lane);
+        let blocker = new_blocker(&before, &standing);
+        let caught = is_caught(&before, &standing);
         let y = before.last.max(first);
         let last_y = self.last_y();
         let unit = gone(before.standing.unit, standing.unit);
         push_ended(&mut self.bars, lane, (before.top, y), unit)?;
-        push_ring_if(&mut self.marks, is_caught(before, standing), lane, last_y)?;
+        push_moved_if(&mut self.marks, blocker, lane, last_y)?;
+        push_ring_if(&mut self.marks, caught, lane, last_y)?;
         push_stays_if(&mut self.marks, standing.stays, lane, before.last)?;
         push_shows_if(&mut self.marks, standing.shows, lane, before.last)?;
         self.lanes[lane] = lane_behind(before, y, standing);

@@ -5,13 +5,19 @@
 //! rows show what the run prints, in order.
 
 mod drawing;
+mod notes;
 mod picture;
 mod reads;
 mod recording;
 mod standings;
 mod titles;
 
+pub(crate) use drawing::run_line;
 pub use drawing::{bars_tell_outcomes, draw_script, rows_are_the_journal, waits_name_blockers};
+pub(crate) use picture::run_status;
 pub use picture::{NoPicture, run_picture};
+pub(crate) use recording::{fault_text, kind_of, text_of};
 pub use recording::{Given, Recorder};
 pub use standings::deadlocks_are_marked;
+pub(crate) use standings::outcomes_at;
+pub(crate) use titles::title_of;

@@ -5,13 +5,16 @@ ghost use Rattle.cics_picture.specs.Events.{class_of, shape_of};
 
 use cics_names::{Name8, Record};
 
-/// What a task was told, or what the region did: `Down` is a shutdown or a line's fault.
+/// What a task was told, or what the region did. `Committed` and `BackedOut` are the answers of
+/// SYNCPOINT and ROLLBACK, `Down` is a shutdown or a line's fault.
 #[derive(Clone, Copy, PartialEq, Eq)]
 pub enum Kind {
     Attached,
     Normal,
     Waiting,
     Woken,
+    Committed,
+    BackedOut,
     Ended,
     Abended,
     Refused,
@@ -31,6 +34,8 @@ pub struct Told {
     pub blocker: Option<Name8>,
     /// The line of the journal, without its LF.
     pub text: Record,
+    /// What stands behind it.
+    pub note: Record,
 }
 
 impl Kind {
@@ -43,6 +48,8 @@ impl Kind {
             Kind::Normal => "mk",
             Kind::Waiting => "mw",
             Kind::Woken => "mg",
+            Kind::Committed => "mf",
+            Kind::BackedOut => "mc",
             Kind::Ended => "mf",
             Kind::Abended => "ma",
             Kind::Refused => "mc",
@@ -61,6 +68,8 @@ impl Kind {
             Kind::Normal => "M-5 0a5 5 0 1 0 10 0a5 5 0 1 0 -10 0z",
             Kind::Waiting => "M-5 -6h10l-10 12h10z",
             Kind::Woken => "M-4 -6l10 6l-10 6z",
+            Kind::Committed => "M-8 0a8 8 0 1 0 16 0a8 8 0 1 0 -16 0zM-4 0l3 3l5 -6",
+            Kind::BackedOut => "M-8 0a8 8 0 1 0 16 0a8 8 0 1 0 -16 0zM4 4v-4h-8l3 -3m-3 3l3 3",
             Kind::Ended => "M-9 0h18",
             Kind::Abended => "M-8 0a8 8 0 1 0 16 0a8 8 0 1 0 -16 0zM-3 -3l6 6m0 -6l-6 6",
             Kind::Refused => "M-5 0a5 5 0 1 0 10 0a5 5 0 1 0 -10 0zM-3 3l6 -6",

@@ -2,8 +2,10 @@
 //!
 //! [`Drawing::push_line`] draws a row for each event of a line of a script, and for its fault. Then
 //! it draws how the tasks stand after it. [`push_sheet`] puts the whole picture at the end of a
-//! text, as SVG. Three laws say that each picture is well formed ([`sheets_are_documents`]), that
-//! each wait has its arrow ([`waits_have_arrows`]), and each unit its bar ([`units_have_bars`]).
+//! text, as SVG. Laws say that each picture is well formed ([`sheets_are_documents`]), that each
+//! wait has its arrow ([`waits_have_arrows`]), and each unit its bar ([`units_have_bars`]). They say
+//! where bars begin and end ([`bars_span_units`]), and where further arrows and rings stand
+//! ([`turns_have_signs`]).
 #![tactic(auto)]
 
 mod bars;
@@ -12,6 +14,7 @@ mod drawing;
 mod elements;
 mod events;
 mod lanes;
+pub mod page;
 mod rows;
 mod sheet;
 mod style;
@@ -21,4 +24,7 @@ pub use bars::{Look, NOBODY, Standing};
 pub use drawing::{Drawing, LIMIT, Undrawn};
 pub use events::{Kind, Told};
 pub use lanes::MOST_LANES;
-pub use sheet::{push_sheet, sheets_are_documents, units_have_bars, waits_have_arrows};
+pub use sheet::{
+    bars_span_units, push_sheet, sheets_are_documents, turns_have_signs, units_have_bars,
+    waits_have_arrows,
+};

@@ -5,7 +5,7 @@ ghost use Rattle.std.specs.Prelude.{IfErr, codes};
 ghost use Rattle.std.specs.List.{fold};
 ghost use Rattle.cics_picture.specs.Lanes.{most_lanes, most_rows, lane_of, lane_x};
 ghost use Rattle.cics_picture.specs.Drawings.{drawn_of, nothing_drawn, arrow_to, beside};
-ghost use Rattle.cics_picture.specs.Drawings.{label_text, lane_marks, waited, line_text};
+ghost use Rattle.cics_picture.specs.Drawings.{label_text, side_mark, lane_marks, waited, line_text};
 ghost use Rattle.cics_picture.specs.Elements.{stroke, words};
 ghost use Rattle.cics_picture.specs.Events.{class_of};
 ghost use Rattle.cics_picture.specs.Drawings.{row_marks, row_number, told_text, with_row};
@@ -86,7 +86,18 @@ fn push_across(out: &mut Vec<u8>, lanes: usize, y: u64, kind: Kind) -> Result<()
     )
 }
 
-// Puts the marks of a task's event in its lane, if it has one.
+// Puts the mark of an event of no task to the left of the lanes.
+fn push_side_mark(out: &mut Vec<u8>, y: u64, told: &Told) -> Result<(), NoMemory>
+    ensures { OnOk result (out.new.items ≡ out.old.items
+        ++ side_mark y told.now.kind told.now.task) }
+{
+    match told.task {
+        Some(_) => Ok(()),
+        None => push_mark(out, told.kind, 66, y),
+    }
+}
+
+// Puts the marks of an event in the lane of its task, if it has one.
 fn push_lane_marks(out: &mut Vec<u8>, tasks: &[Name8], y: u64, told: &Told) -> Result<(), NoMemory>
     requires { length tasks.now ≤ most_lanes }
     ensures { OnOk result (out.new.items ≡ out.old.items
@@ -97,7 +108,7 @@ fn push_lane_marks(out: &mut Vec<u8>, tasks: &[Name8], y: u64, told: &Told) -> R
             push_beside(out, tasks, (lane, y), told)?;
             push_mark(out, told.kind, lane_x(lane), y)
         }
-        None => Ok(()),
+        None => push_side_mark(out, y, told),
     }
 }
 
@@ -159,8 +170,13 @@ fn push_line_text(
 fn push_told_text(out: &mut Vec<u8>, y: u64, told: &Told) -> Result<(), NoMemory>
     ensures { OnOk result (out.new.items ≡ out.old.items ++ told_text y told.now) }
 {
-    let text = cut(told.text.bytes(), 70);
-    push_cut_words(out, told.kind.class().as_bytes(), (744, y), text)
+    let note = told.note.bytes();
+    let (front, dots) = cut(told.text.bytes(), 70 - note.len().min(36));
+    let mut text = Vec::new(*out.allocator());
+    text.extend_from_slice(front)?;
+    text.extend_from_slice(dots)?;
+    text.extend_from_slice(note)?;
+    push_words(out, told.kind.class().as_bytes(), (744, y), &text)
 }
 
 impl Drawing {

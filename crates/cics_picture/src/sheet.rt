@@ -1,19 +1,20 @@
 //! The whole picture of what was drawn.
 
-ghost use Rattle.std.specs.Prelude.{◌≡◌, ◌++◌, ◌∷◌, ◌<◌, ◌≤◌, List, ℕ, true, Some, slice_get};
-ghost use Rattle.std.specs.Prelude.{OnOk};
+ghost use Rattle.std.specs.Prelude.{◌≡◌, ◌++◌, ◌∷◌, ◌<◌, ◌≤◌, [], List, ℕ, true, Some, slice_get};
+ghost use Rattle.std.specs.Prelude.{Contains, OnOk};
 ghost use Rattle.cics_picture.specs.declared.bars.Look.{Look};
 ghost use Rattle.cics_picture.specs.Xml.Documents.{Document};
 ghost use Rattle.cics_picture.specs.Xml.Reading.{document_of};
 ghost use Rattle.cics_picture.specs.Lanes.{most_lanes};
-ghost use Rattle.cics_picture.specs.Drawings.{drawn_of, Printed, Row, drawn, finished};
+ghost use Rattle.cics_picture.specs.Drawings.{drawn_of, Printed, Row, drawn, finished, turn_signs};
+ghost use Rattle.cics_picture.specs.Spans.{Lives, bar_from_to, acts_at, rows_behind, HasPart};
 ghost use Rattle.cics_picture.specs.Arrows.{TellsWait, DrawsArrow};
 ghost use Rattle.cics_picture.specs.Sheets.{style_text, bands, lane_lines, headings, ground};
 ghost use Rattle.cics_picture.specs.Sheets.{heading};
-ghost use Rattle.cics_picture.specs.Sheets.{legend_item, answers_legend, ways_legend};
+ghost use Rattle.cics_picture.specs.Sheets.{legend_item, answers_legend, ways_legend, ends_legend};
 ghost use Rattle.cics_picture.specs.Sheets.{region_legend, sign_item, units_legend};
 ghost use Rattle.cics_picture.specs.Sheets.{width_of, height_of, moved_texts, whole_sheet, sheet};
-ghost use Rattle.cics_picture.specs.Bars.{is_bar_of};
+ghost use Rattle.cics_picture.specs.Bars.{is_bar_of, lane_at};
 ghost use Rattle.cics_picture.specs.declared.bars.Standing.{Standing};
 ghost use Rattle.std.specs.List.{list_any};
 
@@ -46,6 +47,24 @@ pub fn units_have_bars()
     ensures { (before after : List Printed) (p : Printed) (lane unit : ℕ) (s : Standing)
         → lane < most_lanes → slice_get p.standings lane ≡ Some s → s.unit ≡ Some unit
         → list_any (is_bar_of lane unit) (finished (drawn (before ++ p ∷ after))).bars ≡ true }
+{}
+
+/// The bar of a unit of work goes from a little above the row at which its task acts in the line
+/// that begins the unit, to the row at which it acts in the line that ends it.
+pub fn bars_span_units()
+    ensures { (before during : List Printed) (p q : Printed) (lane unit : ℕ)
+        → Lives before p during q lane unit
+        → Contains (drawn ((before ++ p ∷ during) ++ q ∷ [])).bars
+        (bar_from_to lane unit (acts_at before p lane) (acts_at (before ++ p ∷ during) q lane)) }
+{}
+
+/// If another task blocks the one of a lane after a line than before it, an arrow leads from this
+/// lane to that task's. If the line brought its task into a deadlock, a ring stands round it.
+pub fn turns_have_signs()
+    ensures { (before : List Printed) (p : Printed) (lane : ℕ) (s : Standing)
+        → lane < most_lanes → slice_get p.standings lane ≡ Some s
+        → HasPart (drawn (before ++ p ∷ [])).marks
+        (turn_signs (rows_behind before p) lane (lane_at (drawn before).lanes lane) s) }
 {}
 
 fn push_style(out: &mut Vec<u8>) -> Result<(), NoMemory>
@@ -95,7 +114,7 @@ fn push_headings(out: &mut Vec<u8>) -> Result<(), NoMemory>
 // Puts what a mark means.
 #[tactic(auto, unfolding(crate::specs::Sheets::legend_item))]
 fn push_legend_item(out: &mut Vec<u8>, x: u64, kind: Kind, text: &str) -> Result<(), NoMemory>
-    requires { x < 1000 }
+    requires { x < 1100 }
     ensures { OnOk result (out.new.items ≡ out.old.items ++ legend_item x kind text.now) }
 {
     push_mark(out, kind, x, 52)?;
@@ -108,20 +127,29 @@ fn push_answers_legend(out: &mut Vec<u8>) -> Result<(), NoMemory>
     ensures { OnOk result (out.new.items ≡ out.old.items ++ answers_legend) }
 {
     push_legend_item(out, 24, Kind::Attached, "attached")?;
-    push_legend_item(out, 124, Kind::Normal, "answered")?;
-    push_legend_item(out, 224, Kind::Condition, "another condition")?;
-    push_legend_item(out, 384, Kind::Refused, "refused")
+    push_legend_item(out, 114, Kind::Normal, "answered")?;
+    push_legend_item(out, 204, Kind::Condition, "another condition")?;
+    push_legend_item(out, 354, Kind::Refused, "refused")
 }
 
-// Puts what the other marks mean.
+// Puts what the marks of waits mean.
 #[tactic(auto, unfolding(crate::specs::Sheets::ways_legend))]
 fn push_ways_legend(out: &mut Vec<u8>) -> Result<(), NoMemory>
     ensures { OnOk result (out.new.items ≡ out.old.items ++ ways_legend) }
 {
-    push_legend_item(out, 484, Kind::Waiting, "waits")?;
-    push_legend_item(out, 564, Kind::Woken, "goes on")?;
-    push_legend_item(out, 664, Kind::Ended, "ended")?;
-    push_legend_item(out, 754, Kind::Abended, "abended")
+    push_legend_item(out, 444, Kind::Waiting, "waits")?;
+    push_legend_item(out, 514, Kind::Woken, "goes on")
+}
+
+// Puts what the marks of ends mean.
+#[tactic(auto, unfolding(crate::specs::Sheets::ends_legend))]
+fn push_ends_legend(out: &mut Vec<u8>) -> Result<(), NoMemory>
+    ensures { OnOk result (out.new.items ≡ out.old.items ++ ends_legend) }
+{
+    push_legend_item(out, 604, Kind::Committed, "syncpoint")?;
+    push_legend_item(out, 704, Kind::BackedOut, "rollback")?;
+    push_legend_item(out, 804, Kind::Ended, "ended")?;
+    push_legend_item(out, 884, Kind::Abended, "abended")
 }
 
 // Puts what the lines across the lanes mean.
@@ -129,8 +157,8 @@ fn push_ways_legend(out: &mut Vec<u8>) -> Result<(), NoMemory>
 fn push_region_legend(out: &mut Vec<u8>) -> Result<(), NoMemory>
     ensures { OnOk result (out.new.items ≡ out.old.items ++ region_legend) }
 {
-    push_legend_item(out, 854, Kind::Clock, "clock")?;
-    push_legend_item(out, 934, Kind::Down, "shutdown or fault")
+    push_legend_item(out, 974, Kind::Clock, "clock")?;
+    push_legend_item(out, 1054, Kind::Down, "shutdown or fault")
 }
 
 // Puts what a bar, a ring or a diamond means, of a class and a path.
@@ -169,6 +197,7 @@ fn push_heading(out: &mut Vec<u8>, title: &[u8]) -> Result<(), NoMemory>
     push_cut_words(out, "h1".as_bytes(), (16, 30), cut(title, 96))?;
     push_answers_legend(out)?;
     push_ways_legend(out)?;
+    push_ends_legend(out)?;
     push_region_legend(out)?;
     push_units_legend(out)
 }

@@ -9,6 +9,6 @@ mod writing;
 
 pub use names::{Key, Tag};
 pub use writing::{
-    documents_read_back, push_attribute, push_end, push_inside, push_move, push_number,
-    push_number_attribute, push_start, push_text,
+    documents_read_back, push_attribute, push_digits, push_end, push_inside, push_move,
+    push_number, push_number_attribute, push_start, push_text,
 };

@@ -35,13 +35,14 @@ use Rattle.cics_dispatch.proofs.OfMachine.TaskPlaces.{place_of_task}
 use Rattle.cics_dispatch.proofs.OfMachine.Remembered.{not_refused}
 use Rattle.cics_run.specs.Stage.Stages.{step, followed, region_of}
 use Rattle.cics_run.specs.declared.stage.stage.Stage.{Stage}
+use Rattle.cics_picture.specs.declared.events.Kind.{Kind}
 use Rattle.cics_picture.specs.declared.events.Told.{Told}
 use Rattle.cics_picture.specs.Drawings.{Row, row, rows_from, rows_of}
 use Rattle.cics_picture.proofs.Waits.{wait-drawn}
 use Rattle.cics_picture.specs.Draw.Recording.{told_of, recorded}
 use Rattle.cics_picture.specs.Draw.Pictures.{printed}
 use Rattle.cics_picture.specs.Draw.Blocking.{commanded, HasToWait, ShowsBlocker}
-use Rattle.cics_picture.proofs.OfDraw.Recording.{events_told, faults_told, line-kept}
+use Rattle.cics_picture.proofs.OfDraw.Recording.{events_told, normal_of, faults_told, line-kept}
 
 -- ---- The task that is told is the one that blocks
 
@@ -174,18 +175,21 @@ module _ (rows : List Row) (number : ℕ) (stage : Stage) (line : List ℕ) (w :
   no-fault : (step stage line).fault ≡ None
   no-fault = ap (λ r. (followed stage r).fault) w.read
 
-  abbrev more : List Told
-  more = events_told (drained behind).turns ++ []
+  abbrev normal : Kind
+  normal = normal_of (step stage line).asked
 
-  told : (recorded number (step stage line)).told ≡ told_of wait.event ∷ more
+  abbrev more : List Told
+  more = events_told normal (drained behind).turns ++ []
+
+  told : (recorded number (step stage line)).told ≡ told_of normal wait.event ∷ more
   told =
       line-kept number (step stage line)
-      ∙ ap (λ all. events_told all ++ faults_told number (step stage line).fault) events
-      ∙ ap (λ fault. events_told (wait ∷ (drained behind).turns) ++ faults_told number fault) no-fault
+      ∙ ap (λ all. events_told normal all ++ faults_told number (step stage line).fault) events
+      ∙ ap (λ fault. events_told normal (wait ∷ (drained behind).turns) ++ faults_told number fault) no-fault
 
   pub blocker-shown : ShowsBlocker rows (rows_of (printed number stage line)) behind w.label
   blocker-shown =
-      let r = row number line (told_of wait.event) in record {
+      let r = row number line (told_of normal wait.event) in record {
         first = r;
         rest = rows_from 0 [] more;
         blocker = w.holder;

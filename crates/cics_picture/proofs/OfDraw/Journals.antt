@@ -9,12 +9,13 @@ use Rattle.cics_run.specs.Stage.Stages.{step, Step}
 use Rattle.cics_run.specs.declared.stage.stage.Fault.{Fault}
 use Rattle.cics_run.specs.Session.Running.{Played, has_fault, next}
 use Rattle.cics_run.proofs.OfSession.Playing.{next-going, fault-fold}
+use Rattle.cics_picture.specs.declared.events.Kind.{Kind}
 use Rattle.cics_picture.specs.declared.events.Told.{Told}
 use Rattle.cics_picture.specs.Drawings.{rows_from, rows_of, all_rows, events_of}
 use Rattle.cics_picture.specs.Draw.Recording.{recorded}
 use Rattle.cics_picture.specs.Draw.Pictures.{printed, printed_from}
 use Rattle.cics_picture.proofs.OfDraw.Playing.{printed-first, printed-none}
-use Rattle.cics_picture.proofs.OfDraw.Recording.{events_told, faults_told, line-kept}
+use Rattle.cics_picture.proofs.OfDraw.Recording.{events_told, normal_of, faults_told, line-kept}
 
 -- the lines of what rows tell
 abbrev lines_of : List Told → List ℕ
@@ -24,9 +25,9 @@ rows-shown : (told : List Told) (number : ℕ) (line : List ℕ) → events_of (
 rows-shown [] number line = refl
 rows-shown (t ∷ told) number line = ap (λ more. line_of t.text ++ more) (rows-shown told 0 [])
 
-events-shown : (events : List Happened) → lines_of (events_told events) ≡ flat_map (λ h. event_line h.event) events
-events-shown [] = refl
-events-shown (h ∷ events) = ap (λ more. event_line h.event ++ more) (events-shown events)
+events-shown : (answered : Kind) (events : List Happened) → lines_of (events_told answered events) ≡ flat_map (λ h. event_line h.event) events
+events-shown answered [] = refl
+events-shown answered (h ∷ events) = ap (λ more. event_line h.event ++ more) (events-shown answered events)
 
 fault-shown : (number : ℕ) (fault : Option Fault) → lines_of (faults_told number fault) ≡ fault_lines number fault
 fault-shown number None = refl
@@ -37,8 +38,8 @@ line-shown : (number : ℕ) (line : List ℕ) (s : Step) → events_of (rows_fro
 line-shown number line s =
     rows-shown (recorded number s).told number line
     ∙ ap lines_of (line-kept number s)
-    ∙ flat_map-append (λ t. line_of t.text) (events_told s.events) (faults_told number s.fault)
-    ∙ ap (λ text. text ++ lines_of (faults_told number s.fault)) (events-shown s.events)
+    ∙ flat_map-append (λ t. line_of t.text) (events_told (normal_of s.asked) s.events) (faults_told number s.fault)
+    ∙ ap (λ text. text ++ lines_of (faults_told number s.fault)) (events-shown (normal_of s.asked) s.events)
     ∙ ap (λ text. flat_map (λ h. event_line h.event) s.events ++ text) (fault-shown number s.fault)
 
 -- the events of all rows are the journal

@@ -2,6 +2,8 @@
 use Rattle.std.specs.Prelude.{ℕ, Bool, true, false, if◌then◌else◌, Option, Some, None, List, [], ◌∷◌, ◌++◌, codes}
 use Rattle.std.specs.Fmt.{decimal}
 use Rattle.cics_names.specs.Keyed.{Bytes}
+use Rattle.cics_names.specs.declared.commands.Verb.{Verb}
+use Rattle.cics_names.specs.declared.commands.Verb.TheVariants.{Syncpoint, Rollback}
 use Rattle.cics_names.specs.declared.conditions.Condition.{Condition}
 use Rattle.cics_names.specs.declared.conditions.Condition.TheVariants.{Normal, Lengerr}
 use Rattle.cics_history.specs.Store.{is_normal}
@@ -9,6 +11,8 @@ use Rattle.cics_dispatch.specs.declared.machine.outcomes.Outcome.{Outcome}
 use Rattle.cics_dispatch.specs.declared.machine.outcomes.Outcome.TheVariants.{Replied, Waiting, Abended, Ended}
 use Rattle.cics_dispatch.specs.declared.machine.events.Subject.{Subject}
 use Rattle.cics_dispatch.specs.declared.machine.events.Subject.TheVariants as subject
+use Rattle.cics_dispatch.specs.declared.machine.events.Request.{Request}
+use Rattle.cics_dispatch.specs.declared.machine.events.Request.TheVariants.{Issue}
 use Rattle.cics_dispatch.specs.declared.machine.events.Event.{Event}
 use Rattle.cics_dispatch.specs.declared.machine.events.Event.TheVariants as event
 use Rattle.cics_run.specs.Stage.Journal.{event_text, fault_text}
@@ -18,6 +22,7 @@ use Rattle.cics_run.specs.declared.stage.stage.Fault.{Fault}
 use Rattle.cics_picture.specs.declared.events.Kind.{Kind}
 use Rattle.cics_picture.specs.declared.events.Kind.TheVariants as kind
 use Rattle.cics_picture.specs.declared.events.Told.{Told}
+use Rattle.cics_picture.specs.Draw.Notes.{note_of}
 use Rattle.cics_picture.specs.declared.draw.recording.Given.{Given}
 use Rattle.cics_picture.specs.declared.draw.recording.Recorder.{Recorder}
 
@@ -43,6 +48,22 @@ kind_of (event.ClockSet now) = kind.Clock
 kind_of (event.ShutDown units) = kind.Down
 kind_of (event.Refused who refusal) = kind.Refused
 
+-- the kind of a command's answer NORMAL: SYNCPOINT and ROLLBACK have kinds of their own
+abbrev pub verb_kind : Verb → Kind
+verb_kind Syncpoint = kind.Committed
+verb_kind Rollback = kind.BackedOut
+verb_kind verb = kind.Normal
+
+-- the kind of the answer NORMAL to a request
+abbrev pub answered_as : Request → Kind
+answered_as (Issue label c) = verb_kind c.verb
+answered_as request = kind.Normal
+
+-- the kind of a row, by that of the answer NORMAL and that of its event
+abbrev pub marked_kind : Kind → Kind → Kind
+marked_kind answered kind.Normal = answered
+marked_kind answered other = other
+
 -- the task for which a request was refused, if it was for one
 abbrev pub refused_task : Subject → Option Bytes
 refused_task (subject.Task label) = Some label
@@ -64,13 +85,17 @@ abbrev pub blocker_in : Event → Option Bytes
 blocker_in (event.Issued label (Waiting holder) reason) = Some holder
 blocker_in other = None
 
--- what the row of an event tells
-abbrev pub told_of : Event → Told
-told_of e = record { kind = kind_of e; task = task_of e; blocker = blocker_in e; text = event_text e }
+-- what the row of an event tells, by the kind of the answer NORMAL
+abbrev pub told_of : Kind → Event → Told
+told_of answered e = record { kind = marked_kind answered (kind_of e); task = task_of e; blocker = blocker_in e; text = event_text e; note = note_of e }
 
--- what the row of a fault tells, of the script's line with this number
+-- the fault of the script's line with this number, as the journal has it
+abbrev pub told_fault : ℕ → Fault → List ℕ
+told_fault number fault = codes "LINE " ++ (decimal number ++ fault_text fault)
+
+-- what the row of a fault tells
 abbrev pub fault_told : ℕ → Fault → Told
-fault_told number fault = record { kind = kind.Down; task = None; blocker = None; text = codes "LINE " ++ (decimal number ++ fault_text fault) }
+fault_told number fault = record { kind = kind.Down; task = None; blocker = None; text = told_fault number fault; note = [] }
 
 -- with these conditions a read gives data
 abbrev pub gives_data : Condition → Bool
@@ -88,26 +113,28 @@ abbrev pub later : Option Given → Option Given → Option Given
 later before None = before
 later before (Some given) = Some given
 
--- What a recorder has kept of a line: what its rows tell, and what its command was given.
+-- What a recorder has kept of a line: what its rows tell, what its command was given, and the kind
+-- of the answer NORMAL to it.
 pub record Recorded : Type 0 where
   pub told : List Told
   pub given : Option Given
+  pub normal : Kind
 
 -- what a recorder has kept
 abbrev pub recorded_in : Recorder → Recorded
-recorded_in r = record { told = r.told.items; given = r.given }
+recorded_in r = record { told = r.told.items; given = r.given; normal = r.normal }
 
 -- before a line nothing is kept
 abbrev pub nothing_recorded : Recorded
-nothing_recorded = record { told = []; given = None }
+nothing_recorded = record { told = []; given = None; normal = kind.Normal }
 
--- a recorder keeps a row for each event, and one for the fault
+-- a recorder keeps the kind that a request calls for, a row for each event, and one for the fault
 abbrev pub recorder_sight : Sight Recorded
 recorder_sight =
     record {
-      with_request = λ r number request before. r;
-      with_event = λ r number h. record { told = r.told ++ told_of h.event ∷ []; given = later r.given (given_by h.event) };
-      with_fault = λ r number fault. record { told = r.told ++ fault_told number fault ∷ []; given = r.given };
+      with_request = λ r number request before. record r { normal = answered_as request };
+      with_event = λ r number h. record r { told = r.told ++ told_of r.normal h.event ∷ []; given = later r.given (given_by h.event) };
+      with_fault = λ r number fault. record r { told = r.told ++ fault_told number fault ∷ [] };
     }
 
 -- what a recorder keeps of a line with this number

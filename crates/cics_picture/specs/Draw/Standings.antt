@@ -1,6 +1,6 @@
 -- How the tasks with lanes stand: the unit of each, whether it is in a deadlock, and whether it
 -- made a change that stays.
-use Rattle.std.specs.Prelude.{ℕ, Bool, true, false, not, ◌&&◌, ◌==◌, zero, suc, nat_lt, if◌then◌else◌, Option, Some, None, unwrap_or, slice_get, length, map, drop, List, [], ◌∷◌, ◌++◌}
+use Rattle.std.specs.Prelude.{ℕ, Bool, true, false, not, ◌&&◌, ◌==◌, zero, suc, nat_lt, if◌then◌else◌, Option, Some, None, option_and_then, unwrap_or, slice_get, length, map, drop, List, [], ◌∷◌, ◌++◌}
 use Rattle.std.specs.List.{list_any}
 use Rattle.cics_names.specs.Keyed.{Bytes}
 use Rattle.cics_history.specs.State.{OpeningState}
@@ -11,7 +11,7 @@ use Rattle.cics_history.specs.declared.ops.Entry.{Entry}
 use Rattle.cics_history.specs.declared.ops.UnitState.{UnitState}
 use Rattle.cics_history.specs.declared.ops.UnitState.TheVariants.{Open, Committed, BackedOut}
 use Rattle.cics_dispatch.specs.Machine.Machine.{Machine}
-use Rattle.cics_dispatch.specs.Machine.Blockers.{label_at, unit_of}
+use Rattle.cics_dispatch.specs.Machine.Blockers.{label_at, number_of, unit_of, blocker_of}
 use Rattle.cics_dispatch.specs.Deadlocks.Circles.{Leads}
 use Rattle.cics_dispatch.specs.Deadlocks.Deadlocks.{blockers_at, in_deadlock}
 use Rattle.cics_picture.specs.declared.bars.Standing.{Standing}
@@ -31,10 +31,14 @@ shown_deadlocks m = if nat_lt most_lanes (length m.tasks) then [] else in_deadlo
 abbrev pub IsInDeadlock : Machine → ℕ → Type 0
 IsInDeadlock m number = Leads (blockers_at m) number number
 
+-- the number of the task that blocks that of a label, if it waits
+abbrev pub blocker_at : Machine → Bytes → Option ℕ
+blocker_at m label = option_and_then (number_of m.tasks) (blocker_of m label)
+
 -- how the task of a label stands, if there is one
 abbrev pub standing_of : Machine → Bool → Option Bytes → Standing
 standing_of m deadlocked None = nobody
-standing_of m deadlocked (Some label) = record { unit = unit_of m label; is_deadlocked = deadlocked; stays = false; shows = None }
+standing_of m deadlocked (Some label) = record { unit = unit_of m label; is_deadlocked = deadlocked; blocker = blocker_at m label; stays = false; shows = None }
 
 -- how the task of a number stands
 abbrev pub standing_at : Machine → List Bool → ℕ → Standing
@@ -58,7 +62,7 @@ any_stays before m (Some unit) = list_any (stays m.units.opening unit) (drop bef
 -- how the task of a number stands after a line, before which the history had so many entries
 abbrev pub marked_at : ℕ → Machine → List Bool → ℕ → Standing
 marked_at before m flags number =
-    let s = standing_at m flags number in record { unit = s.unit; is_deadlocked = s.is_deadlocked; stays = any_stays before m s.unit; shows = None }
+    let s = standing_at m flags number in record { unit = s.unit; is_deadlocked = s.is_deadlocked; blocker = s.blocker; stays = any_stays before m s.unit; shows = None }
 
 -- how the tasks below a number stand
 abbrev pub standings_below : ℕ → Machine → List Bool → ℕ → List Standing

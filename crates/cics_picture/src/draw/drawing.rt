@@ -4,6 +4,7 @@ ghost use Rattle.std.specs.Prelude.{◌≡◌, ◌↔◌, ◌++◌, ◌<◌, ◌
 ghost use Rattle.std.specs.Prelude.{IfErr, OnOk, length};
 ghost use Rattle.cics_run.specs.Session.Standing.{IsNew, next_step};
 ghost use Rattle.cics_run.specs.Session.Lines.{all_lines};
+ghost use Rattle.cics_run.specs.Stage.Seen.{after_step};
 ghost use Rattle.cics_run.specs.Session.Running.{is_faulty, play};
 ghost use Rattle.cics_picture.specs.Lanes.{most_lanes, most_rows};
 ghost use Rattle.cics_picture.specs.Drawings.{drawn_of, nothing_drawn, with_line, rows_of};
@@ -27,7 +28,7 @@ use crate::draw::titles::title_of;
 use crate::{Drawing, Standing, Undrawn, push_sheet};
 use cics_names::{Items, NoMemory};
 use cics_run::session::Session;
-use cics_run::stage::keep_undefined;
+use cics_run::stage::Observer;
 use cics_run::whole::next_line;
 
 /// The rows of a picture show what the run prints, in order: their events, each with its LF, are
@@ -54,9 +55,37 @@ pub fn waits_name_blockers()
         → NamesBlocker before number stage line }
 {}
 
-// Runs a line and returns whether it has a fault. A recorder keeps what it leads to. The session
-// keeps a line with a fault, and an undefined name, for what is told on standard error.
-fn run_line(session: &mut Session, recorder: &mut Recorder, line: &[u8]) -> Result<bool, NoMemory>
+/// Runs a line and returns whether it has a fault. The observer sees what it leads to. The session
+/// keeps a line with a fault, for what is told on standard error.
+pub fn run_line<O: Observer>(
+    session: &mut Session,
+    observer: &mut O,
+    line: &[u8],
+) -> Result<bool, NoMemory>
+    requires number { session.old.number + 1 < 2 ^ 64 }
+    requires none { session.old.line.items ≡ [] }
+    ensures runs { RunsLine session.old line.now session.new result }
+    ensures seen { OnOk result (O.seen observer.new ≡ after_step O.sight (session.old.number + 1)
+        (O.seen observer.old) (next_step session.old line.now)) }
+{
+    session.number += 1;
+    let alloc = *session.line.allocator();
+    session.fault = session
+        .stage
+        .run_line(alloc, session.number, line, observer)?;
+    let is_fault = session.fault.is_some();
+    if is_fault {
+        session.line.extend_from_slice(line)?;
+    }
+    Ok(is_fault)
+}
+
+// Runs a line and returns whether it has a fault. A recorder keeps what it leads to.
+fn record_line(
+    session: &mut Session,
+    recorder: &mut Recorder,
+    line: &[u8],
+) -> Result<bool, NoMemory>
     requires number { session.old.number + 1 < 2 ^ 64 }
     requires none { session.old.line.items ≡ [] }
     requires nothing { recorded_in recorder.old ≡ nothing_recorded }
@@ -64,17 +93,7 @@ fn run_line(session: &mut Session, recorder: &mut Recorder, line: &[u8]) -> Resu
     ensures recorded { OnOk result (recorded_in recorder.new
         ≡ recorded (session.old.number + 1) (next_step session.old line.now)) }
 {
-    session.number += 1;
-    let alloc = *session.line.allocator();
-    session.fault = session
-        .stage
-        .run_line(alloc, session.number, line, recorder)?;
-    keep_undefined(&mut session.undefined, line, recorder.is_undefined);
-    let is_fault = session.fault.is_some();
-    if is_fault {
-        session.line.extend_from_slice(line)?;
-    }
-    Ok(is_fault)
+    run_line(session, recorder, line)
 }
 
 // Returns how the tasks stand after a line that a session has run, and what its read shows.
@@ -105,7 +124,7 @@ fn draw_line(session: &mut Session, drawing: &mut Drawing, line: &[u8]) -> Resul
 {
     let before = entries_at(&session.stage).len();
     let mut recorder = Recorder::new(*session.line.allocator());
-    let is_fault = run_line(session, &mut recorder, line)?;
+    let is_fault = record_line(session, &mut recorder, line)?;
     let standings = standings_behind(before, session, line, &recorder.given)?;
     drawing.push_line(session.number, line, &recorder.told, standings.as_slice())?;
     Ok(is_fault)

@@ -32,7 +32,8 @@ fn undrawn(error: Undrawn) -> NoPicture
     }
 }
 
-fn run_status(is_faulty: bool) -> Status
+/// Returns how a run ended.
+pub(crate) fn run_status(is_faulty: bool) -> Status
     ensures { result ≡ run_status is_faulty }
 {
     if is_faulty {

@@ -225,12 +225,7 @@ pub fn with_shown(standings: Items<Standing>, shown: Option<(usize, u64)>) -> It
         return standings;
     };
     let shows = Some(lane_with(unit, standings.as_slice()));
-    let standing = Standing {
-        unit: standing.unit,
-        is_deadlocked: standing.is_deadlocked,
-        stays: standing.stays,
-        shows,
-    };
+    let standing = Standing { shows, ..*standing };
     let mut standings = standings;
     standings.set(number, standing);
     standings

@@ -4,15 +4,17 @@ ghost use Rattle.std.specs.Prelude.{◌≡◌, List, ℕ, IfOk};
 ghost use Rattle.cics_run.specs.Stage.Journal.{event_text};
 ghost use Rattle.cics_run.specs.Stage.Journal.{line as line_of};
 ghost use Rattle.cics_picture.specs.Draw.Recording.{outcome_kind, woken_kind, kind_of};
+ghost use Rattle.cics_picture.specs.Draw.Recording.{answered_as, marked_kind};
 ghost use Rattle.cics_picture.specs.Draw.Recording.{refused_task, task_of, blocker_in, told_of};
-ghost use Rattle.cics_picture.specs.Draw.Recording.{fault_told, gives_data, given_by};
+ghost use Rattle.cics_picture.specs.Draw.Recording.{fault_told, told_fault, gives_data, given_by};
 ghost use Rattle.cics_picture.specs.Draw.Recording.{recorded_in, nothing_recorded};
 
+use crate::draw::notes::note_of;
 use crate::{Kind, Told};
 use cics_dispatch::{Event, Outcome, Region, Request, Subject};
-use cics_names::{Condition, Name8, NoMemory, Record};
+use cics_names::{Condition, Name8, NoMemory, Record, Verb};
 use cics_run::stage::journal::{push_event, push_fault};
-use cics_run::stage::{Fault, Observer, tells_undefined};
+use cics_run::stage::{Fault, Observer};
 use std::alloc::Global;
 
 /// What a read was given.
@@ -29,8 +31,8 @@ pub struct Recorder {
     pub told: Vec<Told>,
     /// What the line's command was given, if that is data.
     pub given: Option<Given>,
-    /// Whether the line's command was answered that what it names isn't defined.
-    pub is_undefined: bool,
+    /// The kind of the answer NORMAL to what the line asks.
+    pub normal: Kind,
 }
 
 fn outcome_kind(outcome: &Outcome) -> Kind
@@ -55,7 +57,8 @@ fn woken_kind(kind: Kind) -> Kind
     }
 }
 
-fn kind_of(event: &Event) -> Kind
+/// Returns the kind of an event.
+pub fn kind_of(event: &Event) -> Kind
     ensures { result ≡ kind_of event.now }
 {
     match event {
@@ -66,6 +69,30 @@ fn kind_of(event: &Event) -> Kind
         Event::ClockSet(_) => Kind::Clock,
         Event::ShutDown(_) => Kind::Down,
         Event::Refused(_, _) => Kind::Refused,
+    }
+}
+
+// Returns the kind of the answer NORMAL to a request: SYNCPOINT and ROLLBACK have kinds of their own.
+fn answered_as(request: &Request) -> Kind
+    ensures { result ≡ answered_as request.now }
+{
+    match request {
+        Request::Issue(_, command) => match command.verb {
+            Verb::Syncpoint => Kind::Committed,
+            Verb::Rollback => Kind::BackedOut,
+            _ => Kind::Normal,
+        },
+        _ => Kind::Normal,
+    }
+}
+
+// Returns the kind of a row, by that of its event and that of the answer NORMAL.
+fn marked_kind(normal: Kind, kind: Kind) -> Kind
+    ensures { result ≡ marked_kind normal kind }
+{
+    match kind {
+        Kind::Normal => normal,
+        other => other,
     }
 }
 
@@ -109,8 +136,8 @@ fn without_lf(line: Vec<u8>) -> Record
     Record::new(line).first(len.saturating_sub(1))
 }
 
-// Returns the line that an event prints, without its LF.
-fn text_of(alloc: Global, event: &Event) -> Result<Record, NoMemory>
+/// Returns the line that an event prints, without its LF.
+pub fn text_of(alloc: Global, event: &Event) -> Result<Record, NoMemory>
     ensures { IfOk result (λ text. text ≡ event_text event.now) }
 {
     let mut line = Vec::new(alloc);
@@ -118,29 +145,38 @@ fn text_of(alloc: Global, event: &Event) -> Result<Record, NoMemory>
     Ok(without_lf(line))
 }
 
-// Returns what the row of an event tells.
-fn told_of(alloc: Global, event: &Event) -> Result<Told, NoMemory>
-    ensures { IfOk result (λ told. told ≡ told_of event.now) }
+// Returns what the row of an event tells. `normal` is the kind of the answer NORMAL.
+fn told_of(alloc: Global, normal: Kind, event: &Event) -> Result<Told, NoMemory>
+    ensures { IfOk result (λ told. told ≡ told_of normal event.now) }
 {
     Ok(Told {
-        kind: kind_of(event),
+        kind: marked_kind(normal, kind_of(event)),
         task: task_of(event),
         blocker: blocker_in(event),
         text: text_of(alloc, event)?,
+        note: note_of(alloc, event)?,
     })
+}
+
+/// Returns the line that a fault of the script's line with this number prints, without its LF.
+pub fn fault_text(alloc: Global, number: u64, fault: Fault) -> Result<Record, NoMemory>
+    ensures { IfOk result (λ text. text ≡ told_fault number fault) }
+{
+    let mut line = Vec::new(alloc);
+    push_fault(&mut line, number, fault)?;
+    Ok(without_lf(line))
 }
 
 // Returns what the row of a fault tells, of the script's line with this number.
 fn fault_told(alloc: Global, number: u64, fault: Fault) -> Result<Told, NoMemory>
     ensures { IfOk result (λ told. told ≡ fault_told number fault) }
 {
-    let mut line = Vec::new(alloc);
-    push_fault(&mut line, number, fault)?;
     Ok(Told {
         kind: Kind::Down,
         task: None,
         blocker: None,
-        text: without_lf(line),
+        text: fault_text(alloc, number, fault)?,
+        note: Record::new(Vec::new(alloc)),
     })
 }
 
@@ -183,7 +219,7 @@ impl Recorder {
         Recorder {
             told: Vec::new(alloc),
             given: None,
-            is_undefined: false,
+            normal: Kind::Normal,
         }
     }
 }
@@ -198,24 +234,24 @@ impl Observer for Recorder {
     ghost sight = { recorder_sight };
 
     fn sees_requests(&self) -> bool {
-        false
+        true
     }
 
     fn see_request(
         &mut self,
         _number: u64,
-        _request: &Request,
+        request: &Request,
         _region: &Region,
     ) -> Result<(), NoMemory> {
+        self.normal = answered_as(request);
         Ok(())
     }
 
     fn see(&mut self, _number: u64, event: &Event, _region: &Region) -> Result<(), NoMemory> {
-        self.is_undefined |= tells_undefined(event);
         if let Some(given) = given_by(event)? {
             self.given = Some(given);
         }
-        let told = told_of(*self.told.allocator(), event)?;
+        let told = told_of(*self.told.allocator(), self.normal, event)?;
         self.told.push(told)?;
         Ok(())
     }

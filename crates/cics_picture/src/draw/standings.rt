@@ -7,7 +7,7 @@ ghost use Rattle.cics_dispatch.specs.Machine.Machine.{Machine};
 ghost use Rattle.cics_dispatch.specs.Machine.Blockers.{label_at, unit_of};
 ghost use Rattle.cics_history.specs.Borrowed.{as_op};
 ghost use Rattle.cics_picture.specs.Lanes.{most_lanes};
-ghost use Rattle.cics_picture.specs.Draw.Standings.{shown_deadlocks, standing_at, standings_of};
+ghost use Rattle.cics_picture.specs.Draw.Standings.{shown_deadlocks, blocker_at, standing_at, standings_of};
 ghost use Rattle.cics_picture.specs.Draw.Standings.{is_change, stays, any_stays, marked_at, entries_at};
 ghost use Rattle.cics_picture.specs.Draw.Standings.{standings_at, outcomes_at, look_of, looks_at};
 ghost use Rattle.cics_picture.specs.Draw.Standings.{IsInDeadlock};
@@ -52,6 +52,16 @@ pub fn unit_of(region: &Region, label: &Name8) -> Option<u64>
     }
 }
 
+// Returns the number of the task that blocks that of a label, if it waits.
+fn blocker_of(region: &Region, label: &Name8) -> Option<usize>
+    ensures { result ≡ blocker_at region.now.machine label.now }
+{
+    match region.blocker(label) {
+        Some(blocker) => region.number(&blocker),
+        None => None,
+    }
+}
+
 // How the task of a number stands.
 fn standing_at(region: &Region, flags: &[bool], number: usize) -> Standing
     ensures { result ≡ standing_at region.now.machine flags.now number }
@@ -60,6 +70,7 @@ fn standing_at(region: &Region, flags: &[bool], number: usize) -> Standing
         Some(label) => Standing {
             unit: unit_of(region, &label),
             is_deadlocked: flags.get(number).copied().unwrap_or(false),
+            blocker: blocker_of(region, &label),
             stays: false,
             shows: None,
         },
@@ -123,6 +134,7 @@ fn marked_at(region: &Region, flags: &[bool], before: usize, number: usize) -> S
     Standing {
         unit: standing.unit,
         is_deadlocked: standing.is_deadlocked,
+        blocker: standing.blocker,
         stays: any_stays(region, before, standing.unit),
         shows: None,
     }
@@ -171,8 +183,8 @@ pub fn entries_at(stage: &Stage) -> &[Entry]
     }
 }
 
-// The outcome of each unit, by its number.
-fn outcomes_at(stage: &Stage) -> &[UnitState]
+/// Returns the outcome of each unit, by its number.
+pub fn outcomes_at(stage: &Stage) -> &[UnitState]
     ensures { result.now ≡ outcomes_at stage.now }
 {
     match stage {

@@ -3,7 +3,7 @@
 ghost use Rattle.std.specs.Prelude.{◌≡◌};
 ghost use Rattle.cics_picture.specs.Xml.Names.{tag_name, key_name};
 
-/// An element of SVG.
+/// An element of SVG or of HTML.
 #[derive(Clone, Copy, PartialEq, Eq)]
 pub enum Tag {
     Svg,
@@ -14,6 +14,18 @@ pub enum Tag {
     Line,
     Path,
     Text,
+    B,
+    Code,
+    Del,
+    Div,
+    H1,
+    I,
+    Ins,
+    Li,
+    Ol,
+    P,
+    Pre,
+    Samp,
 }
 
 impl Tag {
@@ -30,6 +42,18 @@ impl Tag {
             Tag::Line => "line",
             Tag::Path => "path",
             Tag::Text => "text",
+            Tag::B => "b",
+            Tag::Code => "code",
+            Tag::Del => "del",
+            Tag::Div => "div",
+            Tag::H1 => "h1",
+            Tag::I => "i",
+            Tag::Ins => "ins",
+            Tag::Li => "li",
+            Tag::Ol => "ol",
+            Tag::P => "p",
+            Tag::Pre => "pre",
+            Tag::Samp => "samp",
         }
     }
 }
@@ -40,6 +64,7 @@ pub enum Key {
     Class,
     D,
     Height,
+    Id,
     Transform,
     Width,
     X,
@@ -60,6 +85,7 @@ impl Key {
             Key::Class => "class",
             Key::D => "d",
             Key::Height => "height",
+            Key::Id => "id",
             Key::Transform => "transform",
             Key::Width => "width",
             Key::X => "x",

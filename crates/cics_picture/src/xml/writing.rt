@@ -98,9 +98,9 @@ pub fn push_attribute(out: &mut Vec<u8>, key: Key, value: &[u8]) -> Result<(), N
     push_str(out, "\"")
 }
 
-// Puts a number, as a part of a value.
+/// Puts a number, as a part of a value.
 #[tactic(auto, using(crate::proofs::OfXml::Numbers::decimal_text))]
-fn push_digits(out: &mut Vec<u8>, number: u64) -> Result<(), NoMemory>
+pub fn push_digits(out: &mut Vec<u8>, number: u64) -> Result<(), NoMemory>
     ensures { OnOk result (out.new.items ≡ out.old.items ++ text_of (decimal number)) }
 {
     spelling::push_number(out, number)

@@ -1,0 +1,9 @@
+pub mod Kinds
+pub mod Texts
+pub mod Definitions
+pub mod Lines
+pub mod Sheets
+pub mod Recording
+pub mod Pages
+pub mod Tracked
+pub mod Views

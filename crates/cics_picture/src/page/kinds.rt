@@ -1,0 +1,39 @@
+//! The classes of steps.
+
+ghost use Rattle.std.specs.Prelude.{◌≡◌};
+ghost use Rattle.cics_picture.specs.Page.Kinds.{is_woken, kind_class, woken_class};
+
+use crate::Kind;
+use cics_dispatch::Event;
+
+/// Returns whether a waiting command is answered.
+pub fn is_woken(event: &Event) -> bool
+    ensures { result ≡ is_woken event.now }
+{
+    matches!(event, Event::Woken(_))
+}
+
+/// Returns the class of an event of a kind. A fault is of none.
+pub fn kind_class(kind: Option<Kind>) -> &'static str
+    ensures { result.now ≡ kind_class kind }
+{
+    match kind {
+        Some(Kind::Attached) => "att",
+        Some(Kind::Normal | Kind::Woken | Kind::Committed | Kind::BackedOut) => "ans",
+        Some(Kind::Condition) => "con",
+        Some(Kind::Waiting) => "wai",
+        Some(Kind::Ended) => "end",
+        Some(Kind::Abended) => "abe",
+        Some(Kind::Refused) => "ref",
+        Some(Kind::Clock) => "clk",
+        Some(Kind::Down) => "dwn",
+        None => "flt",
+    }
+}
+
+/// Returns the start of that class.
+pub fn woken_class(is_woken: bool) -> &'static str
+    ensures { result.now ≡ woken_class is_woken }
+{
+    if is_woken { "wok " } else { "" }
+}

@@ -1,0 +1,79 @@
+//! A script that is read and its page that is written.
+
+ghost use Rattle.std.specs.Prelude.{◌≡◌};
+ghost use Rattle.cics_run.specs.Session.Running.{most_reads, read_failures, write_failures};
+ghost use Rattle.cics_run.specs.Session.Standing.{IsNew};
+ghost use Rattle.cics_run.specs.Session.Streams.{Rises, RisesAtMost, failures};
+ghost use Rattle.cics_picture.specs.Page.Pages.{Pages, KeepsFault, failures_of, unwritten};
+
+use crate::draw::run_status;
+use crate::page::lines::Unwritten;
+use crate::page::pages::page_script;
+use cics_run::session::{RunFault, Session, Sink, Source, Status, write_all};
+use cics_run::whole::read_script;
+use thiserror::Error;
+
+/// Why a script has no page.
+#[derive(Debug, Drop, Error)]
+pub enum NoPage {
+    /// The run stopped. Nothing was written, unless a write failed: then a front of the page.
+    #[error("{0}")]
+    Stopped(RunFault),
+    /// The run has more events than a page may have: nothing was written.
+    #[error("a page has at most 100000 events")]
+    TooManyEvents,
+    /// The run changes more than a page may tell: nothing was written.
+    #[error("a page has at most 67108864 bytes of lines")]
+    TooLong,
+}
+
+fn unwritten(error: Unwritten) -> NoPage
+    ensures { result ≡ unwritten error }
+{
+    match error {
+        Unwritten::NoMemory => NoPage::Stopped(RunFault::NoMemory),
+        Unwritten::TooManySteps => NoPage::TooManyEvents,
+        Unwritten::TooLong => NoPage::TooLong,
+    }
+}
+
+/// Runs the script that a source gives, and writes its page, when all is read and run.
+///
+/// It reads at most `LIMIT` bytes, and one more to see whether there are more. The page of a script
+/// with a fault ends with the fault. The session is a new one, and is left to its owner.
+///
+/// Returns how the run ended, or why there is no page. It returns a read or a write fault only if
+/// that very call failed, and tries none again. After a fault the session keeps the line with the
+/// fault.
+pub fn run_page<S: Source, K: Sink>(
+    session: &mut Session,
+    source: &mut S,
+    sink: &mut K,
+) -> Result<Status, NoPage>
+    requires new { IsNew session.old }
+    ensures read_faults { Rises (S.failed source.old) (S.failed source.new)
+        (failures (failures_of read_failures) result) }
+    ensures write_faults { Rises (K.failed sink.old) (K.failed sink.new)
+        (failures (failures_of write_failures) result) }
+    ensures asked { RisesAtMost (S.asked source.old) (S.asked source.new) most_reads }
+    ensures kept { KeepsFault (S.remaining source.old) (S.remaining source.new) session.new
+        result }
+    ensures whole { Pages (S.remaining source.old) (S.remaining source.new)
+        (K.contents sink.old) (K.contents sink.new) result }
+{
+    let alloc = *session.line.allocator();
+    let mut script = Vec::new(alloc);
+    match read_script(source, &mut script) {
+        Ok(()) => {}
+        Err(fault) => return Err(NoPage::Stopped(fault)),
+    }
+    let mut text = Vec::new(alloc);
+    let is_faulty = match page_script(session, &script, &mut text) {
+        Ok(is_faulty) => is_faulty,
+        Err(error) => return Err(unwritten(error)),
+    };
+    match write_all(sink, &text) {
+        Ok(()) => Ok(run_status(is_faulty)),
+        Err(_) => Err(NoPage::Stopped(RunFault::WriteFault)),
+    }
+}
