@@ -8,8 +8,10 @@ mod progress;
 
 use crate::input::{Input, Stream};
 use crate::progress::ProgressLines;
+use cics_orders::report::AmissEnding;
 use cics_orders::survey::{Surveyed, Surveyor};
 use cics_picture::draw::{NoPicture, run_picture};
+use cics_picture::page::{NoPage, run_page};
 use cics_run::told::{is_amiss, told_at_end, told_of};
 use cics_run::whole::{check_script, read_script};
 use cics_run::{
@@ -81,6 +83,7 @@ fn answer(rt: HostRuntime, line: CommandLine) -> Result<u8, Stopped> {
         Action::Run(wanted) => run_to_the_end(rt, opened(rt, script)?, wanted),
         Action::Check => check_to_the_end(rt, opened(rt, script)?),
         Action::Picture => draw_to_the_end(rt, opened(rt, script)?),
+        Action::Page => page_to_the_end(rt, opened(rt, script)?),
         Action::Orders { wanted, progress } => {
             follow_orders(rt, opened(rt, script)?, wanted, progress)
         }
@@ -105,7 +108,7 @@ fn run_to_the_end(rt: HostRuntime, mut script: Input, wanted: Wanted) -> Result<
     let mut session = Session::new(rt.alloc());
     let answer = run_over(&mut session, &mut script, &mut rt.stdout(), wanted);
     if let Ok(status) = answer {
-        tell(rt, &session, script.name(), status);
+        tell(rt, &session, script.name(), status)?;
     }
     let is_amiss = wanted.strict && is_amiss(&session);
     mem::forget(session);
@@ -125,7 +128,7 @@ fn draw_to_the_end(rt: HostRuntime, mut script: Input) -> Result<u8, Stopped> {
     let mut session = Session::new(rt.alloc());
     let answer = run_picture(&mut session, &mut script, &mut rt.stdout());
     if let Ok(status) = answer {
-        tell(rt, &session, script.name(), status);
+        tell(rt, &session, script.name(), status)?;
     }
     mem::forget(session);
     match answer {
@@ -133,6 +136,25 @@ fn draw_to_the_end(rt: HostRuntime, mut script: Input) -> Result<u8, Stopped> {
         Err(NoPicture::Stopped(fault)) => Err(Stopped::Fault(fault)),
         Err(NoPicture::TooManyEvents) => {
             let _ = eprintln!(rt; "cicsrun: {}", NoPicture::TooManyEvents);
+            Ok(TOO_MANY_EVENTS)
+        }
+    }
+}
+
+// Writes the page of a script's run, and returns the exit status. The process ends right after it,
+// as after a run.
+fn page_to_the_end(rt: HostRuntime, mut script: Input) -> Result<u8, Stopped> {
+    let mut session = Session::new(rt.alloc());
+    let answer = run_page(&mut session, &mut script, &mut rt.stdout());
+    if let Ok(status) = answer {
+        tell(rt, &session, script.name(), status)?;
+    }
+    mem::forget(session);
+    match answer {
+        Ok(status) => Ok(exit_status(&Ok(status))),
+        Err(NoPage::Stopped(fault)) => Err(Stopped::Fault(fault)),
+        Err(too_much) => {
+            let _ = eprintln!(rt; "cicsrun: {too_much}");
             Ok(TOO_MANY_EVENTS)
         }
     }
@@ -159,10 +181,10 @@ fn follow_orders(
         progress: ProgressLines::new(rt, has_progress),
     };
     match surveyor.run_orders(&mut script.as_slice(), &mut rt.stdout(), wanted)? {
-        Surveyed::Done => Ok(reported(rt, wanted, false)),
-        Surveyed::Amiss => Ok(reported(rt, wanted, true)),
+        Surveyed::Done => Ok(reported(rt, wanted, None)),
+        Surveyed::Amiss(ending) => Ok(reported(rt, wanted, Some(ending))),
         Surveyed::LineFault => {
-            tell_fault(rt, &script, input.name());
+            tell_fault(rt, &script, input.name())?;
             Ok(exit_status(&Ok(Status::LineFault)))
         }
         Surveyed::NoEnding { count, has_all } => {
@@ -172,44 +194,64 @@ fn follow_orders(
                 ("are", "endings")
             };
             let least = if has_all { "" } else { "at least " };
-            let _ = eprintln!(rt; "cicsrun: there {are} {least}{count} {endings}");
+            let told = if wanted.told {
+                ""
+            } else {
+                ", or more with --told"
+            };
+            let _ = eprintln!(rt; "cicsrun: there {are} {least}{count} {endings}{told}");
             Ok(BAD_ARGUMENTS)
         }
     }
 }
 
-// Returns the exit status of a report on orders. Says on standard error if it compares no answers.
-fn reported(rt: HostRuntime, wanted: Orders, is_amiss: bool) -> u8 {
+// Returns the exit status of a report on orders. Says on standard error if it compares no answers,
+// and which ending is amiss.
+fn reported(rt: HostRuntime, wanted: Orders, amiss: Option<AmissEnding>) -> u8 {
     if !wanted.told && wanted.ending.is_none() {
         let _ = eprintln!(rt; "{UNTOLD}");
     }
-    strict_status(&Ok(Status::Done), is_amiss)
+    if let Some(ending) = &amiss {
+        let why = if ending.is_deadlock {
+            "is a deadlock"
+        } else {
+            "has no serial order"
+        };
+        let _ = eprintln!(rt; "cicsrun: ending {} {why}", ending.number);
+    }
+    strict_status(&Ok(Status::Done), amiss.is_some())
 }
 
 // Says what the faulty line of a script needs, as a run of it does.
-fn tell_fault(rt: HostRuntime, mut script: &[u8], name: Option<&[u8]>) {
+fn tell_fault(rt: HostRuntime, mut script: &[u8], name: Option<&[u8]>) -> Result<(), RunFault> {
     let mut session = Session::new(rt.alloc());
     let mut journal: Vec<u8> = Vec::new(rt.alloc());
     let wanted = Wanted::plain(JOURNAL);
-    if let Ok(status) = run_over(&mut session, &mut script, &mut journal, wanted) {
-        tell(rt, &session, name, status);
-    }
+    let status = run_over(&mut session, &mut script, &mut journal, wanted)?;
+    tell(rt, &session, name, status)?;
     mem::forget(session);
+    Ok(())
 }
 
-// Says on standard error what a run leaves a person to know: what its faulty line needs, or its
-// deadlocks and undefined names. Without memory it says nothing: the journal and the listing have
-// it.
-fn tell(rt: HostRuntime, session: &Session, name: Option<&[u8]>, status: Status) {
+// Says on standard error what a run leaves a person to know: why conditions came up, what its faulty
+// line needs, its deadlocks and hints. Without memory for that it says nothing.
+fn tell(
+    rt: HostRuntime,
+    session: &Session,
+    name: Option<&[u8]>,
+    status: Status,
+) -> Result<(), RunFault> {
     let told = match status {
         Status::LineFault => told_of(rt.alloc(), session, name),
         Status::Done => told_at_end(rt.alloc(), session, name),
     };
-    if let Ok(text) = told {
-        if let Ok(text) = std::str::from_utf8(&text) {
-            let _ = eprint!(rt; "{text}");
-        }
+    let Ok(text) = told else {
+        return Err(RunFault::NoMemory);
+    };
+    if let Ok(text) = std::str::from_utf8(&text) {
+        let _ = eprint!(rt; "{text}");
     }
+    Ok(())
 }
 
 // Returns the command line. A word that is no text is a bad argument.

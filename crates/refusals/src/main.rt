@@ -1,6 +1,6 @@
-//! Makes each promised call of the libraries (`surface`). Tries runs over bytes in memory: each read
-//! and each write fails in turn (`trials`). Then tries scripts on units of work and on regions: each
-//! event is refused memory.
+//! Makes each promised call of the libraries (`surface`). Tries runs over bytes in memory: each
+//! read and each write fails in turn (`trials`). Then tries scripts on units of work and on
+//! regions: each event is refused memory.
 //!
 //! The scripts come from standard input, with a blank line between them; the first text stands
 //! before each of them (`scripts`). Where `tools/refuse_memory` is loaded, each request of each
@@ -50,7 +50,7 @@ const ENDS: [([&str; 2], &str); 4] = [
 // How many further records and items there are in a run with ample memory, and what it is called.
 const FURTHER: [(u64, &str); 2] = [(0, "alone"), (300, "among 300 more")];
 
-// Prints what came of a run, or says why it stopped.
+// Prints the text of a run, or says why it stopped.
 fn tell(
     rt: &HostRuntime,
     script: &str,

@@ -202,9 +202,8 @@ impl<'a> Run<'a> {
         Ok(Some(!out.is_empty()))
     }
 
-    // Lets the event of a line happen until none of its requests is refused. Puts what came of it
-    // at the end, and returns whether anything did. Each time that it is refused all has to be as
-    // before.
+    // Lets the event of a line happen until none of its requests is refused. Appends what it prints,
+    // and returns whether that is anything. Each time that it is refused all has to be as before.
     fn come_out_at_last<T: Tried>(
         &self,
         target: &mut T,
@@ -341,7 +340,7 @@ impl<'a> Run<'a> {
     }
 
     // Ends each task that has a unit of work and doesn't wait, also those that resume by that.
-    // Returns what came of it, and the listing.
+    // Returns what that prints, and the listing.
     fn end<T: Target>(&mut self, target: &mut T, ends: [&str; 2]) -> Result<String, Stop> {
         let mut text = String::new(self.alloc);
         for _ in 0..MOST {
