@@ -25,13 +25,13 @@ s/fault.cics: no fault.journal: read what came, and record it with --accept
 @@ -0,0 +1,2 @@
 +LINE 1 FAULT 5 BadNumber
 +exit status 1
-$(bin/cicsrun < s/fault.cics 2>&1 > /dev/null)
+$(bin/cicsrun s/fault.cics 2>&1 > /dev/null)
 s/refused.cics: no refused.journal: read what came, and record it with --accept
 @@ -0,0 +1,3 @@
 +CLOCK 5
 +CLOCK REFUSED 6 ClockBack
 +exit status 5
-cicsrun: line 2: CLOCK doesn't go back
+s/refused.cics:2: CLOCK doesn't go back
 cicsrun-test: 0 of 3 as recorded" ''
     try '--accept' "$suite" --accept s
     wants 0 's/attach.cics: recorded, exit status 0
@@ -61,7 +61,7 @@ s/fault.status: - is recorded, + came
  LINE 1 FAULT 5 BadNumber
 -exit status 0
 +exit status 1
-$(bin/cicsrun < s/fault.cics 2>&1 > /dev/null)
+$(bin/cicsrun s/fault.cics 2>&1 > /dev/null)
 s/refused.journal, s/refused.status: - is recorded, + came
 @@ -1,4 +1,3 @@
  CLOCK 5
@@ -69,7 +69,7 @@ s/refused.journal, s/refused.status: - is recorded, + came
 -CLOCK 6
 -exit status 4
 +exit status 5
-cicsrun: line 2: CLOCK doesn't go back
+s/refused.cics:2: CLOCK doesn't go back
 cicsrun-test: 0 of 3 as recorded" ''
     echo 5 > s/refused.status
     echo --bad > s/refused.args

@@ -25,6 +25,8 @@
 #   waits        N tasks that wait for one value, which its owner then releases
 #   own-waits    N tasks that wait for a value each, all of which one task then releases
 #   prefixes     N definitions of prefixes of temporary storage queues
+#   reads        N times two tasks of which one reads a record, the other one updates it, and the
+#                first one does so too. What reads saw and missed is written
 
 function say(line) {
     bytes += length(line) + 1
@@ -304,6 +306,47 @@ function prefixes(number) {
     comes("LISTING")
 }
 
+# A command on the record of a number, and what it is answered.
+function on_record(task, command, answer) {
+    say(task " EXEC CICS " command)
+    comes(task " NORMAL 0" answer)
+    at++
+}
+
+function update(task, record, before, after) {
+    on_record(task, "READ FILE('ACCT') RIDFLD('" record "') UPDATE",
+        " DATA '" record " " before "'")
+    on_record(task, "REWRITE FILE('ACCT') FROM('" record " " after "')", "")
+    say(task " EXEC CICS RETURN")
+    comes(task " ENDED")
+    return at++
+}
+
+function reads(most, number, record, task, other, looked, changed, missed) {
+    most = 1000
+    say("DEFINE FILE('ACCT') KEYLENGTH(7) RECOVERABLE")
+    for (number = 0; number < most; number++)
+        say("LOAD FILE('ACCT') FROM('" digits(number) " 0')")
+    at = most + 1
+    for (number = 0; number < count; number++) {
+        record = digits(number % most)
+        task = "A" number
+        other = "B" number
+        attach(task)
+        attach(other)
+        at += 2
+        on_record(task, "READ FILE('ACCT') RIDFLD('" record "')",
+            " DATA '" record " " 2 * int(number / most) "'")
+        looked = at
+        changed = update(other, record, 2 * int(number / most), 2 * int(number / most) + 1)
+        missed[number] = "LOST UPDATE LINE " looked " " task " MISSED LINE " changed " " other \
+            " AND LINE " update(task, record, 2 * int(number / most) + 1,
+                2 * int(number / most) + 2) " " task " REPLACED LINE " changed " " other
+    }
+    comes("READS")
+    for (number = 0; number < count; number++) comes(missed[number])
+}
+
 BEGIN {
     if (called == "records") records()
     else if (called == "keys") keys()
@@ -321,6 +364,7 @@ BEGIN {
     else if (called == "waits") waits(1)
     else if (called == "own-waits") waits(count)
     else if (called == "prefixes") prefixes()
+    else if (called == "reads") reads()
     else {
         print "no such load: " called > "/dev/stderr"
         exit 1

@@ -29,6 +29,21 @@ is_amiss() {
         -e '^(LOST UPDATE|READ SKEW|WRITE SKEW) ' "$1"
 }
 
+# Prints what a strict run says of the findings in what --reads prints.
+found_lines() {
+    awk 'function step(at) { return "line " $(at + 1) " of " $(at + 2) }
+        !/^(DIRTY READ|LOST UPDATE|READ SKEW|WRITE SKEW) / || / COMMITTED$/ { next }
+        ++found > 64 { next }
+        {
+            did = tolower($6)
+            rest = ", and " step(11) " " tolower($14) " " step(15)
+            if (/ BACKED OUT$/) rest = ", which was backed out"
+            if (/ OPEN$/) rest = ", which is still open"
+            print "cicsrun: line " $4 ": " $1 " " $2 ": " $5 " " did " " step(7) rest
+        }
+        END { if (found > 64) print "cicsrun: and " (found - 64) " more" }' "$1"
+}
+
 # The runs of one script, by the files beside it.
 add_script() {
     base=${1%.cics}
@@ -45,27 +60,31 @@ add_script() {
         [ ! -f "$base.why" ] ||
             add_case "$1" "$title --why" 0 "$base.journal" same "$base.why" --why
         add_case "$1" "$title --with-script" 0 "$base.journal" unshown "$said" --with-script
-        add_case "$1" "$title --check" 0 "$room/wanted/nothing" same /dev/null --check
     fi
     if [ -f "$base.fault" ]; then
         of_fault=advice
         [ ! -f "$base.said" ] || of_fault=$said
         add_case "$1" "$title" 1 "$base.fault" same "$of_fault"
         add_case "$1" "$title --with-script" 1 "$base.fault" unshown "$of_fault" --with-script
-        # A picture tells of the faulty line alone.
+        # A picture and a page tell of the faulty line alone.
         if [ -f "$base.said" ]; then
             of_fault=$room/wanted/fault-of-$count
             tail -n 3 "$base.said" > "$of_fault"
         fi
         add_case "$1" "$title --picture" 1 "$base.fault" last "$of_fault" --picture
+        add_case "$1" "$title --page" 1 "$base.fault" step "$of_fault" --page
     fi
     if [ -f "$base.replay" ]; then
         add_case "$1" "$title --replay" 0 "$base.replay" same "$said" --replay
         add_case "$1" "$title --replay --with-script" 0 "$base.replay" unshown "$said" --replay \
             --with-script
     fi
-    [ ! -f "$base.checked" ] ||
-        add_case "$1" "$title --check" 1 "$room/wanted/nothing" same "$base.checked" --check
+    checked=/dev/null
+    [ ! -f "$base.checked" ] || checked=$base.checked
+    [ ! -f "$base.journal" ] ||
+        add_case "$1" "$title --check" 0 "$room/wanted/nothing" same "$checked" --check
+    [ ! -f "$base.fault" ] || [ ! -f "$base.checked" ] ||
+        add_case "$1" "$title --check" 1 "$room/wanted/nothing" same "$checked" --check
     [ ! -f "$base.shown" ] ||
         add_case "$1" "$title --with-script" 0 "$base.shown" same "$said" --with-script
     [ ! -f "$base.serial" ] ||
@@ -74,13 +93,20 @@ add_script() {
         add_case "$1" "$title --reads" 0 "$base.reads" same "$said" --reads
         strict=0
         ! is_amiss "$base.reads" || strict=5
-        strict_said=$said
-        [ ! -f "$base.strict" ] || strict_said=$base.strict
+        strict_said=$room/wanted/reads-$count
+        {
+            if [ -f "$base.strict" ]; then cat -- "$base.strict"; else cat -- "$said"; fi
+            found_lines "$base.reads"
+        } > "$strict_said"
         add_case "$1" "$title --reads --strict" "$strict" "$base.reads" same "$strict_said" \
             --reads --strict
     fi
     [ ! -f "$base.svg" ] ||
         add_case "$1" "$title --picture" 0 "$base.svg" same /dev/null --picture
+    [ ! -f "$base.html" ] ||
+        add_case "$1" "$title --page" 0 "$base.html" same /dev/null --page
+    [ ! -f "$base.page" ] ||
+        add_case "$1" "$title --page" 0 "$base.page" data /dev/null --page
     [ ! -f "$base.orders" ] ||
         add_case "$1" "$title --orders --told" 0 "$base.orders" same /dev/null --orders --told
     [ ! -f "$base.report" ] || add_report "$1"
@@ -100,9 +126,16 @@ add_report() {
     # shellcheck disable=SC2086 # words are options
     add_case "$1" "$title --orders $words" "$status" "$base.report" same "$said" --orders $words
     ! grep -Eq '^ENDING .*( SERIAL 0| DEADLOCK)( |$)' "$base.report" || status=5
+    strict_said=$room/wanted/strict-$count
+    {
+        cat -- "$said"
+        awk '/^ENDING .* DEADLOCK( |$)/ { print "cicsrun: ending " $2 " is a deadlock"; exit }
+            /^ENDING .* SERIAL 0( |$)/ { print "cicsrun: ending " $2 " has no serial order"; exit }
+            ' "$base.report"
+    } > "$strict_said"
     # shellcheck disable=SC2086
-    add_case "$1" "$title --orders --strict $words" "$status" "$base.report" same "$said" \
-        --orders --strict $words
+    add_case "$1" "$title --orders --strict $words" "$status" "$base.report" same \
+        "$strict_said" --orders --strict $words
 }
 
 # A run for each faulty line.
@@ -147,7 +180,7 @@ add_advice() {
         scripts=$((scripts + 1))
         [ -n "$mended" ] || continue
         printf '%b\n' "$mended" > "$room/script"
-        add_case "$room/script" "$title, mended" 0 "$room/wanted/nothing" same /dev/null --check
+        add_case "$room/script" "$title, mended" 0 "$room/wanted/nothing" same mended --check
     done < "$root/scripts/told/advice"
     printf '%70001s\n' '' > "$room/script"
     echo 'cicsrun: line 1: a line has at most 70,000 bytes' > "$room/wanted/advice-long"

@@ -59,8 +59,15 @@ ended() {
     cat -- "$1" && { [ ! -s "$1" ] || [ -z "$(tail -c 1 -- "$1")" ] || echo; }
 }
 
+# Prints the data of a page, or, with a second argument, what stands around it.
+page_data() {
+    awk -v "around=${2-}" '/^<title>/ { inside = 1 } /^<template>$/ { inside = 0 }
+        around == "" ? inside : !inside' "$1"
+}
+
 # Compares what a run printed with the file $wanted, by the row's way: all of it, all but the lines
-# of the script, the end of a picture with the fault, or the fault of the last line.
+# of the script, the data of a page, the end of a picture or of a page's lines with the fault, or
+# the fault of the last line. What stands around the data has to be that of a whole page.
 is_printed() {
     case $way in
     none) return 0 ;;
@@ -72,27 +79,44 @@ is_printed() {
         grep -q -e ">$(tail -n 1 "$wanted")</text></g></svg>\$" "$came"
         return
         ;;
+    step)
+        grep -A 3 -F -x -e "<samp>$(tail -n 1 "$wanted")</samp>" "$came" | tr '\n' ' ' |
+            grep -q -e '</samp> </div></li> </ol> <template> $'
+        return
+        ;;
     unshown) sed '/^> /d' "$came" > "$room/unshown" && came=$room/unshown ;;
+    data)
+        page_data "$root/examples/deadlock.html" around > "$room/left"
+        page_data "$came" around > "$room/right"
+        cmp -s "$room/left" "$room/right" || return
+        page_data "$came" > "$room/data" && came=$room/data
+        ;;
     esac
     ended "$wanted" > "$room/left" && ended "$came" > "$room/right" &&
         cmp -s "$room/left" "$room/right"
 }
 
-# Compares what a run said on standard error: that of the file, or a message on a faulty line.
+# Compares what a run said on standard error: that of the file, a message on a faulty line, or of a
+# mended line no more than that a label or a name of it isn't there.
 is_said() {
-    if [ "$told" = advice ]; then
+    case $told in
+    advice)
         [ "$(head -c 14 "$came.said")" = 'cicsrun: line ' ] && [ "$(wc -l < "$came.said")" -le 3 ]
-    else
+        ;;
+    mended) ! grep -v -e ' was never attached$' -e " isn't defined\$" "$came.said" > /dev/null ;;
+    *)
         [ -e "$told" ] || told=/dev/null
         cmp -s "$told" "$came.said"
-    fi
+        ;;
+    esac
 }
 
 # Writes what a run printed and said in place of what stands beside its script.
 accept_run() {
     case $way:$wanted in
     same:"$room"/*) ;;
-    same:*)
+    same:* | data:*)
+        [ "$way" = same ] || { page_data "$came" > "$room/data" && came=$room/data; }
         ! [ -s "$wanted" ] || [ -z "$(tail -c 1 -- "$wanted")" ] || chop=1
         cmp -s "$came" "$wanted" || {
             if [ -n "${chop-}" ]; then
@@ -106,7 +130,7 @@ accept_run() {
         ;;
     esac
     case $told in
-    advice | /dev/null | "$room"/*) ;;
+    advice | mended | /dev/null | "$room"/*) ;;
     *) cmp -s "$came.said" "$told" || {
         if [ -s "$came.said" ]; then cp -- "$came.said" "$told"; else rm -- "$told"; fi
         accepted=$((accepted + 1))
@@ -126,7 +150,7 @@ show_difference() {
     [ "$came_status" = "$status" ] || echo "  ended with status $came_status, wanted $status" >&2
     came=$whole
     is_printed || case $way in
-    same | unshown) diff -u -L wanted -L came "$room/left" "$room/right" >&2 ;;
+    same | unshown | data) diff -u -L wanted -L came "$room/left" "$room/right" >&2 ;;
     *) tail -n 3 "$came" >&2 ;;
     esac
     came=$whole
