@@ -34,13 +34,15 @@ pub struct Following {
     limits: BTreeMap<Name8, u64>,
     // What the command of the next line asks for, and the waiting commands.
     asked: Option<Command>,
-    waits: BTreeMap<Name8, Command>,
+    pub waits: BTreeMap<Name8, Command>,
     // How many entries of the history it has followed.
     followed: usize,
     /// The task whose wait began last, since `Viewer::rings_of` looked.
     pub began: Option<Name8>,
     /// Whether a wait has ended since then.
     pub has_ended: bool,
+    /// Whether a unit has ended since then.
+    pub unit_ended: bool,
     alloc: Global,
 }
 
@@ -171,6 +173,7 @@ impl Following {
             followed: 0,
             began: None,
             has_ended: false,
+            unit_ended: false,
             alloc,
         }
     }
@@ -230,6 +233,7 @@ impl Following {
         let Some(unit) = end(&mut self.units, label, acted, notes)? else {
             return Ok(());
         };
+        self.unit_ended = true;
         self.owners.end(&label, unit);
         settle(&mut self.cells, &label, acted.is_backed_out(unit))
     }

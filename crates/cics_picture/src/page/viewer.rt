@@ -8,7 +8,7 @@ use crate::page::following::Following;
 use crate::page::notes::{Cell, Change, Note};
 use cics_dispatch::deadlocks::deadlocks;
 use cics_dispatch::{Event, Region};
-use cics_names::{Items, Name8, NoMemory};
+use cics_names::{Items, Name8, NoMemory, Verb};
 use cics_script::{LineFault, read_line};
 use std::alloc::Global;
 use std::collections::BTreeSet;
@@ -133,12 +133,28 @@ impl Viewer {
         self.following.notes_of(event, region)
     }
 
+    // Returns whether a waiting READQ TD waits for itself, through others.
+    fn any_reader_leads_back(&self, region: &Region) -> Result<bool, NoMemory> {
+        for (label, command) in self.following.waits.iter() {
+            if matches!(command.verb, Verb::ReadqTd { .. })
+                && leads_back(self.alloc, region, *label)?
+            {
+                return Ok(true);
+            }
+        }
+        Ok(false)
+    }
+
     // Returns whether there may be other deadlocks than after the line before. Each new one has the
-    // task whose wait began.
+    // task whose wait began, or a READQ TD that waits for a writer once the unit of a reader ended.
     fn may_ring(&mut self, region: &Region) -> Result<bool, NoMemory> {
         let has_ended = mem::replace(&mut self.following.has_ended, false);
+        let unit_ended = mem::replace(&mut self.following.unit_ended, false);
         let began = self.following.began.take();
         if has_ended && !self.rings.is_empty() {
+            return Ok(true);
+        }
+        if unit_ended && self.any_reader_leads_back(region)? {
             return Ok(true);
         }
         match began {
@@ -151,8 +167,9 @@ impl Viewer {
     /// the one after the last event of the line.
     ///
     /// Errors: `NoMemory`. Cost: that of `Region::blockers` for each task that the one whose wait
-    /// began waits for, through others. If that leads back to it, also that of `deadlocks`; so if
-    /// there was a deadlock and a wait has ended.
+    /// began waits for, through others; so for each READQ TD that waits, if a unit has ended. If
+    /// that leads back to it, also that of `deadlocks`; so if there was a deadlock and a wait has
+    /// ended.
     pub fn rings_of(&mut self, region: &Region) -> Result<Items<Items<Name8>>, NoMemory> {
         let mut rings = Items::new(self.alloc);
         if !self.may_ring(region)? {
