@@ -233,8 +233,8 @@ fn tell_fault(rt: HostRuntime, mut script: &[u8], name: Option<&[u8]>) -> Result
     Ok(())
 }
 
-// Says on standard error what a run leaves a person to know: why conditions came up, what its faulty
-// line needs, its deadlocks and hints. Without memory for that it says nothing.
+// Says on standard error what a run leaves a person to know: why conditions came up, what its
+// faulty line needs, its deadlocks and hints. Without memory for that it says nothing, and fails.
 fn tell(
     rt: HostRuntime,
     session: &Session,
