@@ -49,8 +49,8 @@ pub fn units_have_bars()
         → list_any (is_bar_of lane unit) (finished (drawn (before ++ p ∷ after))).bars ≡ true }
 {}
 
-/// The bar of a unit of work goes from a little above the row at which its task acts in the line
-/// that begins the unit, to the row at which it acts in the line that ends it.
+/// The bar of a unit of work begins a little above a row: that at which its task acts in the line
+/// that begins the unit. It ends at the row at which its task acts in the line that ends it.
 pub fn bars_span_units()
     ensures { (before during : List Printed) (p q : Printed) (lane unit : ℕ)
         → Lives before p during q lane unit
