@@ -4,8 +4,8 @@
 accepted=0
 mkdir -p "$room/came"
 
-# Makes each run by the built program.
-run_built() {
+# Makes the runs of a list on standard input.
+run_some() {
     while IFS='|' read -r number _; do
         came=$room/came/$number
         set --
@@ -14,7 +14,17 @@ run_built() {
         done < "$room/cases/$number.args"
         "$program" "$@" < "$room/cases/$number" > "$came" 2> "$came.said"
         echo "$?" > "$came.status"
-    done < "$room/list"
+    done
+}
+
+# Makes each run by the program that was taken, as many side by side as there are processors.
+run_all() {
+    rm -rf -- "$room/came" "$room"/part.* && mkdir "$room/came" || stop 'no folder for the runs'
+    awk -v "parts=$(nproc)" -v "part=$room/part." '{ print > (part NR % parts) }' "$room/list"
+    for part in "$room"/part.*; do
+        run_some < "$part" &
+    done
+    wait
 }
 
 # Makes each run again, and reads a byte at a time.
@@ -26,32 +36,38 @@ read_by_bytes() {
 LD_PRELOAD='$room/streams' STREAMS_READ_MOST=1 exec '$program' "\$@"
 END
     chmod +x "$room/by-bytes"
-    program=$room/by-bytes run_built
+    program=$room/by-bytes run_all
 }
 
-# Makes each run by rt try, which compiles the sources once. It prints what each run prints behind a
-# line == NUMBER, and its status behind what it says.
-run_tried() {
+# Prints a script whose orders it takes hours to follow.
+endless() {
+    awk 'BEGIN {
+        for (task = 1; task <= 8; task++) print "ATTACH T" task " TRANSID(\047MOVE\047)"
+        for (row = 1; row <= 8; row++) for (task = 1; task <= 8; task++)
+            print "T" task " EXEC CICS WRITEQ TS QUEUE(\047Q" task "\047) FROM(\047" row "\047)"
+    }'
+}
+
+# Takes the program that rt try compiles, with checks. rt try itself needs two seconds for each run.
+# So it makes one alone, of a script that takes hours, and its program is copied meanwhile.
+take_tried() {
     command -v rt > /dev/null || stop 'rt, the command of the Rattle toolchain, is not on the PATH'
-    (cd -- "$root/crates/cicsrun" &&
-        rt try --steps 1 --seconds 86400 --cases "$room/cases") \
-        > "$room/printed" 2> "$room/reported"
-    grep -q '^cases=' "$room/reported" || {
-        tail -n 20 "$room/reported" >&2
-        stop 'rt try gave no answer, and says why above'
-    }
-    awk -v "came=$room/came/" '
-        /^== [0-9][0-9][0-9][0-9]$/ { close(to); to = came $2; printf "" > to; next }
-        to { print > to }' "$room/printed"
-    awk -v "came=$room/came/" '
-        /^case=[0-9]/ {
-            split($1, name, "="); split($3, status, "=")
-            print status[2] > (came name[2] ".status"); close(came name[2] ".status")
-            printf "%s", said > (came name[2] ".said"); close(came name[2] ".said")
-            said = ""
-            next
+    mkdir "$room/try" "$room/endless"
+    endless > "$room/endless/1"
+    echo --orders > "$room/endless/1.args"
+    (cd -- "$root/crates/cicsrun" && TMPDIR=$room/try exec rt try --steps 1 --seconds 20 \
+        --cases "$room/endless") > /dev/null 2> "$room/reported" &
+    # The program is whole when its run has a file for what it prints.
+    until begun=$(find "$room/try" -name stdout) && [ -n "$begun" ]; do
+        kill -0 "$!" 2> /dev/null || {
+            tail -n 20 "$room/reported" >&2
+            stop 'rt try gave no program, and says why above'
         }
-        !/^(interpreter|checked): / { said = said $0 "\n" }' "$room/reported"
+        sleep 1
+    done
+    program=$room/tried
+    cp -- "${begun%stdout}program" "$program" || stop 'the program of rt try was not copied'
+    wait
 }
 
 # Prints a file, with LF at its end.
