@@ -1,9 +1,9 @@
 -- Tables are read as functions of the index.
-use Rattle.std.proofs.Common.{◌≡◌, ◌<◌, ℕ, zero, suc, ◌+◌, ◌==◌, ◌&&◌, Bool, true, false, List, [], ◌∷◌, length, get_or, refl, ap, ◌∙◌, arith, zero-add}
+use Rattle.std.proofs.Common.{◌≡◌, ◌<◌, ℕ, zero, suc, ◌+◌, ◌==◌, ◌&&◌, ◌||◌, Bool, true, false, List, [], ◌∷◌, length, get_or, refl, ap, ◌∙◌, arith, zero-add}
 use Rattle.std.specs.Prelude.{not, nat_lt}
 use Rattle.std.proofs.lemmas.Bool.{and_parts}
 use Rattle.cics_names.specs.Ebcdic.{code_of}
-use Rattle.cics_script.specs.Tokens.{is_word_byte}
+use Rattle.cics_script.specs.Tokens.{is_word_byte, is_capital, is_digit}
 use Rattle.cics_script.specs.Literals.{is_plain, ebcdic}
 use Rattle.cics_script.specs.declared.literals.TheConstants.{CLASSES, EBCDIC}
 
@@ -46,6 +46,10 @@ alike-eq false false e = refl
 pub read-word : (n : ℕ) → n < 256 → nat_lt 1 (get_or CLASSES n 0) ≡ is_word_byte n
 unfolding tells
 read-word n within = table_read (λ n. nat_lt 1 n) alike alike-eq is_word_byte CLASSES 0 refl n within
+
+pub read-label : (n : ℕ) → n < 256 → nat_lt 2 (get_or CLASSES n 0) ≡ (is_capital n || is_digit n)
+unfolding tells
+read-label n within = table_read (λ n. nat_lt 2 n) alike alike-eq (λ c. is_capital c || is_digit c) CLASSES 0 refl n within
 
 pub read-plain : (n : ℕ) → n < 256 → not (get_or CLASSES n 0 == 0) ≡ is_plain n
 unfolding tells code_of

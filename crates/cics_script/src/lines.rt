@@ -8,7 +8,7 @@ ghost use Rattle.cics_script.specs.Faults.{◌>>=◌ as ◌and_next◌, Reads};
 ghost use Rattle.cics_script.specs.Tokens.{capital, tokens, is_capital, is_digit};
 ghost use Rattle.cics_script.specs.Words.{commands, lookup, starts};
 ghost use Rattle.cics_script.specs.Views.{entries, GivesWord, GivesVerb, GivesRest};
-ghost use Rattle.cics_script.specs.Views.{IsNamed};
+ghost use Rattle.cics_script.specs.Views.{IsNamed, Takes};
 ghost use Rattle.cics_script.specs.Values.{needed};
 ghost use Rattle.cics_script.specs.Lines.{recovery_in, queue_recovery_in, definition_in, load_in};
 ghost use Rattle.cics_script.specs.Lines.{word_first, behind, label_in, define, load, attach};
@@ -19,7 +19,9 @@ ghost use Rattle.cics_script.specs.Lines.{is_script_byte, line};
 use crate::commands::{is_handled, verb_of};
 use crate::faults::LineFault;
 use crate::options::{Found, Options, has_option, read_options, skip_one_blank};
-use crate::tokens::{Token, begins_with, named, next_token, next_word, skip_blanks};
+use crate::tokens::{
+    Token, begins_with, is_in_label, named, next_token, next_value, next_word, skip_blanks,
+};
 use crate::values::{name4_of, name8_of, needed, number_of, text_of};
 use crate::words::{
     CommandWord, DefineObject, Form, LoadObject, OptionWord, Start, capital_of, command_named,
@@ -161,6 +163,17 @@ fn skip_word<'a>(bytes: &'a [u8], wanted: &[u8]) -> Result<&'a [u8], LineFault>
     }
 }
 
+// Returns whether a word has capitals and digits alone. No early end: there is one branch for all.
+fn is_in_capitals(word: &[u8]) -> bool
+    ensures { result ≡ list_all (λ c. is_capital c || is_digit c) word.now }
+{
+    let mut all = true;
+    for byte in word {
+        all &= is_in_label(*byte);
+    }
+    all
+}
+
 // Writes the capitals of a word over the start of a text. Returns whether all are letters or
 // digits.
 fn put_capitals(text: &mut [u8; LABEL], word: &[u8]) -> bool
@@ -172,9 +185,24 @@ fn put_capitals(text: &mut [u8; LABEL], word: &[u8]) -> bool
     for (i, byte) in word.iter().enumerate() {
         let letter = capital_of(*byte);
         text[i] = letter;
-        all &= letter.is_ascii_uppercase() || letter.is_ascii_digit();
+        all &= is_in_label(letter);
     }
     all
+}
+
+// Returns the label that a word of at most eight bytes is, which may have small letters.
+#[cold]
+#[inline(never)]
+fn small_label_of(word: &[u8]) -> Result<Name8, LineFault>
+    requires starts { lookup (map capital word.now) starts ≡ None }
+    requires short { length word.now ≤ 8 }
+    ensures { result ≡ label_in (map capital word.now) }
+{
+    let mut capitals = [0; LABEL];
+    if !put_capitals(&mut capitals, word) {
+        return Err(LineFault::UnknownWord);
+    }
+    Name8::new(&capitals[..word.len()]).or(Err(LineFault::UnknownWord))
 }
 
 // Returns the label that a word is, which is none of `Start`: at most eight letters and digits.
@@ -185,11 +213,11 @@ fn label_of(word: &[u8]) -> Result<Name8, LineFault>
     if word.len() > LABEL {
         return Err(LineFault::UnknownWord);
     }
-    let mut capitals = [0; LABEL];
-    if !put_capitals(&mut capitals, word) {
-        return Err(LineFault::UnknownWord);
+    // Most labels have no small letter.
+    if is_in_capitals(word) {
+        return Name8::new(word).or(Err(LineFault::UnknownWord));
     }
-    Name8::new(&capitals[..word.len()]).or(Err(LineFault::UnknownWord))
+    small_label_of(word)
 }
 
 // Reads a DEFINE line, from after its first word.
@@ -220,26 +248,38 @@ fn read_load(alloc: Global, bytes: &[u8]) -> Result<Line, LineFault>
 fn read_attach(alloc: Global, bytes: &[u8]) -> Result<Line, LineFault>
     ensures { Reads (attach (tokens bytes.now)) result }
 {
+    // First, so that its room is cleared once.
+    let mut found = Options::new();
     let (word, rest) = first_word(bytes)?;
     if start_of(word).is_some() {
         return Err(LineFault::UnknownWord);
     }
     let label = label_of(word)?;
-    let mut found = Options::new();
     read_options(alloc, Form::Attach, rest, &mut found)?;
     let transaction = needed(name4_of(&found, OptionWord::Transid))?;
     let dtimout = number_of(&found, OptionWord::Dtimout).unwrap_or(0);
     Ok(Line::Attach(label, transaction, dtimout))
 }
 
+// Returns the same as `next_token`. Most numbers stand right behind one space.
+fn next_number(bytes: &[u8]) -> Result<Option<(Token<'_>, &[u8])>, LineFault>
+    ensures { Takes bytes.now result }
+{
+    match next_value(skip_one_blank(bytes)) {
+        Some(found) => Ok(Some(found)),
+        None => next_token(bytes),
+    }
+}
+
 // Reads a CLOCK line, from after its first word.
 fn read_clock(alloc: Global, bytes: &[u8]) -> Result<Line, LineFault>
     ensures { Reads (clock (tokens bytes.now)) result }
 {
-    let Some((Token::Number(seconds), rest)) = next_token(bytes)? else {
+    // First, so that its room is cleared once.
+    let mut found = Options::new();
+    let Some((Token::Number(seconds), rest)) = next_number(bytes)? else {
         return Err(LineFault::BadNumber);
     };
-    let mut found = Options::new();
     read_options(alloc, Form::Clock, rest, &mut found)?;
     Ok(Line::Clock(seconds))
 }
@@ -330,10 +370,11 @@ fn skip_exec_cics(bytes: &[u8]) -> Result<&[u8], LineFault>
 fn read_issue(alloc: Global, label: Name8, bytes: &[u8]) -> Result<Line, LineFault>
     ensures { Reads (issue label (tokens bytes.now)) result }
 {
+    // First, so that its room is cleared once.
+    let mut found = Options::new();
     let behind_cics = skip_exec_cics(bytes)?;
     let (verb, rest) = first_verb(behind_cics)?;
     let (command, behind) = placed_command(verb, rest);
-    let mut found = Options::new();
     read_options(alloc, Form::Command(command), behind, &mut found)?;
     let verb = verb_of(alloc, command, &found)?;
     let resp = is_handled(&found);

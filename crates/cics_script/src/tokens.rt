@@ -8,10 +8,10 @@
 
 ghost use Rattle.std.specs.Prelude.{◌≡◌, ◌==◌, ◌+◌, ◌-◌, ◌*◌, ◌<◌, ◌≤◌, ◌^◌, Option, Some, None};
 ghost use Rattle.std.specs.Prelude.{ℕ, List};
-ghost use Rattle.std.specs.Prelude.{Ok, IfSome, true, ◌++◌, drop, length, nat_lt, if◌then◌else◌};
+ghost use Rattle.std.specs.Prelude.{Ok, IfSome, true, ◌||◌, ◌++◌, drop, length, nat_lt, if◌then◌else◌};
 ghost use Rattle.std.specs.Prelude.{option_map};
 ghost use Rattle.std.specs.List.{prefix_len};
-ghost use Rattle.cics_script.specs.Tokens.{is_blank, is_digit, is_letter, is_word_byte};
+ghost use Rattle.cics_script.specs.Tokens.{is_blank, is_capital, is_digit, is_letter, is_word_byte};
 ghost use Rattle.cics_script.specs.Tokens.{after_blanks, value_of, text_in, token_at, number_at};
 ghost use Rattle.cics_script.specs.Tokens.{as_literal, behind_x};
 ghost use Rattle.cics_script.specs.Layout.{ends, is_word};
@@ -45,11 +45,18 @@ fn is_letter_byte(byte: u8) -> bool
     byte.is_ascii_alphabetic()
 }
 
-// Returns whether a byte has class 2.
+// Returns whether a byte has class 2 or 3.
 fn is_in_word(byte: u8) -> bool
     ensures { result ≡ is_word_byte byte }
 {
     CLASSES[usize::from(byte)] > 1
+}
+
+/// Returns whether a byte is a capital or a digit.
+pub fn is_in_label(byte: u8) -> bool
+    ensures { result ≡ (is_capital byte || is_digit byte) }
+{
+    CLASSES[usize::from(byte)] > 2
 }
 
 fn blanks_len(bytes: &[u8]) -> usize
@@ -225,7 +232,8 @@ pub fn next_word(bytes: &[u8]) -> Option<(&[u8], &[u8])>
 }
 
 /// Returns the next token and the line after it, if it is a quoted literal or a number with no
-/// blank before it. `None` decides nothing.
+/// blank before it. `None` decides nothing. Inlined: each value in parentheses passes through it.
+#[inline(always)]
 pub fn next_value(bytes: &[u8]) -> Option<(Token<'_>, &[u8])>
     ensures { IfSome result (λ found. Takes bytes.now (Ok (Some found))) }
 {
