@@ -60,6 +60,12 @@ pub const NO_VERB: &str = "% is no command of the script (docs/LANGUAGE.md)";
 
 pub const NO_VERB_BUT: &str = "% is no command of the script: did you mean $?";
 
+pub const LITERAL_OF: &str = "a literal stands in the parentheses of its option+";
+
+pub const NO_CODE: &str = "an abend's code stands in its option, as ABCODE('%')";
+
+pub const NO_LITERAL: &str = "a literal stands only in the parentheses of an option";
+
 pub const ITEM_NUMBER: &str = "ITEM takes a number beside REWRITE, as ITEM(1)";
 
 pub const NO_PARENTHESES: &str = "$ takes no parentheses";
@@ -93,17 +99,21 @@ pub static EXAMPLES: [(&str, &str); 13] = [
     ("ABCODE", "('BAL9')"),
 ];
 
+/// The options of which one is meant by a literal without an option.
+pub static OF_LITERALS: [&str; 2] = ["RIDFLD", "FROM"];
+
 /// Words that are no verbs of the script, or none, and what to write instead.
-pub static NO_VERBS: [(&str, &str); 12] = [
+pub static NO_VERBS: [(&str, &str); 17] = [
     ("", "a verb has to stand here: a command is one line"),
     ("END-EXEC", "a verb has to stand here"),
     ("HANDLE IGNORE PUSH POP", "% !: use RESP or NOHANDLE"),
     ("LINK XCTL LOAD", "% !: write the commands of the program"),
     ("START RETRIEVE CANCEL", "% !: begin a task by ATTACH"),
     (
-        "DELAY WAIT POST ASKTIME FORMATTIME",
-        "% !: move the clock by CLOCK",
+        "DELAY WAIT POST",
+        "% !: a line CLOCK 30 sets the clock to 30 seconds",
     ),
+    ("ASKTIME FORMATTIME", "% !: leave it out"),
     ("SUSPEND", "% !: the order of the lines is the schedule"),
     (
         "SEND RECEIVE CONVERSE GETMAIN FREEMAIN ASSIGN ADDRESS RELEASE JOURNAL DUMP",
@@ -111,6 +121,16 @@ pub static NO_VERBS: [(&str, &str); 12] = [
     ),
     ("ROLLBACK", "% is an option: write SYNCPOINT ROLLBACK"),
     ("COMMIT", "% is written SYNCPOINT"),
+    ("END", "% is written RETURN, or ENDBR for a browse"),
+    ("STOP EXIT", "% is written RETURN"),
+    (
+        "UPDATE",
+        "% is an option: write READ with UPDATE, then REWRITE",
+    ),
+    (
+        "BROWSE",
+        "% is written STARTBR, then READNEXT or READPREV, then ENDBR",
+    ),
     (
         "SELECT GET FETCH",
         "% is no command of the script: did you mean READ?",
@@ -122,18 +142,49 @@ pub static NO_VERBS: [(&str, &str); 12] = [
 ];
 
 /// Words that are no options of the script, and what to write instead.
-pub static NO_OPTIONS: [(&str, &str); 4] = [
+pub static NO_OPTIONS: [(&str, &str); 11] = [
     (
         "SET",
         "% isn't modelled: write INTO(AREA) in its place, or nothing",
     ),
-    ("RECOVERY", "% is written RECOVERABLE or UNRECOVERABLE"),
-    ("RECOVSTATUS", "% is written LOGICAL, PHYSICAL or NONE"),
+    (
+        "RECOVERY LOG",
+        "no % stands here: a FILE is RECOVERABLE or UNRECOVERABLE, a TDQUEUE LOGICAL or not",
+    ),
+    (
+        "RECOVSTATUS",
+        "in place of %(..) write LOGICAL, PHYSICAL or NONE alone",
+    ),
+    (
+        "LOCK EXCLUSIVE",
+        "% is no option: READ with UPDATE locks a record, ENQ a value",
+    ),
+    ("RBA RRN", "% isn't modelled: RIDFLD is a key"),
+    (
+        "TASK",
+        "% isn't modelled: an ENQ lasts to the end of its unit",
+    ),
+    (
+        "TOKEN REQID MAXLIFETIME NUMITEMS SYSID COMMAREA MASSINSERT TRIGGERLEVEL",
+        "% isn't modelled: leave it out",
+    ),
     ("KEYS", "% is written KEYLENGTH(6) and KEYOFFSET(0)"),
+    (
+        "FOR WITH",
+        "no % stands here: an option stands alone, as UPDATE",
+    ),
+    (
+        "COMMIT",
+        "no % stands here: SYNCPOINT and RETURN commit by themselves",
+    ),
+    (
+        "PREV PREVIOUS",
+        "% is no option: READPREV reads a file back in a browse",
+    ),
 ];
 
 /// Options that stand elsewhere: the verbs or objects that lack them, and what to write.
-pub static ELSEWHERE: [(&str, &str, &str); 4] = [
+pub static ELSEWHERE: [(&str, &str, &str); 7] = [
     (
         "WRITE REWRITE WRITEQ",
         "INTO",
@@ -149,11 +200,30 @@ pub static ELSEWHERE: [(&str, &str, &str); 4] = [
         "RECOVERABLE UNRECOVERABLE",
         "& has no option %: write LOGICAL, PHYSICAL or NONE",
     ),
-    ("RETURN", "TRANSID", "& % isn't modelled (docs/LANGUAGE.md)"),
+    (
+        "RETURN",
+        "TRANSID",
+        "& % isn't modelled: write SYNCPOINT with this label, or RETURN if it is the last",
+    ),
+    (
+        "REWRITE",
+        "RIDFLD",
+        "& has no option %: it rewrites the record that READ with UPDATE read",
+    ),
+    (
+        "LOAD",
+        "RIDFLD",
+        "& has no option %: a file's key stands in FROM",
+    ),
+    (
+        "READ",
+        "NEXT",
+        "& has no option %: READNEXT reads on in a browse, which STARTBR starts",
+    ),
 ];
 
 /// Words of other languages and products, and the option that stands for them.
-pub static MEANT: [(&str, &str); 7] = [
+pub static MEANT: [(&str, &str); 8] = [
     ("KEY RECKEY", "RIDFLD"),
     ("QNAME", "QUEUE"),
     ("DSNAME DDNAME DSN", "FILE"),
@@ -161,6 +231,7 @@ pub static MEANT: [(&str, &str); 7] = [
     ("TRANSACTION", "TRANSID"),
     ("TIMEOUT", "DTIMOUT"),
     ("NOWAIT", "NOSUSPEND"),
+    ("CODE", "ABCODE"),
 ];
 
 /// Signs that begin no token, and what to do about them. The first row that fits counts.
@@ -248,10 +319,11 @@ pub static CODES: [(u8, u8); 11] = [
 ];
 
 /// What has to stand behind the first word of a line, or in its place.
-pub static SECOND: [(&str, &str); 8] = [
+pub static SECOND: [(&str, &str); 9] = [
+    ("SET", "only the clock can be set, as CLOCK 30"),
     (
         "DEFINE",
-        "DEFINE defines a FILE, a TDQUEUE, or by TSPREFIX recoverable queues of temporary storage",
+        "DEFINE defines a FILE, a TDQUEUE, or by TSPREFIX recoverable TS queues: others need no line",
     ),
     ("LOAD", "LOAD loads a record into a FILE or a TDQUEUE"),
     (

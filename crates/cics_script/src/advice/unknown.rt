@@ -1,13 +1,14 @@
 //! What is told of a word that isn't known where it stands.
 
 use crate::advice::context::{Context, is_one, is_word};
-use crate::advice::filling::{Told, text_on};
+use crate::advice::filling::{Told, subject_of, text_on};
 use crate::advice::meant::{meant_option, meant_start, meant_verb};
 use crate::advice::tables::{
-    COMMENT, JOURNAL_LINE, NO_CICS, NO_COMMAND, NO_COMMAND_BUT, NO_LINE, NO_OPTION, NO_OPTION_BUT,
-    NO_OPTIONS, NO_PARENTHESES, NO_VERB, NO_VERB_BUT, NO_VERBS, SECOND, SIGNS,
+    COMMENT, JOURNAL_LINE, LITERAL_OF, NO_CICS, NO_CODE, NO_COMMAND, NO_COMMAND_BUT, NO_LINE,
+    NO_LITERAL, NO_OPTION, NO_OPTION_BUT, NO_OPTIONS, NO_PARENTHESES, NO_VERB, NO_VERB_BUT,
+    NO_VERBS, OF_LITERALS, SECOND, SIGNS,
 };
-use crate::advice::values::is_broken;
+use crate::advice::values::{is_broken, is_quoted};
 use crate::words::{option_named, option_word, start_of};
 use cics_names::NoMemory;
 use std::alloc::Global;
@@ -66,16 +67,36 @@ fn of_verb<'a>(alloc: Global, context: &Context<'a>) -> Result<Told<'a>, NoMemor
     })
 }
 
+// Returns the text for a literal outside parentheses. Meant is the first option of those that take
+// one and don't stand in front of it.
+fn of_literal<'a>(context: &Context<'a>) -> Told<'a> {
+    for option in &OF_LITERALS {
+        if context.kind_of(option.as_bytes()).is_some() && !context.has_one(option) {
+            return (LITERAL_OF, option.as_bytes());
+        }
+    }
+    (NO_LITERAL, &[])
+}
+
+// Returns whether a word may be the code of an ABEND that has none.
+fn lacks_code(context: &Context<'_>) -> bool {
+    is_word(subject_of(context), "ABEND") && context.token.len() <= 4 && !context.has_one("ABCODE")
+}
+
 // Returns the text for a word that is no option.
 fn of_option<'a>(alloc: Global, context: &Context<'a>) -> Result<Told<'a>, NoMemory> {
     if let Some(text) = text_on(&NO_OPTIONS, context.token) {
         return Ok((text, &[]));
+    }
+    if is_quoted(context.token) {
+        return Ok(of_literal(context));
     }
     let Some(form) = context.form() else {
         return Ok((NO_OPTION, &[]));
     };
     Ok(match meant_option(alloc, form, context.token)? {
         Some(option) => (NO_OPTION_BUT, option_word(option).as_bytes()),
+        None if lacks_code(context) => (NO_CODE, &[]),
         None => (NO_OPTION, &[]),
     })
 }

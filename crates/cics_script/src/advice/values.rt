@@ -41,8 +41,8 @@ impl<'a> Split<'a> {
     }
 }
 
-// Returns whether a token is a literal in quotes.
-fn is_quoted(token: &[u8]) -> bool {
+/// Returns whether a token is a literal in quotes.
+pub fn is_quoted(token: &[u8]) -> bool {
     token.first() == Some(&b'\'')
 }
 
