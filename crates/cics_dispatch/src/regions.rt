@@ -248,6 +248,7 @@ impl Region {
     ///
     /// Cost: O(1) if it last returned `None`, and since then no command began to wait, no task
     /// expired, and no blocker may have released something.
+    #[inline(never)]
     pub fn wake(&mut self) -> Result<Option<Woken>, Refused>
         ensures step { IsStep true self.old (always (woken self.old.machine)) result self.new }
         ensures first { IfOk result (λ woken.
@@ -280,6 +281,7 @@ impl Region {
     /// Cost: O(1) if it last returned `None` and `set_clock` wasn't called since. Else O(log waits)
     /// to find the task, or O(waits) if it can only be one that began to wait since the last
     /// `wake`.
+    #[inline(never)]
     pub fn expire(&mut self) -> Option<Expired>
         ensures outcome { result ≡ (expired self.old.machine).outcome }
         ensures machine { self.new.machine ≡ (expired self.old.machine).machine }

@@ -161,6 +161,10 @@ impl Waits {
         ensures wait { option_copied result ≡ wait_of self.now label.now }
         ensures once { AreApart self.now }
     {
+        // Mostly none waits: then no label is looked up.
+        if self.rows.len() == 0 {
+            return None;
+        }
         let number = self.numbers.get(label)?;
         self.rows.get(number)
     }
