@@ -100,7 +100,7 @@ abbrev pub are_reads_amiss : Option Watched → Bool
 are_reads_amiss None = false
 are_reads_amiss (Some w) = are_amiss w
 
--- no line of the script is printed, and only abends by a condition and commands of no task are told
+-- no line of the script is printed, and of events only those are told that any run tells
 abbrev pub plain : Options → Form
 plain options = record { with_script = false; reads = false; ending = λ stage watched. with_reads (listed options stage) watched; scope = record { strict = false; why = false } }
 

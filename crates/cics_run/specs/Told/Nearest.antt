@@ -33,28 +33,36 @@ or_near places name (Some found) e = Some found
 or_near places name None e = if is_near places name e.0 then Some e.0 else None
 
 -- the first such key
-abbrev pub nearest_key : {X : Type 0} → ℕ → Bytes → Map X → Option Bytes
-nearest_key places name m = fold (or_near places name) None m
-
--- a label, if it differs from another one in one place at most
-abbrev pub if_near : Bytes → Option Bytes → Option Bytes
-if_near label None = None
-if_near label (Some other) = if is_near 2 label other then Some other else None
-
--- that of the task of a number
-abbrev pub near_at : Machine → Bytes → ℕ → Option Bytes
-near_at m label number = if_near label (label_at m.tasks number)
+abbrev pub first_near : {X : Type 0} → ℕ → Bytes → Map X → Option Bytes
+first_near places name m = fold (or_near places name) None m
 
 -- the first of two
 abbrev pub or_next : Option Bytes → Option Bytes → Option Bytes
 or_next None next = next
 or_next (Some first) next = Some first
 
+-- the first key that is the name, capitals or not, or else the first that differs in one place
+unfoldable pub nearest_key : {X : Type 0} → Bytes → Map X → Option Bytes
+nearest_key name m = or_next (first_near 1 name m) (first_near 2 name m)
+
+-- a label, if it differs from another one in fewer places than these
+abbrev pub if_near : ℕ → Bytes → Option Bytes → Option Bytes
+if_near places label None = None
+if_near places label (Some other) = if is_near places label other then Some other else None
+
+-- that of the task of a number
+abbrev pub near_at : Machine → ℕ → Bytes → ℕ → Option Bytes
+near_at m places label number = if_near places label (label_at m.tasks number)
+
 -- the first below a number
-abbrev pub nearest_below : Machine → Bytes → ℕ → Option Bytes
-nearest_below m label zero = None
-nearest_below m label (suc n) = or_next (nearest_below m label n) (near_at m label n)
+abbrev pub near_below : Machine → ℕ → Bytes → ℕ → Option Bytes
+near_below m places label zero = None
+near_below m places label (suc n) = or_next (near_below m places label n) (near_at m places label n)
 
 -- the first of all
+abbrev pub first_near_label : Machine → ℕ → Bytes → Option Bytes
+first_near_label m places label = near_below m places label (length m.tasks)
+
+-- the first label that is this one, capitals or not, or else the first that differs in one place
 abbrev pub nearest_label : Machine → Bytes → Option Bytes
-nearest_label m label = nearest_below m label (length m.tasks)
+nearest_label m label = or_next (first_near_label m 1 label) (first_near_label m 2 label)

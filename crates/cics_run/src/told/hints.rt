@@ -12,7 +12,7 @@ use std::alloc::Global;
 // How many lines with RESP2 alone are kept.
 const ENOUGH: usize = 64;
 
-/// Keeps the number of a line whose command has RESP2 alone, if a condition came up: at most 64.
+/// Keeps the number of a line whose command has RESP2 alone, if its condition is told: at most 64.
 pub fn keep_alone(
     numbers: &mut Vec<u64>,
     number: u64,
@@ -26,11 +26,17 @@ pub fn keep_alone(
     Ok(())
 }
 
-// Appends a line on a queue of transient data, if temporary storage has a queue of its name.
-fn push_namesake(out: &mut Vec<u8>, region: &Region, queue: &Name4) -> Result<(), NoMemory> {
-    let mut text = Vec::new(*out.allocator());
-    push_bare(&mut text, &queue.bytes())?;
-    match Name8::new(&text) {
+// Appends a line on a queue of transient data, if temporary storage has a queue of its name. `text`
+// is room for the name.
+fn push_namesake(
+    out: &mut Vec<u8>,
+    region: &Region,
+    queue: &Name4,
+    text: &mut Vec<u8>,
+) -> Result<(), NoMemory> {
+    text.clear();
+    push_bare(text, &queue.bytes())?;
+    match Name8::new(text) {
         Ok(name) if region.units().item_count(&name) > 0 => {
             push_str(out, "cicsrun: ")?;
             push_bare(out, &queue.bytes())?;
@@ -50,8 +56,9 @@ pub fn hints_of(
     file: Option<&[u8]>,
 ) -> Result<Vec<u8>, NoMemory> {
     let mut hints = Vec::new(alloc);
+    let mut text = Vec::new(alloc);
     for (queue, _) in region.units().opening().queues().iter() {
-        push_namesake(&mut hints, region, queue)?;
+        push_namesake(&mut hints, region, queue, &mut text)?;
     }
     for line in &session.journal.alone {
         push_place(&mut hints, Origin { file, line: *line }, None)?;

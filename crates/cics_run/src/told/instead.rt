@@ -1,4 +1,4 @@
-//! What stands in place of a name that isn't there.
+//! What is suggested for a name that isn't there.
 
 ghost use Rattle.std.specs.Prelude.{◌≡◌, ◌++◌, OnOk};
 ghost use Rattle.std.specs.Option.{option_copied};
@@ -7,12 +7,12 @@ ghost use Rattle.cics_run.specs.Told.Instead.{instead_of_queue, instead_of_file,
 ghost use Rattle.cics_run.specs.Told.Instead.{instead_in};
 
 use crate::stage::Stage;
-use crate::told::nearest::{nearest_file, nearest_queue};
+use crate::told::nearest::{nearest_file, nearest_queue, same_queue};
 use cics_names::{Condition, Name4, Name8, NoMemory, Verb};
 use cics_script::spelling::{push_bare, push_str};
 use cics_units::Opening;
 
-/// Appends the label or the file that stands in place of another one, if there is one, and what is
+/// Appends the label or the file that is suggested for another one, if there is one, and what is
 /// told of it.
 pub fn push_instead(out: &mut Vec<u8>, name: Option<Name8>, behind: &str) -> Result<(), NoMemory>
     ensures { OnOk result (out.new.items ≡ out.old.items ++ instead_text name behind.now) }
@@ -25,7 +25,7 @@ pub fn push_instead(out: &mut Vec<u8>, name: Option<Name8>, behind: &str) -> Res
     push_str(out, behind)
 }
 
-// Appends the queue that stands in place of another one, if there is one, and what is told of it.
+// Appends the queue that is suggested for another one, if there is one, and what is told of it.
 fn push_instead_queue(out: &mut Vec<u8>, name: Option<Name4>, behind: &str) -> Result<(), NoMemory>
     ensures { OnOk result (out.new.items ≡ out.old.items ++ instead_text name behind.now) }
 {
@@ -53,26 +53,26 @@ pub fn meant_queue(opening: &Opening, verb: &Verb) -> Option<Name4>
 {
     match verb {
         Verb::WriteqTs { queue, .. } | Verb::ReadqTs { queue, .. } | Verb::DeleteqTs { queue } => {
-            nearest_queue(opening, 1, &queue.bytes())
+            same_queue(opening, &queue.bytes())
         }
         _ => None,
     }
 }
 
-// Appends what stands in place of the queue that a command names.
+// Appends what is suggested for the queue that a command names.
 fn push_instead_of_queue(out: &mut Vec<u8>, opening: &Opening, verb: &Verb) -> Result<(), NoMemory>
     ensures { OnOk result (out.new.items
         ≡ out.old.items ++ instead_of_queue opening.now verb.now) }
 {
     match verb {
         Verb::WriteqTd { queue, .. } | Verb::ReadqTd { queue, .. } | Verb::DeleteqTd { queue } => {
-            push_instead_queue(out, nearest_queue(opening, 2, &queue.bytes()), " is")
+            push_instead_queue(out, nearest_queue(opening, &queue.bytes()), " is")
         }
         _ => push_instead_queue(out, meant_queue(opening, verb), meant_words()),
     }
 }
 
-// Appends what stands in place of the file that a command names.
+// Appends what is suggested for the file that a command names.
 fn push_instead_of_file(
     out: &mut Vec<u8>,
     opening: &Opening,

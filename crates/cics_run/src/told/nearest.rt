@@ -1,9 +1,11 @@
 //! Names that are almost another one.
 
 ghost use Rattle.std.specs.Prelude.{◌≡◌, length};
+ghost use Rattle.cics_units.specs.Opening.RegionFiles.{opened_files};
+ghost use Rattle.cics_units.specs.Opening.RegionQueues.{opened_queues};
 ghost use Rattle.cics_run.specs.Told.Nearest.{capital, capital_at, differences, is_near, near_at};
-ghost use Rattle.cics_run.specs.Told.Nearest.{or_next, nearest_below, nearest_label};
-ghost use Rattle.cics_run.specs.Told.Instead.{nearest_file, nearest_queue};
+ghost use Rattle.cics_run.specs.Told.Nearest.{or_next, first_near, first_near_label, nearest_label};
+ghost use Rattle.cics_run.specs.Told.Instead.{nearest_file, nearest_queue, same_queue};
 
 use cics_dispatch::Region;
 use cics_names::{Name4, Name8};
@@ -53,62 +55,107 @@ fn is_near(places: usize, one: &[u8], other: &[u8]) -> bool
     differences(one, other) < places
 }
 
-// Returns the label of the task of a number, if it differs from another one in one place at most.
-fn near_at(region: &Region, label: &Name8, number: usize) -> Option<Name8>
-    ensures { result ≡ near_at region.now.machine label.now number }
+// Returns the label of the task of a number, if it differs from another one in fewer places than
+// these.
+fn near_at(region: &Region, places: usize, label: &Name8, number: usize) -> Option<Name8>
+    ensures { result ≡ near_at region.now.machine places label.now number }
 {
     let other = region.label_at(number)?;
-    if is_near(2, &label.bytes(), &other.bytes()) {
+    if is_near(places, &label.bytes(), &other.bytes()) {
         Some(other)
     } else {
         None
     }
 }
 
-/// Returns the first label that a task was attached with and that differs from this one in one
-/// place at most. Labels are filled up with blanks, so one may have a character more.
+// Returns the first label that a task was attached with and that differs from this one in fewer
+// places than these.
+fn first_near_label(region: &Region, places: usize, label: &Name8) -> Option<Name8>
+    ensures { result ≡ first_near_label region.now.machine places label.now }
+{
+    let mut found = None;
+    for number in 0..region.task_count() {
+        if found.is_none() {
+            found = near_at(region, places, label, number);
+        }
+    }
+    found
+}
+
+/// Returns the first label that a task was attached with and that is this one, capitals or not, or
+/// else the first that differs from it in one place. Labels are filled up with blanks, so one may
+/// have a character more.
 ///
 /// Cost: O(tasks).
 pub fn nearest_label(region: &Region, label: &Name8) -> Option<Name8>
     ensures { result ≡ nearest_label region.now.machine label.now }
 {
-    let mut nearest = None;
-    for number in 0..region.task_count() {
-        if nearest.is_none() {
-            nearest = near_at(region, label, number);
-        }
+    match first_near_label(region, 1, label) {
+        Some(same) => Some(same),
+        None => first_near_label(region, 2, label),
     }
-    nearest
 }
 
-/// Returns the first defined file whose name differs from this one in one place at most, capitals
-/// or not.
+// Returns the first defined file whose name differs from this one in fewer places than these.
+fn first_near_file(opening: &Opening, places: usize, name: &Name8) -> Option<Name8>
+    ensures { result ≡ first_near places name.now (opened_files opening.now.files) }
+{
+    let mut found = None;
+    for (other, _) in opening.files().iter() {
+        if found.is_none() && is_near(places, &name.bytes(), &other.bytes()) {
+            found = Some(*other);
+        }
+    }
+    found
+}
+
+/// Returns the first defined file whose name is this one, capitals or not, or else the first whose
+/// name differs in one place.
 ///
 /// Cost: O(files).
+#[tactic(auto, unfolding(crate::specs::Told::Nearest::nearest_key))]
 pub fn nearest_file(opening: &Opening, name: &Name8) -> Option<Name8>
     ensures { result ≡ nearest_file opening.now name.now }
 {
-    let mut nearest = None;
-    for (other, _) in opening.files().iter() {
-        if nearest.is_none() && is_near(2, &name.bytes(), &other.bytes()) {
-            nearest = Some(*other);
-        }
+    match first_near_file(opening, 1, name) {
+        Some(same) => Some(same),
+        None => first_near_file(opening, 2, name),
     }
-    nearest
 }
 
-/// Returns the first defined queue of transient data whose name differs from this one in fewer
-/// places than these, capitals or not.
-///
-/// Cost: O(queues).
-pub fn nearest_queue(opening: &Opening, places: usize, name: &[u8]) -> Option<Name4>
-    ensures { result ≡ nearest_queue opening.now places name.now }
+// Returns the first defined queue of transient data whose name differs from this one in fewer
+// places than these.
+fn first_near_queue(opening: &Opening, places: usize, name: &[u8]) -> Option<Name4>
+    ensures { result ≡ first_near places name.now (opened_queues opening.now.queues) }
 {
-    let mut nearest = None;
+    let mut found = None;
     for (other, _) in opening.queues().iter() {
-        if nearest.is_none() && is_near(places, name, &other.bytes()) {
-            nearest = Some(*other);
+        if found.is_none() && is_near(places, name, &other.bytes()) {
+            found = Some(*other);
         }
     }
-    nearest
+    found
+}
+
+/// Returns the first defined queue of transient data whose name is this one, capitals or not.
+///
+/// Cost: O(queues).
+pub fn same_queue(opening: &Opening, name: &[u8]) -> Option<Name4>
+    ensures { result ≡ same_queue opening.now name.now }
+{
+    first_near_queue(opening, 1, name)
+}
+
+/// Returns the first defined queue of transient data whose name is this one, capitals or not, or else
+/// the first whose name differs in one place.
+///
+/// Cost: O(queues).
+#[tactic(auto, unfolding(crate::specs::Told::Nearest::nearest_key))]
+pub fn nearest_queue(opening: &Opening, name: &[u8]) -> Option<Name4>
+    ensures { result ≡ nearest_queue opening.now name.now }
+{
+    match same_queue(opening, name) {
+        Some(same) => Some(same),
+        None => first_near_queue(opening, 2, name),
+    }
 }

@@ -129,8 +129,7 @@ fn push_stage(out: &mut Vec<u8>, session: &Session, file: Option<&[u8]>) -> Resu
 /// `kept` of `run_over` says that it has the remarks, and the region in which the script's lines
 /// ended.
 ///
-/// Errors: `NoMemory`, if there is something to tell. Cost: that of `deadlocks`, and of a strict run
-/// that of `Reads::findings`.
+/// Errors: `NoMemory`. Cost: that of `deadlocks`, and of a strict run that of `Reads::findings`.
 pub fn told_at_end(
     alloc: Global,
     session: &Session,
