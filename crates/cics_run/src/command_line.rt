@@ -57,7 +57,7 @@ Exit status:
   3  no memory
   4  a read or a write failed, the script has more than 16,777,216 bytes, or a
      picture or a page would show more than 100,000 lines of the journal, or a page
-     would have more than 64 MB of them
+     would have more than 64 MiB of them
   5  with --strict: the whole script was run, and an event was refused, a task was
      abended by a condition or a time-out, or a task still waits at the end; with
      --reads also a finding that doesn't end in COMMITTED; with --orders: an ending

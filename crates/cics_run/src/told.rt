@@ -5,7 +5,7 @@
 //!   `causes` those on what came up as it was executed. `parts` finds the options of a command that
 //!   they name. `nearest` finds a name that is almost another one, and `instead` tells of it.
 //! - `findings`: the words on a finding of `--reads`.
-//! - `deadlocked`, `hints`: deadlocks, and commands with RESP2 alone.
+//! - `deadlocked`, `hints`: deadlocks; queues of one name, and commands with RESP2 alone.
 //! - `amiss`, `waiting`: whether something is amiss at the end.
 //! - `faulty`: what a line with a fault needs.
 //! - `told`: all that is told at the end, or of a run that ended at a fault.

@@ -2,6 +2,7 @@
 //! error is `NoMemory`.
 
 ghost use Rattle.std.specs.Prelude.{◌≡◌, ◌++◌, OnOk};
+ghost use Rattle.std.specs.Option.{option_copied};
 ghost use Rattle.cics_run.specs.Stage.Journal.{numbered, condition_text, part, number_part, reply_text};
 ghost use Rattle.cics_run.specs.Stage.Journal.{abend_text, outcome_text, issued_text, outcome_line};
 ghost use Rattle.cics_run.specs.Stage.Journal.{refusal_title, refusal_text, subject_text, define_title};
@@ -24,6 +25,7 @@ pub fn push_script_line(out: &mut Vec<u8>, line: &[u8]) -> Result<(), NoMemory>
 }
 
 /// Appends the line of an event.
+#[inline(always)]
 pub fn push_event(out: &mut Vec<u8>, event: &Event) -> Result<(), NoMemory>
     ensures { OnOk result (out.new.items ≡ out.old.items ++ event_line event.now) }
 {
@@ -84,7 +86,7 @@ fn push_event_text(out: &mut Vec<u8>, event: &Event) -> Result<(), NoMemory>
         Event::Expired(expired) => {
             push_bare(out, &expired.label.bytes())?;
             push_str(out, " ")?;
-            push_abend(out, expired.code, &None)
+            push_abend(out, expired.code, None)
         }
         Event::ClockSet(seconds) => {
             push_str(out, "CLOCK ")?;
@@ -178,8 +180,9 @@ fn push_reply(out: &mut Vec<u8>, reply: &Reply) -> Result<(), NoMemory>
     push_part(out, " DATA ", &reply.content)
 }
 
-fn push_abend(out: &mut Vec<u8>, code: AbendCode, reply: &Option<Reply>) -> Result<(), NoMemory>
-    ensures { OnOk result (out.new.items ≡ out.old.items ++ abend_text code reply.now) }
+fn push_abend(out: &mut Vec<u8>, code: AbendCode, reply: Option<&Reply>) -> Result<(), NoMemory>
+    ensures { OnOk result (out.new.items
+        ≡ out.old.items ++ abend_text code (option_copied reply.entry)) }
 {
     push_str(out, "ABEND ")?;
     push_bare(out, &code.0.bytes())?;
@@ -201,7 +204,7 @@ fn push_what_came(out: &mut Vec<u8>, outcome: &Outcome) -> Result<(), NoMemory>
             push_str(out, "WAITING ")?;
             push_bare(out, &holder.bytes())
         }
-        Outcome::Abended(code, reply) => push_abend(out, *code, reply),
+        Outcome::Abended(code, reply) => push_abend(out, *code, reply.as_ref()),
         Outcome::Ended => push_str(out, "ENDED"),
     }
 }

@@ -9,7 +9,8 @@ use crate::stage::amiss::is_time_out;
 use cics_dispatch::{Event, Outcome, Reason, Refused, Subject};
 use cics_names::{AbendCode, Condition, Name4, Name8, NoMemory};
 
-/// Which events are told beside abends by a condition and commands of no task.
+/// Which events are told beside those of any run: abends by a condition, commands of no task, and
+/// names that aren't defined.
 #[derive(Clone, Copy, PartialEq, Eq)]
 pub struct Scope {
     /// Every event that is amiss.

@@ -28,8 +28,7 @@ pub struct Journal {
     pub notes: Vec<Note>,
     /// What is told of the events of the lines before.
     pub told: Remarks,
-    /// The numbers of lines whose command has RESP2 alone, and was answered a condition: at most
-    /// 64.
+    /// The numbers of lines whose command has RESP2 alone, and whose condition is told: at most 64.
     pub alone: Vec<u64>,
     /// The steps of the run, if they are wanted.
     pub watcher: Option<Watcher>,

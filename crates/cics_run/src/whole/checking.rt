@@ -242,8 +242,8 @@ fn check_lines<K: Sink>(
 
 /// Tells what is at fault in each line of a script, as `told_of` does of one. Then it tells what is
 /// amiss in requests, and how many lines are at fault. A request is amiss if its label was attached
-/// before or never was, if it names a file or queue that isn't defined, or if a command of temporary
-/// storage has the name of a transient data queue: 64 of these are told.
+/// before or never was, or if it names a file or queue that isn't defined. So is a command of
+/// temporary storage with the name of a transient data queue. At most 64 of all these are told.
 ///
 /// No request but ATTACH is played, and a line with a fault changes nothing. What a line lacks may be
 /// defined by a faulty one: behind such a line nothing is told of it. `file` is the name of the
