@@ -11,8 +11,8 @@ use Rattle.cics_picture.specs.Drawings.{Drawn, nothing_drawn, Row, row_number, w
 abbrev pub attached : List Row → List Bytes
 attached rows = flat_map (λ r. tasks_behind [] r.told) rows
 
--- what is drawn of rows alone, without what `with_end` adds at the end of a line: rings, diamonds,
--- dashed rings and bars
+-- what is drawn of rows alone, without what `with_end` adds at the end of a line: arrows to new
+-- blockers, rings, diamonds, dashed rings and bars
 abbrev pub rows_drawn : List Row → Drawn
 rows_drawn rows = fold with_row nothing_drawn rows
 

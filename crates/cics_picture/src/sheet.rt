@@ -36,21 +36,24 @@ pub fn sheets_are_documents()
         → (d : Document) × (document_of (sheet (drawn lines) looks title) ≡ Some d) }
 {}
 
-/// An event WAITING has exactly one arrow: from the lane of its task to that of the task that it
-/// names. This supposes that rows before it attach both tasks, and at most sixteen in all.
+/// The row of an event WAITING draws exactly one arrow: from the lane of its task to that of the
+/// task that it names. This supposes that rows before it attach both tasks, and at most sixteen in
+/// all.
 pub fn waits_have_arrows()
     ensures { (before : List Row) (r : Row) → TellsWait before r → DrawsArrow before r }
 {}
 
-/// A task with a lane has a bar in it for each unit of work that it has after a line of the script.
+/// A standing that has a unit of work after a line of the script has a bar of it, in the lane of the
+/// same number.
 pub fn units_have_bars()
     ensures { (before after : List Printed) (p : Printed) (lane unit : ℕ) (s : Standing)
         → lane < most_lanes → slice_get p.standings lane ≡ Some s → s.unit ≡ Some unit
         → list_any (is_bar_of lane unit) (finished (drawn (before ++ p ∷ after))).bars ≡ true }
 {}
 
-/// The bar of a unit of work begins a little above a row: that at which its task acts in the line
-/// that begins the unit. It ends at the row at which its task acts in the line that ends it.
+/// The bar of a unit of work that has ended begins a little above a row: that of its task's last
+/// event in the line that begins the unit. It ends at the row of its task's last event in the line
+/// that ends it.
 pub fn bars_span_units()
     ensures { (before during : List Printed) (p q : Printed) (lane unit : ℕ)
         → Lives before p during q lane unit
@@ -58,9 +61,10 @@ pub fn bars_span_units()
         (bar_from_to lane unit (acts_at before p lane) (acts_at (before ++ p ∷ during) q lane)) }
 {}
 
-/// If another task blocks the one of a lane after a line than before it, an arrow leads from this
-/// lane to that task's. If the line brought its task into a deadlock, a ring stands round it.
-pub fn turns_have_signs()
+/// If a task blocks the one of a lane after a line, and another did before it, an arrow leads from this
+/// lane to that task's, if it has one. If the line brought its task into a deadlock, a ring stands
+/// round it.
+pub fn new_blockers_have_signs()
     ensures { (before : List Printed) (p : Printed) (lane : ℕ) (s : Standing)
         → lane < most_lanes → slice_get p.standings lane ≡ Some s
         → HasPart (drawn (before ++ p ∷ [])).marks
