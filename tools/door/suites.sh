@@ -77,16 +77,45 @@ cicsrun-test: 0 of 3 as recorded" ''
     [ "$status" = 1 ] && [ "$(cat s/refused.status)" = 5 ] && grep -q "'--bad'" "$room/out" ||
         differs "status $status: $(cat -- "$room/out")"
     wants_suite_usage
+    odd_journals
     cd / || exit 1
+}
+
+# A journal whose script is gone, and one that is a folder.
+odd_journals() {
+    rm s/fault.* s/refused.*
+    cp s/attach.cics s/other.cics
+    mv s/attach.cics s/none.cics
+    mkdir s/none.journal
+    try '--accept of odd journals' "$suite" --accept s
+    wants 1 's/none.journal is a folder
+s/other.cics: recorded, exit status 0
+s/attach.journal has no script
+cicsrun-test: 1 of 3 as recorded' ''
+    [ -z "$(ls -A s/none.journal)" ] || differs 'it wrote into the folder'
+    try 'odd journals' "$suite" s
+    wants 1 's/none.journal is a folder
+s/attach.journal has no script
+cicsrun-test: 1 of 3 as recorded' ''
 }
 
 # Fails unless bin/cicsrun-test refuses bad arguments, and prints its help.
 wants_suite_usage() {
-    refusal="cicsrun-test: name one folder of scripts; try 'cicsrun-test --help'"
-    for words in '' --accept '--foo s' 's s' s/fault.cics; do
+    while IFS='|' read -r words refusal; do
         try "bin/cicsrun-test with '$words'" "$suite" $words
-        wants 2 '' "$refusal"
-    done
+        wants 2 '' "cicsrun-test: $refusal; try 'cicsrun-test --help'"
+    done << 'END'
+|name one folder of scripts
+--accept|name one folder of scripts
+--foo s|name one folder of scripts
+s s|name one folder of scripts
+s --accept|options stand before the folder
+--accept s --help|options stand before the folder
+--foo|--foo is no option
+nosuch|nosuch is no folder
+--accept s/fault.journal|s/fault.journal is no folder
+s/fault.cics|s/fault.cics is a script: name its folder
+END
     try 'a folder without scripts' "$suite" none
     wants 2 '' 'cicsrun-test: no script NAME.cics is in none'
     try 'the help of bin/cicsrun-test' "$suite" --help
