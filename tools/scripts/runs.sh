@@ -17,7 +17,8 @@ run_some() {
     done
 }
 
-# Makes each run by the program that was taken, as many side by side as there are processors.
+# Makes each run by the program that was taken, as many side by side as there are processors. It
+# also waits for what take_tried left running.
 run_all() {
     rm -rf -- "$room/came" "$room"/part.* && mkdir "$room/came" || stop 'no folder for the runs'
     awk -v "parts=$(nproc)" -v "part=$room/part." '{ print > (part NR % parts) }' "$room/list"
@@ -67,7 +68,6 @@ take_tried() {
     done
     program=$room/tried
     cp -- "${begun%stdout}program" "$program" || stop 'the program of rt try was not copied'
-    wait
 }
 
 # Prints a file, with LF at its end.
