@@ -61,9 +61,9 @@ pub fn bars_span_units()
         (bar_from_to lane unit (acts_at before p lane) (acts_at (before ++ p ∷ during) q lane)) }
 {}
 
-/// If a task blocks the one of a lane after a line, and another did before it, an arrow leads from this
-/// lane to that task's, if it has one. If the line brought its task into a deadlock, a ring stands
-/// round it.
+/// If a task blocks the one of a lane after a line, and another did before it, an arrow leads from
+/// this lane to that task's, if it has one. If the line brought its task into a deadlock, a ring
+/// stands round it.
 pub fn new_blockers_have_signs()
     ensures { (before : List Printed) (p : Printed) (lane : ℕ) (s : Standing)
         → lane < most_lanes → slice_get p.standings lane ≡ Some s

@@ -4,7 +4,8 @@ ghost use Rattle.std.specs.Prelude.{◌≡◌, length};
 ghost use Rattle.cics_units.specs.Opening.RegionFiles.{opened_files};
 ghost use Rattle.cics_units.specs.Opening.RegionQueues.{opened_queues};
 ghost use Rattle.cics_run.specs.Told.Nearest.{capital, capital_at, differences, is_near, near_at};
-ghost use Rattle.cics_run.specs.Told.Nearest.{or_next, first_near, first_near_label, nearest_label};
+ghost use Rattle.cics_run.specs.Told.Nearest.{or_next, first_near, first_near_label};
+ghost use Rattle.cics_run.specs.Told.Nearest.{nearest_label};
 ghost use Rattle.cics_run.specs.Told.Instead.{nearest_file, nearest_queue, same_queue};
 
 use cics_dispatch::Region;
@@ -146,8 +147,8 @@ pub fn same_queue(opening: &Opening, name: &[u8]) -> Option<Name4>
     first_near_queue(opening, 1, name)
 }
 
-/// Returns the first defined queue of transient data whose name is this one, capitals or not, or else
-/// the first whose name differs in one place.
+/// Returns the first defined queue of transient data whose name is this one, capitals or not, or
+/// else the first whose name differs in one place.
 ///
 /// Cost: O(queues).
 #[tactic(auto, unfolding(crate::specs::Told::Nearest::nearest_key))]
