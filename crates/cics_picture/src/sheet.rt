@@ -43,8 +43,8 @@ pub fn waits_have_arrows()
     ensures { (before : List Row) (r : Row) → TellsWait before r → DrawsArrow before r }
 {}
 
-/// A standing that has a unit of work after a line of the script has a bar of it, in the lane of the
-/// same number.
+/// A standing that has a unit of work after a line of the script has a bar of it, in the lane of
+/// the same number.
 pub fn units_have_bars()
     ensures { (before after : List Printed) (p : Printed) (lane unit : ℕ) (s : Standing)
         → lane < most_lanes → slice_get p.standings lane ≡ Some s → s.unit ≡ Some unit

@@ -1,5 +1,5 @@
--- How the tasks with lanes stand: the unit and the blocker of each, whether it is in a deadlock, and
--- whether it made a change that stays.
+-- How the tasks with lanes stand: the unit and the blocker of each, whether it is in a deadlock,
+-- and whether it made a change that stays.
 use Rattle.std.specs.Prelude.{ℕ, Bool, true, false, not, ◌&&◌, ◌==◌, zero, suc, nat_lt, if◌then◌else◌, Option, Some, None, option_and_then, unwrap_or, slice_get, length, map, drop, List, [], ◌∷◌, ◌++◌}
 use Rattle.std.specs.List.{list_any}
 use Rattle.cics_names.specs.Keyed.{Bytes}
