@@ -83,7 +83,11 @@ add_script() {
     [ ! -f "$base.checked" ] || checked=$base.checked
     [ ! -f "$base.journal" ] ||
         add_case "$1" "$title --check" 0 "$room/wanted/nothing" same "$checked" --check
-    [ ! -f "$base.fault" ] || [ ! -f "$base.checked" ] ||
+    if [ -f "$base.fault" ] && [ -f "$base.said" ] && [ ! -f "$base.checked" ]; then
+        checked=$room/wanted/check-of-$count
+        { tail -n 3 "$base.said" && echo 'cicsrun: 1 line is at fault'; } > "$checked"
+    fi
+    [ ! -f "$base.fault" ] || [ "$checked" = /dev/null ] ||
         add_case "$1" "$title --check" 1 "$room/wanted/nothing" same "$checked" --check
     [ ! -f "$base.shown" ] ||
         add_case "$1" "$title --with-script" 0 "$base.shown" same "$said" --with-script
@@ -187,6 +191,38 @@ add_advice() {
     add_case "$room/script" 'a line of 70,001 bytes' 1 1 fault "$room/wanted/advice-long"
 }
 
+# An item that is longer than one may be.
+add_long_item() {
+    printf "ATTACH T1 TRANSID('AAAA')\nT1 EXEC CICS WRITEQ TS QUEUE('PAD') FROM('%32768s')\n" '' \
+        > "$room/script"
+    printf '%s\n' "T1 ATTACHED 'AAAA'" 'T1 ABEND AEIV LENGERR 22' LISTING > "$room/wanted/long-item"
+    echo 'cicsrun: line 2: LENGERR: what is written has 32768 bytes, not 1 to 32767' \
+        > "$room/wanted/long-item-said"
+    add_case "$room/script" 'an item of 32,768 bytes' 0 "$room/wanted/long-item" same \
+        "$room/wanted/long-item-said"
+}
+
+# The run of a script that a document shows beside what it prints: the document, and with what the
+# right column begins. Options follow.
+add_shown() {
+    shown=$room/wanted/shown-$count
+    : > "$room/script"
+    awk -v start="$2" -v script="$room/script" '
+        !column && (column = index($0, start)) && /^the script / { next }
+        column && /^ *```/ { exit }
+        column {
+            line = substr($0, 1, column - 1)
+            gsub(/^ +| +$/, "", line)
+            if (line != "") print line > script
+            line = substr($0, column)
+            if (line != "") print line
+        }' "$root/$1" > "$shown"
+    title="the script in $1"
+    shift 2
+    add_case "$room/script" "$title" 0 "$shown" same /dev/null "$@"
+    scripts=$((scripts + 1))
+}
+
 # Whether a script has one of these names, or none is given.
 is_asked() {
     title=${1%.cics}
@@ -207,4 +243,8 @@ make_cases() {
     [ $# -eq 0 ] || return 0
     add_faults
     add_advice
+    add_long_item
+    add_shown README.md 'what cicsrun prints'
+    add_shown docs/RULES.md "T1 ATTACHED 'AAAA'" --no-list
+    add_shown docs/USING.md 'what cicsrun prints' --no-list
 }

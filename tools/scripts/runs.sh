@@ -108,8 +108,10 @@ is_printed() {
         page_data "$came" > "$room/data" && came=$room/data
         ;;
     esac
-    ended "$wanted" > "$room/left" && ended "$came" > "$room/right" &&
-        cmp -s "$room/left" "$room/right"
+    # (most are the same to the byte, and this is the quick look)
+    cmp -s "$wanted" "$came" ||
+        { ended "$wanted" > "$room/left" && ended "$came" > "$room/right" &&
+            cmp -s "$room/left" "$room/right"; }
 }
 
 # Compares what a run said on standard error: that of the file, a message on a faulty line, or of a
@@ -117,7 +119,8 @@ is_printed() {
 is_said() {
     case $told in
     advice)
-        [ "$(head -c 14 "$came.said")" = 'cicsrun: line ' ] && [ "$(wc -l < "$came.said")" -le 3 ]
+        read -r line < "$came.said" && [ "$line" != "${line#cicsrun: line }" ] &&
+            [ "$(wc -l < "$came.said")" -le 3 ]
         ;;
     mended) ! grep -v -e ' was never attached$' -e " isn't defined\$" "$came.said" > /dev/null ;;
     *)
@@ -183,7 +186,8 @@ compare_all() {
         came=$room/came/$number
         [ -f "$came" ] || : > "$came"
         [ -f "$came.said" ] || : > "$came.said"
-        came_status=$(cat -- "$came.status" 2> /dev/null || echo none)
+        came_status=none
+        [ ! -f "$came.status" ] || read -r came_status < "$came.status"
         whole=$came
         ! is_as_wanted || continue
         if [ -n "$accept" ] && [ "$came_status" = "$status" ]; then
