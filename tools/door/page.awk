@@ -41,11 +41,18 @@ function row(line,    cells, count, each, title, behind) {
     }
 }
 
+# Prints the paragraph so far. Its lines are one, since a link may stand on two of them.
+function end_paragraph() {
+    if (paragraph != "") print shown(paragraph)
+    paragraph = ""
+}
+
 BEGIN {
     print ".TH CICSRUN 5"
     print ".SH NAME"
     print "cicsrun \\- the language of a script, and the lines that a run prints"
 }
+/^```|^#|^\||^- |^$/ { end_paragraph() }
 /^```/ {
     print in_block ? ".fi" : ".PP\n.nf"
     in_block = !in_block
@@ -68,6 +75,10 @@ in_block {
 }
 /^\|/ { row($0); next }
 /^$/ { in_table = 0; print ".PP"; next }
-/^- / { print ".IP \\(bu 2\n" shown(substr($0, 3)); next }
-{ sub(/^ +/, ""); print shown($0) }
-END { print ".SH SEE ALSO\n.BR cicsrun (1)" }
+/^- / { print ".IP \\(bu 2"; sub(/^- /, "") }
+{ sub(/^ +/, ""); paragraph = paragraph (paragraph == "" ? "" : " ") $0 }
+END {
+    end_paragraph()
+    print ".SH SEE ALSO\n.BR cicsrun (1)"
+    print ".PP\nRULES, PROMISES, USING, WORDS and the examples are files of the repository."
+}
