@@ -28,6 +28,7 @@ use cics_units::{
 };
 use std::alloc::Global;
 use std::hash::Hash;
+use std::io::{Read, Write};
 
 // A key, and the first bytes of it.
 const KEY: &[u8] = b"0001";
@@ -91,7 +92,8 @@ fn call_conditions() -> Option<()> {
 }
 
 fn call_records(alloc: Global) -> Option<()> {
-    let record: Record = Record::new(Vec::new(alloc));
+    let bytes: Vec<u8> = Vec::new(alloc);
+    let record: Record = Record::new(bytes);
     let _: &[u8] = record.bytes();
     let copy: Result<Record, NoMemory> = record.copy();
     let is_same: bool = record == copy.ok()?;
@@ -157,15 +159,19 @@ fn call_ordered<F: Ordered>(file: &F) {
 fn call_browse(alloc: Global) -> Option<()> {
     let mut file = File::new(alloc, DEFINITION);
     file.write(record(alloc, b"0001aa")?, false).ok()?;
-    let key = record(alloc, KEY)?;
-    let started: Option<Browse> = Browse::start(&file, key, false, true);
+    call_browse_of::<File>(alloc, &file)
+}
+
+fn call_browse_of<F: Ordered>(alloc: Global, file: &F) -> Option<()> {
+    let key: Record = record(alloc, KEY)?;
+    let started: Option<Browse> = Browse::start(file, key, false, true);
     let mut browse = started?;
-    let next: Result<Browsed, NoMemory> = browse.next(&file);
+    let next: Result<Browsed, NoMemory> = browse.next(file);
     variants::browsed(&next.ok()?);
-    let prev: Result<Browsed, NoMemory> = browse.prev(&file);
+    let prev: Result<Browsed, NoMemory> = browse.prev(file);
     prev.ok()?;
-    let key = record(alloc, KEY)?;
-    let _: Condition = browse.reset(&file, key, false, true);
+    let key: Record = record(alloc, KEY)?;
+    let _: Condition = browse.reset(file, key, false, true);
     Some(())
 }
 
@@ -255,7 +261,8 @@ fn call_execute(alloc: Global, units: &mut Units) -> Option<UnitId> {
         from: record(alloc, b"one")?,
     };
     variants::op(&op);
-    let done: Result<Done, NoMemory> = units.execute(None, &op);
+    let new: Option<UnitId> = None;
+    let done: Result<Done, NoMemory> = units.execute(new, &op);
     let done = done.ok()?;
     variants::done(&done);
     match done {
@@ -269,7 +276,8 @@ fn call_execute(alloc: Global, units: &mut Units) -> Option<UnitId> {
 
 // Enqueues on a value for a unit that begins with it, and returns the unit.
 fn call_enq(units: &mut Units) -> Option<UnitId> {
-    let enqueued: Result<Enqueued, NoMemory> = units.enq(None, VALUE);
+    let new: Option<UnitId> = None;
+    let enqueued: Result<Enqueued, NoMemory> = units.enq(new, VALUE);
     let enqueued = enqueued.ok()?;
     variants::enqueued(&enqueued);
     match enqueued {
@@ -310,8 +318,25 @@ fn call_reads(units: &mut Units) -> Option<()> {
     Some(())
 }
 
+// An entry of any command and any answer: no READQ TD of a region is answered with a number.
+fn call_entry(alloc: Global, unit: UnitId) -> Option<()> {
+    let op = Op::TdRead {
+        queue: name4(b"LOGA")?,
+    };
+    let answer = Answer {
+        condition: Condition::Endfile,
+        content: Some(record(alloc, b"one")?),
+        number: Some(7_u64),
+    };
+    let made: Result<Entry, NoMemory> = Entry::new(alloc, unit, op, answer);
+    let entry = made.ok()?;
+    variants::entry(&entry);
+    (entry.number() == Some(7_u64)).then_some(())
+}
+
 fn call_history(alloc: Global, units: &Units, unit: UnitId) -> Option<()> {
     let opening: &Opening = units.opening();
+    call_entry(alloc, unit)?;
     let trace: &[Entry] = units.trace();
     variants::entry(trace.first()?);
     if unit.number() >= units.outcomes().len() as u64 {
@@ -384,6 +409,15 @@ fn call_script(alloc: Global) -> Option<()> {
     Some(())
 }
 
+fn call_run_of<R: Read, W: Write>(
+    alloc: Global,
+    reader: &mut R,
+    writer: &mut W,
+    options: Options,
+) -> Result<Status, RunFault> {
+    run(alloc, reader, writer, options)
+}
+
 fn call_run(alloc: Global) -> Option<()> {
     let mut script: &[u8] = b"CLOCK 1";
     let mut journal: Vec<u8> = Vec::new(alloc);
@@ -392,7 +426,7 @@ fn call_run(alloc: Global) -> Option<()> {
         no_list: true,
     };
     variants::options(&options);
-    let ran: Result<Status, RunFault> = run(alloc, &mut script, &mut journal, options);
+    let ran = call_run_of::<&[u8], Vec<u8>>(alloc, &mut script, &mut journal, options);
     variants::ran(&ran);
     call_arguments(alloc)?;
     let status: u8 = exit_status(&ran);
