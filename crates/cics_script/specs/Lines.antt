@@ -1,5 +1,5 @@
 -- What the bytes of a line say.
-use Rattle.std.specs.Prelude.{ℕ, Bool, true, false, not, ◌&&◌, ◌||◌, ◌==◌, nat_le, nat_lt, if◌then◌else◌, List, [], ◌∷◌, length, Option, None, Some, Result, Ok, Err, unwrap_or, is_some}
+use Rattle.std.specs.Prelude.{ℕ, Bool, true, false, not, ◌&&◌, ◌||◌, ◌==◌, nat_le, nat_lt, if◌then◌else◌, List, [], ◌∷◌, length, Option, None, Some, Result, Ok, Err, unwrap_or, is_some, is_ok}
 use Rattle.std.specs.List.{list_all}
 use Rattle.std.specs.Str.{bytes_eq}
 use Rattle.cics_names.specs.Names.{name_of}
@@ -156,6 +156,23 @@ command_line label rest = verb_first rest >>= λ found. issued label (command_at
 -- a command of the task with this label, from EXEC on
 abbrev pub issue : List ℕ → List Token → Result Line LineFault
 issue label rest = behind (codes "EXEC") rest >>= λ rest. behind (codes "CICS") rest >>= λ rest. command_line label rest
+
+-- whether a line that begins so defines and attaches nothing, whatever is wrong with the rest: LOAD,
+-- CLOCK, SHUTDOWN, or EXEC and CICS behind a label
+abbrev pub adds_nothing_behind : Option Start → List Token → Bool
+adds_nothing_behind (Some start.Define) rest = false
+adds_nothing_behind (Some start.Attach) rest = false
+adds_nothing_behind (Some first) rest = true
+adds_nothing_behind None rest = is_ok (behind (codes "EXEC") rest >>= behind (codes "CICS"))
+
+-- that of a line whose first word was read
+abbrev pub adds_nothing_read : Result (List ℕ × List Token) LineFault → Bool
+adds_nothing_read (Ok first) = adds_nothing_behind (lookup first.0 starts) first.1
+adds_nothing_read (Err fault) = false
+
+-- whether a line defines and attaches nothing, however it is mended behind its first words
+abbrev pub adds_nothing : List ℕ → Bool
+adds_nothing bytes = adds_nothing_read (word_first (tokens bytes))
 
 -- the line that this first word begins
 abbrev pub begun : Option Start → List ℕ → List Token → Result Line LineFault

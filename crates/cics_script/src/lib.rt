@@ -29,5 +29,5 @@ mod words;
 
 pub use columns::{Placed, find_fault};
 pub use faults::LineFault;
-pub use lines::{Line, read_line};
+pub use lines::{Line, adds_nothing, read_line};
 pub use tokens::{skip_blanks, whole_token};

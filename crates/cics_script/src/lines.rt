@@ -13,7 +13,7 @@ ghost use Rattle.cics_script.specs.Values.{needed};
 ghost use Rattle.cics_script.specs.Lines.{recovery_in, queue_recovery_in, definition_in, load_in};
 ghost use Rattle.cics_script.specs.Lines.{word_first, behind, label_in, define, load, attach};
 ghost use Rattle.cics_script.specs.Lines.{verb_first, clock, shutdown, command_at};
-ghost use Rattle.cics_script.specs.Lines.{issue, statement};
+ghost use Rattle.cics_script.specs.Lines.{issue, statement, adds_nothing};
 ghost use Rattle.cics_script.specs.Lines.{is_script_byte, line};
 
 use crate::commands::{is_handled, verb_of};
@@ -379,6 +379,21 @@ fn read_issue(alloc: Global, label: Name8, bytes: &[u8]) -> Result<Line, LineFau
     let verb = verb_of(alloc, command, &found)?;
     let resp = is_handled(&found);
     Ok(Line::Issue(label, Command { verb, resp }))
+}
+
+/// Returns whether a line defines and attaches nothing, whatever is wrong behind its first words:
+/// these are LOAD, CLOCK or SHUTDOWN, or EXEC CICS behind a label.
+pub fn adds_nothing(line: &[u8]) -> bool
+    ensures { result ≡ adds_nothing line.now }
+{
+    let Ok((word, rest)) = first_word(line) else {
+        return false;
+    };
+    match start_of(word) {
+        Some(Start::Define | Start::Attach) => false,
+        Some(Start::Load | Start::Clock | Start::Shutdown) => true,
+        None => skip_exec_cics(rest).is_ok(),
+    }
 }
 
 /// Reads a line that is neither blank nor a comment. Errors: those of [`read_line`], but for

@@ -99,10 +99,13 @@ impl<'a> Context<'a> {
         1
     }
 
-    /// Returns whether the token stands right behind the one before it.
-    pub fn is_adjacent(&self) -> bool {
-        self.front.last().is_some_and(|(before, token)| before.saturating_add(token.len())
-            == self.before_len)
+    /// Returns how many bytes there are between the token before the column and the column.
+    pub fn blanks(&self) -> usize {
+        let end = self
+            .front
+            .last()
+            .map_or(0, |(before, token)| before.saturating_add(token.len()));
+        self.before_len.saturating_sub(end)
     }
 
     /// Returns whether the line is a command: EXEC CICS stands behind a label.

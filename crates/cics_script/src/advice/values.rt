@@ -10,10 +10,11 @@ use crate::whole_token;
 use crate::words::Kind;
 use cics_names::NoMemory;
 
-/// A text that a quote within it splits: a literal, and right behind it a word or a number.
+/// A text that a quote within it splits: a literal, and behind it a word or a number.
 #[derive(Clone, Copy)]
 pub struct Split<'a> {
     literal: &'a [u8],
+    blank: &'static str,
     rest: &'a [u8],
 }
 
@@ -21,14 +22,21 @@ impl<'a> Split<'a> {
     /// Returns the text in the parentheses before the column, if a quote splits it.
     pub fn new(context: &Context<'a>) -> Option<Split<'a>> {
         let literal = context.before(1);
+        let (rest, is_ended) = up_to_end(context.behind);
+        let blank = match context.blanks() {
+            0 => "",
+            1 if is_ended => " ",
+            _ => return None,
+        };
         let is_split = is_word(context.before(2), "(")
             && is_quoted(literal)
-            && !literal.contains(&b')')
-            && context.is_adjacent()
+            && !is_unclosed(literal)
             && context.token.first()?.is_ascii_alphanumeric();
-        let mut parts = context.behind.split(|one| matches!(*one, b'\'' | b')'));
-        let rest = parts.next()?;
-        is_split.then_some(Split { literal, rest })
+        is_split.then_some(Split {
+            literal,
+            blank,
+            rest,
+        })
     }
 
     /// Puts how the text is written.
@@ -36,9 +44,22 @@ impl<'a> Split<'a> {
         push_str(out, "a quote within quotes is doubled: ")?;
         push_start(out, self.literal)?;
         push_str(out, "'")?;
+        push_str(out, self.blank)?;
         push_start(out, self.rest)?;
         push_str(out, "'")
     }
+}
+
+// Returns the rest of a text, up to its quote, and whether a parenthesis closes behind that. If
+// none does, the rest ends before a parenthesis too.
+fn up_to_end(behind: &[u8]) -> (&[u8], bool) {
+    let rest = behind.split(|byte| *byte == b'\'').next().unwrap_or(behind);
+    let quote = behind.get(rest.len()..).unwrap_or(&[]);
+    if quote.starts_with(b"')") {
+        return (rest, true);
+    }
+    let value = rest.split(|byte| *byte == b')').next();
+    (value.unwrap_or(rest), false)
 }
 
 /// Returns whether a token is a literal in quotes.
@@ -93,9 +114,11 @@ fn of_broken<'a>(context: &Context<'a>) -> Told<'a> {
     }
 }
 
-// Returns whether a literal in quotes has a parenthesis that belongs behind it.
+// Returns whether a literal in quotes has a parenthesis that belongs behind it, and ends where
+// another value begins.
 fn is_unclosed(token: &[u8]) -> bool {
-    is_quoted(token) && token.contains(&b')')
+    let ends = [b"('".as_slice(), b"(X'".as_slice(), b"(x'".as_slice()];
+    is_quoted(token) && token.contains(&b')') && ends.iter().any(|end| token.ends_with(end))
 }
 
 // Returns the text for a token behind the value in parentheses.
