@@ -1,6 +1,6 @@
 -- A check finds the faults that a run would find, line by line, and plays nothing.
 use Rattle.std.proofs.Common.{◌≡◌, ◌≤◌, ℕ, ◌+◌, true, false, List, [], ◌∷◌, ◌++◌, refl, ap, sym, ◌∙◌, subst, arith, append_assoc, append-nil, Option, Some, None}
-use Rattle.std.specs.Prelude.{if◌then◌else◌, is_some, Result, Ok, Err, OnOk, IfOk, suc, zero}
+use Rattle.std.specs.Prelude.{if◌then◌else◌, ◌&&◌, is_some, Result, Ok, Err, OnOk, IfOk, suc, zero}
 use Rattle.std.specs.Borrow.{Bor}
 use Rattle.std.specs.List.{fold}
 use Rattle.std.specs.Io.KnownBytes.{Appends}
@@ -12,14 +12,14 @@ use Rattle.cics_script.specs.declared.faults.LineFault.{LineFault}
 use Rattle.cics_script.specs.declared.lines.Line.{Line}
 use Rattle.cics_script.specs.declared.lines.Line.TheVariants.{Blank, DefineFile, DefineTsPrefix, DefineTd, LoadFile, LoadTd, Attach, Clock, Issue, Shutdown}
 use Rattle.cics_script.specs.Advice.Advice.{advice, too_long}
-use Rattle.cics_script.specs.Lines.{line}
+use Rattle.cics_script.specs.Lines.{line, adds_nothing}
 use Rattle.cics_run.specs.Session.Lines.{all_lines}
 use Rattle.cics_run.specs.Session.Running.{Played, has_fault, next, stepped, is_faulty, start}
 use Rattle.cics_run.specs.Session.Printing.{Prints}
 use Rattle.cics_run.specs.Stage.Stages.{Step, step, followed}
 use Rattle.cics_run.specs.Told.Remarks.{remark_lines}
 use Rattle.cics_run.specs.Told.Told.{TellsFault}
-use Rattle.cics_run.specs.Whole.Checks.{Checked, unchecked, tried, amiss_in, told_fault, next_fault, note_beside, next_note, with_found, told_note, counted, checked, check, count_line, status_of}
+use Rattle.cics_run.specs.Whole.Checks.{Checked, unchecked, tried, amiss_in, told_fault, next_fault, note_beside, next_note, with_found, told_note, counted, stays_sure, checked, check, count_line, status_of}
 use Rattle.cics_run.specs.Whole.Checks.{TellsIf, TellsNext, TellsBehind, TellsLines, Checks, IsLike, IsTried, IsBehind}
 use Rattle.cics_run.specs.declared.told.remarks.Remarks.{Remarks}
 use Rattle.cics_run.specs.declared.session.writing.Stop.{Stop}
@@ -77,22 +77,24 @@ tried-like (Running r) t said (other, e) = subst (λ t. IsLikeStep (followed (Ru
 
 -- a checker stands behind one line more, with some faults and remarks
 behind-more : (c : Checked) (old new : Checker) (bytes : List ℕ) (found : Found) → IsBehind old c → IsTried old.stage (line bytes) new.stage found
-    → new.number ≡ old.number + 1 → new.faulty ≡ counted old.faulty (told_fault old.faulty found.fault)
-    → new.remarks ≡ with_found new.stage new.number bytes old.remarks (note_beside old.faulty (told_fault old.faulty found.fault) found.note) → IsBehind new (checked c bytes)
-behind-more c old new bytes found at tried-so number faulty remarks =
+    → new.number ≡ old.number + 1 → new.faulty ≡ counted old.faulty (told_fault old.sure found.fault)
+    → new.sure ≡ stays_sure old.sure bytes (told_fault old.sure found.fault)
+    → new.remarks ≡ with_found new.stage new.number bytes old.remarks (note_beside old.sure (told_fault old.sure found.fault) found.note) → IsBehind new (checked c bytes)
+behind-more c old new bytes found at tried-so number faulty sure remarks =
     let like = tried-like c.stage c.known (line bytes) at.like in
     let known : new.stage ≡ (tried c.known (line bytes)).stage = tried-so.stage ∙ ap (λ s. (tried s (line bytes)).stage) at.stage in
     let same : found.fault ≡ (step c.stage bytes).fault = tried-so.fault ∙ ap (λ s. (tried s (line bytes)).fault) at.stage ∙ like.0 in
     let noted : found.note ≡ amiss_in c.known (line bytes) = tried-so.note ∙ ap (λ s. amiss_in s (line bytes)) at.stage in
-    let told : told_fault old.faulty found.fault ≡ next_fault c bytes = ap (told_fault old.faulty) same ∙ ap (λ n. told_fault n (step c.stage bytes).fault) at.faulty in
-    let beside : note_beside old.faulty (told_fault old.faulty found.fault) found.note ≡ next_note c bytes =
-    ap (note_beside old.faulty (told_fault old.faulty found.fault)) noted ∙ ap (λ f. note_beside old.faulty f (amiss_in c.known (line bytes))) told
-    ∙ ap (λ n. note_beside n (next_fault c bytes) (amiss_in c.known (line bytes))) at.faulty in
+    let told : told_fault old.sure found.fault ≡ next_fault c bytes = ap (told_fault old.sure) same ∙ ap (λ b. told_fault b (step c.stage bytes).fault) at.sure in
+    let beside : note_beside old.sure (told_fault old.sure found.fault) found.note ≡ next_note c bytes =
+    ap (note_beside old.sure (told_fault old.sure found.fault)) noted ∙ ap (λ f. note_beside old.sure f (amiss_in c.known (line bytes))) told
+    ∙ ap (λ b. note_beside b (next_fault c bytes) (amiss_in c.known (line bytes))) at.sure in
     record {
       stage = known;
       like = like.1;
       number = number ∙ ap (λ n. n + 1) at.number;
       faulty = faulty ∙ ap (counted old.faulty) told ∙ ap (λ n. counted n (next_fault c bytes)) at.faulty;
+      sure = sure ∙ ap (stays_sure old.sure bytes) told ∙ ap (λ b. stays_sure b bytes (next_fault c bytes)) at.sure;
       remarks =
           remarks ∙ ap (with_found new.stage new.number bytes old.remarks) beside ∙ ap (λ r. with_found new.stage new.number bytes r (next_note c bytes)) at.remarks
           ∙ ap (λ n. with_found new.stage n bytes c.remarks (next_note c bytes)) (number ∙ ap (λ n. n + 1) at.number) ∙ ap (λ s. with_found s (c.number + 1) bytes c.remarks (next_note c bytes)) known;
@@ -100,25 +102,25 @@ behind-more c old new bytes found at tried-so number faulty remarks =
 
 -- the fault of a line is told
 pub behind-told : {A E : Type 0} (c : Checked) (old new : Checker) (bytes : List ℕ) (found : Found) (fault : Fault) (r : Result A E) → IsBehind old c
-    → IsTried old.stage (line bytes) new.stage found → told_fault old.faulty found.fault ≡ Some fault
-    → new.number ≡ old.number + 1 → new.faulty ≡ old.faulty + 1 → new.remarks ≡ old.remarks → OnOk r (IsBehind new (checked c bytes))
-behind-told c old new bytes found fault (Err e) at tried-so told number faulty remarks = tt
-behind-told c old new bytes found fault (Ok x) at tried-so told number faulty remarks =
-    behind-more c old new bytes found at tried-so number (faulty ∙ sym (ap (counted old.faulty) told))
-    (remarks ∙ sym (ap (λ f. with_found new.stage new.number bytes old.remarks (note_beside old.faulty f found.note)) told))
+    → IsTried old.stage (line bytes) new.stage found → told_fault old.sure found.fault ≡ Some fault
+    → new.number ≡ old.number + 1 → new.faulty ≡ old.faulty + 1 → new.sure ≡ (old.sure && adds_nothing bytes) → new.remarks ≡ old.remarks → OnOk r (IsBehind new (checked c bytes))
+behind-told c old new bytes found fault (Err e) at tried-so told number faulty sure remarks = tt
+behind-told c old new bytes found fault (Ok x) at tried-so told number faulty sure remarks =
+    behind-more c old new bytes found at tried-so number (faulty ∙ sym (ap (counted old.faulty) told)) (sure ∙ sym (ap (stays_sure old.sure bytes) told))
+    (remarks ∙ sym (ap (λ f. with_found new.stage new.number bytes old.remarks (note_beside old.sure f found.note)) told))
 
 -- no fault of a line is told, and what is amiss in it is kept
 pub behind-kept : {A E : Type 0} (c : Checked) (old mid new : Checker) (bytes : List ℕ) (found : Found) (r : Result A E) → IsBehind old c
-    → IsTried old.stage (line bytes) mid.stage found → told_fault old.faulty found.fault ≡ None
-    → mid.number ≡ old.number + 1 → mid.faulty ≡ old.faulty → mid.remarks ≡ old.remarks
-    → OnOk r (new ≡ record mid { remarks = with_found mid.stage mid.number bytes mid.remarks (told_note mid.faulty found.note) }) → OnOk r (IsBehind new (checked c bytes))
-behind-kept c old mid new bytes found (Err e) at tried-so told number faulty remarks kept = tt
-behind-kept c old mid new bytes found (Ok x) at tried-so told number faulty remarks kept =
+    → IsTried old.stage (line bytes) mid.stage found → told_fault old.sure found.fault ≡ None
+    → mid.number ≡ old.number + 1 → mid.faulty ≡ old.faulty → mid.sure ≡ old.sure → mid.remarks ≡ old.remarks
+    → OnOk r (new ≡ record mid { remarks = with_found mid.stage mid.number bytes mid.remarks (told_note mid.sure found.note) }) → OnOk r (IsBehind new (checked c bytes))
+behind-kept c old mid new bytes found (Err e) at tried-so told number faulty sure remarks kept = tt
+behind-kept c old mid new bytes found (Ok x) at tried-so told number faulty sure remarks kept =
     subst (λ k. IsBehind k (checked c bytes)) (sym kept)
-    (behind-more c old (record mid { remarks = with_found mid.stage mid.number bytes mid.remarks (told_note mid.faulty found.note) }) bytes found at tried-so number
-    (faulty ∙ sym (ap (counted old.faulty) told))
-    (ap (λ r. with_found mid.stage mid.number bytes r (told_note mid.faulty found.note)) remarks ∙ ap (λ n. with_found mid.stage mid.number bytes old.remarks (told_note n found.note)) faulty
-    ∙ sym (ap (λ f. with_found mid.stage mid.number bytes old.remarks (note_beside old.faulty f found.note)) told)))
+    (behind-more c old (record mid { remarks = with_found mid.stage mid.number bytes mid.remarks (told_note mid.sure found.note) }) bytes found at tried-so number
+    (faulty ∙ sym (ap (counted old.faulty) told)) (sure ∙ sym (ap (stays_sure old.sure bytes) told))
+    (ap (λ r. with_found mid.stage mid.number bytes r (told_note mid.sure found.note)) remarks ∙ ap (λ b. with_found mid.stage mid.number bytes old.remarks (told_note b found.note)) sure
+    ∙ sym (ap (λ f. with_found mid.stage mid.number bytes old.remarks (note_beside old.sure f found.note)) told)))
 
 -- what keeps what is amiss in a line has the text and the numbers that were there
 pub kept-text : {A E : Type 0} (mid new : Checker) (remarks : Remarks) (r : Result A E) → OnOk r (new ≡ record mid { remarks = remarks }) → OnOk r (new.text.items ≡ mid.text.items)
@@ -138,11 +140,11 @@ tried-fault c old after bytes found at tried-so =
 
 -- what is told of the next line, by the fault that it has
 tells-next : (file : Option (Bor (List ℕ))) (old : Checker) (c : Checked) (bytes text : List ℕ) (fault : Option Fault) → IsBehind old c
-    → fault ≡ (step c.stage bytes).fault → TellsIf (record { file = file; line = old.number + 1 }) bytes (told_fault old.faulty fault) text → TellsNext file c bytes text
+    → fault ≡ (step c.stage bytes).fault → TellsIf (record { file = file; line = old.number + 1 }) bytes (told_fault old.sure fault) text → TellsNext file c bytes text
 tells-next file old c bytes text fault at is tells =
-    subst (λ n. TellsIf (record { file = file; line = n + 1 }) bytes (told_fault c.faulty (step c.stage bytes).fault) text) at.number
-    (subst (λ n. TellsIf (record { file = file; line = old.number + 1 }) bytes (told_fault n (step c.stage bytes).fault) text) at.faulty
-    (subst (λ f. TellsIf (record { file = file; line = old.number + 1 }) bytes (told_fault old.faulty f) text) is tells))
+    subst (λ n. TellsIf (record { file = file; line = n + 1 }) bytes (told_fault c.sure (step c.stage bytes).fault) text) at.number
+    (subst (λ b. TellsIf (record { file = file; line = old.number + 1 }) bytes (told_fault b (step c.stage bytes).fault) text) at.sure
+    (subst (λ f. TellsIf (record { file = file; line = old.number + 1 }) bytes (told_fault old.sure f) text) is tells))
 
 -- what is told of a line, behind a text
 told-text : (origin : Origin) (bytes : List ℕ) (fault : Fault) (before now : List ℕ) → TellsFault origin bytes fault before now
@@ -152,7 +154,7 @@ told-text origin bytes fault before now (cause, why, (Some column, at, (message,
     (advice origin column message bytes, (cause, why, (Some column, at, (message, refl))), is)
 
 pub tells-fault : {A E : Type 0} (file : Option (Bor (List ℕ))) (old : Checker) (c : Checked) (bytes before now : List ℕ) (found : Option Fault) (fault : Fault) (r : Result A E)
-    → IsBehind old c → found ≡ (step c.stage bytes).fault → told_fault old.faulty found ≡ Some fault
+    → IsBehind old c → found ≡ (step c.stage bytes).fault → told_fault old.sure found ≡ Some fault
     → OnOk r (TellsFault (record { file = file; line = old.number + 1 }) bytes fault before now) → OnOk r (TellsBehind file c bytes before now)
 tells-fault file old c bytes before now found fault (Err e) at is told tells = tt
 tells-fault file old c bytes before now found fault (Ok x) at is told tells =
@@ -161,7 +163,7 @@ tells-fault file old c bytes before now found fault (Ok x) at is told tells =
 
 -- nothing is told of a line
 pub tells-nothing : {A E : Type 0} (file : Option (Bor (List ℕ))) (old : Checker) (c : Checked) (bytes before now : List ℕ) (found : Option Fault) (r : Result A E)
-    → IsBehind old c → found ≡ (step c.stage bytes).fault → told_fault old.faulty found ≡ None → OnOk r (now ≡ before) → OnOk r (TellsBehind file c bytes before now)
+    → IsBehind old c → found ≡ (step c.stage bytes).fault → told_fault old.sure found ≡ None → OnOk r (now ≡ before) → OnOk r (TellsBehind file c bytes before now)
 tells-nothing file old c bytes before now found (Err e) at is told same = tt
 tells-nothing file old c bytes before now found (Ok x) at is told same =
     ([], tells-next file old c bytes [] found at is (subst (λ f. TellsIf (record { file = file; line = old.number + 1 }) bytes f []) (sym told) refl), same ∙ sym (append-nil before))
@@ -175,7 +177,7 @@ told-more file c line told first all lines after cut next tells more rest =
     (tells (first ++ more) (subst (λ ls. TellsLines file c ls (first ++ more)) (sym cut) (first, more, next, rest, refl)))
 
 -- the first fault is always told
-told-first : (fault : Option Fault) → told_fault 0 fault ≡ fault
+told-first : (fault : Option Fault) → told_fault true fault ≡ fault
 told-first None = refl
 told-first (Some (faults.Line fault)) = refl
 told-first (Some (faults.Definition define.Duplicate)) = refl
@@ -190,7 +192,7 @@ counted-more n (Some fault) = omega arith
 
 fold-more : (lines : List (List ℕ)) (c : Checked) → c.faulty ≤ (fold checked c lines).faulty
 fold-more [] c = omega arith
-fold-more (bytes ∷ lines) c = omega (arith, counted-more c.faulty (told_fault c.faulty (step c.stage bytes).fault), fold-more lines (checked c bytes))
+fold-more (bytes ∷ lines) c = omega (arith, counted-more c.faulty (told_fault c.sure (step c.stage bytes).fault), fold-more lines (checked c bytes))
 
 some-faulty : (n : ℕ) → 1 ≤ n → status_of n ≡ status.LineFault
 some-faulty zero some = absurd (omega (arith, some))
@@ -201,22 +203,24 @@ abbrev ran : Played → Status
 ran p = if has_fault p then status.LineFault else status.Done
 
 -- the status of a check of more lines, if that of the rest is known
-one-more : (bytes : List ℕ) (lines : List (List ℕ)) (c : Checked) (p : Played) → c.stage ≡ p.stage → c.faulty ≡ 0 → has_fault p ≡ false
-    → ((d : Checked) (q : Played) → d.stage ≡ q.stage → d.faulty ≡ 0 → has_fault q ≡ false → status_of (fold checked d lines).faulty ≡ ran (fold next q lines))
+one-more : (bytes : List ℕ) (lines : List (List ℕ)) (c : Checked) (p : Played) → c.stage ≡ p.stage → c.faulty ≡ 0 → c.sure ≡ true → has_fault p ≡ false
+    → ((d : Checked) (q : Played) → d.stage ≡ q.stage → d.faulty ≡ 0 → d.sure ≡ true → has_fault q ≡ false → status_of (fold checked d lines).faulty ≡ ran (fold next q lines))
     → (fault : Option Fault) → (step p.stage bytes).fault ≡ fault → status_of (fold checked c (bytes ∷ lines)).faulty ≡ ran (fold next p (bytes ∷ lines))
-one-more bytes lines c p same none going rest fault is = by fault is
+one-more bytes lines c p same none sure going rest fault is = by fault is
   where
     go : next p bytes ≡ stepped p bytes (step p.stage bytes)
     go = next-going p bytes going
 
+    told : next_fault c bytes ≡ (step p.stage bytes).fault
+    told = ap (λ b. told_fault b (step c.stage bytes).fault) sure ∙ ap (λ s. told_fault true (step s bytes).fault) same ∙ told-first (step p.stage bytes).fault
+
     faulty : (checked c bytes).faulty ≡ counted 0 (step p.stage bytes).fault
-    faulty =
-        ap (λ n. counted n (told_fault n (step c.stage bytes).fault)) none ∙ ap (λ s. counted 0 (told_fault 0 (step s bytes).fault)) same ∙ ap (counted 0) (told-first (step p.stage bytes).fault)
+    faulty = ap (λ n. counted n (next_fault c bytes)) none ∙ ap (counted 0) told
 
     by : (fault : Option Fault) → (step p.stage bytes).fault ≡ fault → status_of (fold checked c (bytes ∷ lines)).faulty ≡ ran (fold next p (bytes ∷ lines))
     by None is =
         rest (checked c bytes) (next p bytes) (ap (λ s. (step s bytes).stage) same ∙ sym (ap (λ (q : Played). q.stage) go))
-        (faulty ∙ ap (counted 0) is) (ap has_fault go ∙ ap is_some is)
+        (faulty ∙ ap (counted 0) is) (ap (stays_sure c.sure bytes) (told ∙ is) ∙ sure) (ap has_fault go ∙ ap is_some is)
     by (Some fault) is =
         let stopped : has_fault (next p bytes) ≡ true = ap has_fault go ∙ ap is_some is in
         let one : (checked c bytes).faulty ≡ 1 = faulty ∙ ap (counted 0) is in
@@ -224,15 +228,15 @@ one-more bytes lines c p same none going rest fault is = by fault is
         ∙ sym (ap ran (fault-fold lines (next p bytes) stopped) ∙ ap (λ b. if b then status.LineFault else status.Done) stopped)
 
 -- a run stops at the first fault, and a check goes on: both end with the same status
-same-status : (lines : List (List ℕ)) (c : Checked) (p : Played) → c.stage ≡ p.stage → c.faulty ≡ 0 → has_fault p ≡ false
+same-status : (lines : List (List ℕ)) (c : Checked) (p : Played) → c.stage ≡ p.stage → c.faulty ≡ 0 → c.sure ≡ true → has_fault p ≡ false
     → status_of (fold checked c lines).faulty ≡ ran (fold next p lines)
-same-status [] c p same none going = rw (none, going) refl
-same-status (bytes ∷ lines) c p same none going =
-    one-more bytes lines c p same none going (same-status lines) (step p.stage bytes).fault refl
+same-status [] c p same none sure going = rw (none, going) refl
+same-status (bytes ∷ lines) c p same none sure going =
+    one-more bytes lines c p same none sure going (same-status lines) (step p.stage bytes).fault refl
 
 -- so it is of a script
 pub status-of-run : (script : List ℕ) → status_of (check (all_lines script)).faulty ≡ (if is_faulty script then status.LineFault else status.Done)
-status-of-run script = same-status (all_lines script) unchecked start refl refl refl
+status-of-run script = same-status (all_lines script) unchecked start refl refl refl refl
 
 -- what is put behind all lines
 abbrev ending : Option (Bor (List ℕ)) → Remarks → ℕ → List ℕ

@@ -2,7 +2,6 @@
 -- each record that it deletes, and DELETEQ TS each item.
 use Rattle.std.specs.Prelude.{ℕ, zero, suc, Bool, true, false, not, if◌then◌else◌, Option, Some, None, unwrap_or, List, [], ◌∷◌, ◌++◌, length, map}
 use Rattle.cics_names.specs.Keyed.{Bytes, value_at}
-use Rattle.cics_names.specs.declared.commands.Command.{Command}
 use Rattle.cics_names.specs.declared.commands.Verb.{Verb}
 use Rattle.cics_names.specs.declared.commands.Verb.TheVariants as verb
 use Rattle.cics_ksds.specs.Prefixes.{keys_under}

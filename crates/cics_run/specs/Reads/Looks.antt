@@ -1,7 +1,7 @@
 -- What a command that takes no lock looks at: keys of a file, from one to another, or an item of a
 -- temporary storage queue. It looks at the key that it gives, and at each key that would have been
 -- given in its place, had it a record. If it gives none, it looks at each that could have been.
-use Rattle.std.specs.Prelude.{ℕ, ◌-◌, Bool, true, false, not, ◌&&◌, if◌then◌else◌, Option, Some, None, option_map, unwrap_or, List, [], ◌++◌, length, replicate}
+use Rattle.std.specs.Prelude.{◌-◌, Bool, true, false, not, ◌&&◌, if◌then◌else◌, Option, Some, None, option_map, unwrap_or, [], ◌++◌, length, replicate}
 use Rattle.cics_names.specs.Keyed.{Bytes, Map, value_at}
 use Rattle.cics_names.specs.declared.commands.Verb.{Verb}
 use Rattle.cics_names.specs.declared.commands.Verb.TheVariants.{Read, StartBr, ResetBr, ReadNext, ReadPrev, ReadqTs}

@@ -1,5 +1,5 @@
 -- The steps of a run, as an observer of its events notes them.
-use Rattle.std.specs.Prelude.{ℕ, zero, suc, Bool, true, false, not, ◌&&◌, if◌then◌else◌, Option, Some, None, is_none, option_map, unwrap_or, slice_get, filter, List, [], ◌∷◌, ◌++◌, length, codes}
+use Rattle.std.specs.Prelude.{ℕ, zero, suc, Bool, true, false, if◌then◌else◌, Option, Some, None, is_none, option_map, unwrap_or, slice_get, filter, List, [], ◌∷◌, ◌++◌, length, codes}
 use Rattle.cics_names.specs.Keyed.{Bytes, Map, value_at, with_value}
 use Rattle.cics_names.specs.declared.commands.Command.{Command}
 use Rattle.cics_names.specs.declared.commands.Verb.{Verb}

@@ -1,13 +1,13 @@
 -- What a check tells of a script: the fault of each line, and what is amiss in requests. It plays no
 -- request but ATTACH.
-use Rattle.std.specs.Prelude.{⊤, ◌≡◌, ℕ, zero, suc, ◌+◌, ◌==◌, nat_lt, false, if◌then◌else◌, Option, Some, None, Result, Ok, Err, List, [], ◌∷◌, ◌++◌, codes}
+use Rattle.std.specs.Prelude.{⊤, ◌≡◌, ℕ, zero, suc, ◌+◌, Bool, true, false, ◌&&◌, if◌then◌else◌, Option, Some, None, Result, Ok, Err, List, [], ◌∷◌, ◌++◌, codes}
 use Rattle.std.specs.Borrow.{Bor}
 use Rattle.std.specs.Fmt.{decimal}
 use Rattle.std.specs.List.{fold}
 use Rattle.std.specs.Io.KnownBytes.{Appends}
 use Rattle.cics_units.specs.declared.opening.opening.DefineFault.TheVariants.{NotThere}
 use Rattle.cics_dispatch.specs.Machine.Machine.{RegionValue}
-use Rattle.cics_script.specs.Lines.{line}
+use Rattle.cics_script.specs.Lines.{line, adds_nothing}
 use Rattle.cics_script.specs.declared.advice.origin.Origin.{Origin}
 use Rattle.cics_script.specs.declared.faults.LineFault.{LineFault}
 use Rattle.cics_script.specs.declared.lines.Line.{Line}
@@ -30,18 +30,19 @@ use Rattle.cics_run.specs.declared.whole.checking.Checker.{Checker}
 use Rattle.cics_run.specs.declared.whole.checking.Found.{Found}
 
 -- After some lines: the stage in which those without a fault end, and the one to which definitions
--- and ATTACH alone lead; how many lines there were, how many are told of their faults, and what is
--- amiss in requests.
+-- and ATTACH alone lead; how many lines there were, how many are told of their faults, whether none
+-- of these may be a definition or an ATTACH, and what is amiss in requests.
 pub record Checked : Type 0 where
   pub stage : Stage
   pub known : Stage
   pub number : ℕ
   pub faulty : ℕ
+  pub sure : Bool
   pub remarks : Remarks
 
 -- before the first line
 abbrev pub unchecked : Checked
-unchecked = record { stage = initial_stage; known = initial_stage; number = 0; faulty = 0; remarks = no_remarks (record { strict = false; why = false }) }
+unchecked = record { stage = initial_stage; known = initial_stage; number = 0; faulty = 0; sure = true; remarks = no_remarks (record { strict = false; why = false }) }
 
 -- what a check makes of a line: a definition and ATTACH as a run does, and of another request no
 -- more than the region of what is defined
@@ -54,29 +55,27 @@ abbrev pub amiss_in : Stage → Result Line LineFault → Option Note
 amiss_in stage (Ok said) = note_on stage said
 amiss_in stage (Err fault) = None
 
--- the fault that is told of a line behind so many faulty ones: what a load lacks may be defined by
--- one of them
-abbrev pub told_fault : ℕ → Option Fault → Option Fault
-told_fault faulty (Some (faults.Definition NotThere)) = if nat_lt 0 faulty then None else Some (faults.Definition NotThere)
-told_fault faulty fault = fault
+-- the fault that is told of a line: what a load lacks may be defined by a faulty line before it
+abbrev pub told_fault : Bool → Option Fault → Option Fault
+told_fault sure (Some (faults.Definition NotThere)) = if sure then Some (faults.Definition NotThere) else None
+told_fault sure fault = fault
 
--- what is told to be amiss in a line behind so many faulty ones: what it lacks may be there by one
--- of them
-abbrev pub told_note : ℕ → Option Note → Option Note
-told_note faulty note = if faulty == 0 then note else None
+-- what is told to be amiss in a line: what it lacks may be there by a faulty line before it
+abbrev pub told_note : Bool → Option Note → Option Note
+told_note sure note = if sure then note else None
 
 -- the fault that is told of the next line
 abbrev pub next_fault : Checked → List ℕ → Option Fault
-next_fault c bytes = told_fault c.faulty (step c.stage bytes).fault
+next_fault c bytes = told_fault c.sure (step c.stage bytes).fault
 
 -- what is told to be amiss in a line of which no fault is told
-abbrev pub note_beside : ℕ → Option Fault → Option Note → Option Note
-note_beside faulty (Some fault) found = None
-note_beside faulty None found = told_note faulty found
+abbrev pub note_beside : Bool → Option Fault → Option Note → Option Note
+note_beside sure (Some fault) found = None
+note_beside sure None found = told_note sure found
 
 -- what is told to be amiss in the next line
 abbrev pub next_note : Checked → List ℕ → Option Note
-next_note c bytes = note_beside c.faulty (next_fault c bytes) (amiss_in c.known (line bytes))
+next_note c bytes = note_beside c.sure (next_fault c bytes) (amiss_in c.known (line bytes))
 
 -- the remarks with that on a line, if there is one
 abbrev pub with_found : Stage → ℕ → List ℕ → Remarks → Option Note → Remarks
@@ -88,6 +87,11 @@ abbrev pub counted : ℕ → Option Fault → ℕ
 counted faulty None = faulty
 counted faulty (Some fault) = faulty + 1
 
+-- whether still no faulty line may be a definition or an ATTACH, if the line has this fault
+abbrev pub stays_sure : Bool → List ℕ → Option Fault → Bool
+stays_sure sure bytes None = sure
+stays_sure sure bytes (Some fault) = sure && adds_nothing bytes
+
 -- one line more
 abbrev pub checked : Checked → List ℕ → Checked
 checked c bytes =
@@ -97,6 +101,7 @@ checked c bytes =
       known = known;
       number = c.number + 1;
       faulty = counted c.faulty (next_fault c bytes);
+      sure = stays_sure c.sure bytes (next_fault c bytes);
       remarks = with_found known (c.number + 1) bytes c.remarks (next_note c bytes);
     }
 
@@ -163,4 +168,5 @@ pub record IsBehind (checker : Checker) (c : Checked) : Type 0 where
   pub like : IsLike c.stage c.known
   pub number : checker.number ≡ c.number
   pub faulty : checker.faulty ≡ c.faulty
+  pub sure : checker.sure ≡ c.sure
   pub remarks : checker.remarks ≡ c.remarks

@@ -22,7 +22,7 @@ use cics_dispatch::{Event, Region, Request};
 use cics_names::NoMemory;
 use cics_script::advice::Origin;
 use cics_script::spelling::{push_number, push_str};
-use cics_script::{Line, LineFault, read_line};
+use cics_script::{Line, LineFault, adds_nothing, read_line};
 use cics_units::DefineFault;
 use std::alloc::Global;
 
@@ -78,29 +78,30 @@ struct Checker {
     number: u64,
     /// How many of them are at fault.
     faulty: u64,
+    /// Whether none of these may be a definition or an ATTACH.
+    sure: bool,
     /// What is told and not yet written.
     text: Vec<u8>,
     /// What is amiss in requests.
     remarks: Remarks,
 }
 
-// Returns the fault that is told of a line, after this number of faulty lines. What a load lacks may
-// be defined by one of them.
-fn told_fault(faulty: u64, fault: Option<Fault>) -> Option<Fault>
-    ensures { result ≡ told_fault faulty fault }
+// Returns the fault that is told of a line. What a load lacks may be defined by a faulty line before
+// it.
+fn told_fault(sure: bool, fault: Option<Fault>) -> Option<Fault>
+    ensures { result ≡ told_fault sure fault }
 {
     match fault {
-        Some(Fault::Definition(DefineFault::NotThere)) if faulty > 0 => None,
+        Some(Fault::Definition(DefineFault::NotThere)) if !sure => None,
         _ => fault,
     }
 }
 
-// Returns what is told to be amiss in a line, after this number of faulty lines. What it lacks may be
-// there by one of them.
-fn told_note(faulty: u64, note: Option<Note>) -> Option<Note>
-    ensures { result ≡ told_note faulty note }
+// Returns what is told to be amiss in a line. What it lacks may be there by a faulty line before it.
+fn told_note(sure: bool, note: Option<Note>) -> Option<Note>
+    ensures { result ≡ told_note sure note }
 {
-    if faulty == 0 { note } else { None }
+    if sure { note } else { None }
 }
 
 // Plays a line that was read, if a check does, and returns its fault.
@@ -165,10 +166,11 @@ impl Checker {
     {
         self.number += 1;
         let found = try_line(self.alloc, &mut self.stage, line)?;
-        let Some(fault) = told_fault(self.faulty, found.fault) else {
+        let Some(fault) = told_fault(self.sure, found.fault) else {
             return self.keep(line, found.note);
         };
         self.faulty += 1;
+        self.sure &= adds_nothing(line);
         let origin = Origin {
             file,
             line: self.number,
@@ -176,14 +178,14 @@ impl Checker {
         push_told(&mut self.text, origin, line, fault)
     }
 
-    // Keeps what is amiss in the line, if no line before it is at fault.
+    // Keeps what is amiss in the line, if no faulty line before it may mend that.
     fn keep(&mut self, line: &[u8], note: Option<Note>) -> Result<(), NoMemory>
         ensures { OnOk result (self.new ≡ record self.old {
           remarks = with_found self.old.stage self.old.number line.now self.old.remarks
-              (told_note self.old.faulty note);
+              (told_note self.old.sure note);
         }) }
     {
-        match told_note(self.faulty, note) {
+        match told_note(self.sure, note) {
             Some(note) => {
                 self.remarks
                     .add_all(&self.stage, self.number, line, &[note])
@@ -226,6 +228,7 @@ fn check_lines<K: Sink>(
         stage: Stage::new(alloc),
         number: 0,
         faulty: 0,
+        sure: true,
         text: Vec::new(alloc),
         remarks: Remarks::new(alloc),
     };
@@ -246,8 +249,9 @@ fn check_lines<K: Sink>(
 /// temporary storage with the name of a transient data queue. At most 64 of all these are told.
 ///
 /// No request but ATTACH is played, and a line with a fault changes nothing. What a line lacks may be
-/// defined by a faulty one: behind such a line nothing is told of it. `file` is the name of the
-/// script's file.
+/// defined or attached by a faulty one before it: then nothing is told of it. But a line whose first
+/// words are LOAD, CLOCK, SHUTDOWN, or EXEC CICS behind a label, defines nothing (`adds_nothing`).
+/// `file` is the name of the script's file.
 ///
 /// Returns `Status::LineFault` exactly if a run of the script does. Errors: `NoMemory`,
 /// `WriteFault`. Cost: O(bytes), with one reading more for each word of a faulty line.

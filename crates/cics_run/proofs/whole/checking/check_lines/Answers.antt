@@ -12,7 +12,7 @@ pub lines-init : goal.lines-init
 lines-init g c = (
   unchecked,
   [],
-  record { stage = c.new.ensures; like = refl; number = refl; faulty = refl; remarks = c.new-3.ensures },
+  record { stage = c.new.ensures; like = refl; number = refl; faulty = refl; sure = refl; remarks = c.new-3.ensures },
   omega arith,
   omega arith,
   refl,
@@ -37,7 +37,7 @@ lines-preserved g c =
     let number : c.check_line.new.self.number ≡ k.number + 1 = behind.number in (
       checked k line,
       told ++ first,
-      record { stage = behind.stage; like = behind.like; number = behind.number; faulty = behind.faulty; remarks = behind.remarks },
+      record { stage = behind.stage; like = behind.like; number = behind.number; faulty = behind.faulty; sure = behind.sure; remarks = behind.remarks },
       omega (arith, number, at.number, c.in-Some.ensures.less, few),
       c.in_ok-check_line.ensures.faulty,
       sym (ap (fold checked k) cut) ∙ all,
