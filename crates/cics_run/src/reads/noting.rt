@@ -1,6 +1,7 @@
 //! The steps of a run so far, and what is found in them.
 
-ghost use Rattle.std.specs.Prelude.{◌≡◌, [], IfOk, OnOk};
+ghost use Rattle.std.specs.Prelude.{◌≡◌, [], ◌++◌, IfOk, OnOk};
+ghost use Rattle.cics_run.specs.Reads.Findings.{seen_at, dirty_among, lost_at};
 ghost use Rattle.cics_run.specs.Reads.Runs.{with_step};
 ghost use Rattle.cics_run.specs.Reads.Written.{findings};
 
@@ -14,13 +15,35 @@ use cics_names::{Items, Name8, NoMemory};
 use std::alloc::Global;
 use std::marker::Model;
 
-// The steps of a run, and what each of them saw and replaced.
+// What the steps of a run saw and replaced.
 #[derive(Drop)]
-struct Noted {
-    past: Past,
+struct Noticed {
     seen: Items<Seen>,
     dirty: Items<Pair>,
     lost: Items<Lost>,
+}
+
+impl Noticed {
+    // Adds what a step behind these ones saw and replaced.
+    fn add(&mut self, past: &Past, step: &Step) -> Result<(), NoMemory>
+        ensures { OnOk result (self.new ≡ record {
+          seen = self.old.seen ++ seen_at past.now step.now;
+          dirty = self.old.dirty ++ dirty_among past.now (seen_at past.now step.now);
+          lost = self.old.lost ++ lost_at past.now step.now;
+        }) }
+    {
+        let known = self.seen.len();
+        push_seen(past, step, &mut self.seen)?;
+        push_dirty(past, &self.seen.as_slice()[known..], &mut self.dirty)?;
+        push_lost(past, step, &mut self.lost)
+    }
+}
+
+// The steps of a run, and what was noticed of them.
+#[derive(Drop)]
+struct Noted {
+    past: Past,
+    noticed: Noticed,
 }
 
 impl Model for Noted {
@@ -33,9 +56,9 @@ impl Model for Noted {
     ghost view = { λ n. n.past };
 
     ghost invariant = { λ n. record {
-      seen_by_steps : n.seen ≡ all_seen n.past;
-      dirty_by_steps : n.dirty ≡ dirty_reads n.past;
-      lost_by_steps : n.lost ≡ all_lost n.past;
+      seen_by_steps : n.noticed.seen ≡ all_seen n.past;
+      dirty_by_steps : n.noticed.dirty ≡ dirty_reads n.past;
+      lost_by_steps : n.noticed.lost ≡ all_lost n.past;
     } };
 }
 
@@ -45,9 +68,11 @@ impl Noted {
     {
         Noted {
             past: Past::new(alloc),
-            seen: Items::new(alloc),
-            dirty: Items::new(alloc),
-            lost: Items::new(alloc),
+            noticed: Noticed {
+                seen: Items::new(alloc),
+                dirty: Items::new(alloc),
+                lost: Items::new(alloc),
+            },
         }
     }
 
@@ -58,25 +83,15 @@ impl Noted {
         if self.past.is_no_step(&task, &act)? {
             return Ok(self);
         }
-        let Noted {
-            past,
-            mut seen,
-            mut dirty,
-            mut lost,
-        } = self;
+        let Noted { past, mut noticed } = self;
         let step = Step {
             place: past.next_place(line, task),
             act,
         };
-        let known = seen.len();
-        push_seen(&past, &step, &mut seen)?;
-        push_dirty(&past, &seen.as_slice()[known..], &mut dirty)?;
-        push_lost(&past, &step, &mut lost)?;
+        noticed.add(&past, &step)?;
         Ok(Noted {
             past: past.with_step(step)?,
-            seen,
-            dirty,
-            lost,
+            noticed,
         })
     }
 
@@ -85,10 +100,10 @@ impl Noted {
         ensures { IfOk result (λ found. found ≡ findings self.now) }
     {
         let past = &self.past;
-        let mut found = dirty_reads(alloc, past, self.dirty.as_slice())?;
-        let lost = lost_updates(alloc, past, self.lost.as_slice())?;
+        let mut found = dirty_reads(alloc, past, self.noticed.dirty.as_slice())?;
+        let lost = lost_updates(alloc, past, self.noticed.lost.as_slice())?;
         push_in_order(alloc, lost.as_slice(), &mut found)?;
-        let read = read_skews(alloc, past, self.seen.as_slice())?;
+        let read = read_skews(alloc, past, self.noticed.seen.as_slice())?;
         push_in_order(alloc, read.as_slice(), &mut found)?;
         let turns = turns(alloc, past)?;
         let write = write_skews(alloc, past, turns.as_slice())?;
