@@ -217,6 +217,7 @@ add_shown() {
             line = substr($0, column)
             if (line != "") print line
         }' "$root/$1" > "$shown"
+    [ -s "$room/script" ] && [ -s "$shown" ] || stop "$1 shows no script beside what it prints"
     title="the script in $1"
     shift 2
     add_case "$room/script" "$title" 0 "$shown" same /dev/null "$@"

@@ -158,14 +158,14 @@ abbrev pub issue : List ℕ → List Token → Result Line LineFault
 issue label rest = behind (codes "EXEC") rest >>= λ rest. behind (codes "CICS") rest >>= λ rest. command_line label rest
 
 -- whether a line that begins so defines and attaches nothing, whatever is wrong with the rest: LOAD,
--- CLOCK, SHUTDOWN, or EXEC and CICS behind a label
+-- CLOCK, SHUTDOWN, or EXEC and CICS behind any other word
 abbrev pub adds_nothing_behind : Option Start → List Token → Bool
 adds_nothing_behind (Some start.Define) rest = false
 adds_nothing_behind (Some start.Attach) rest = false
 adds_nothing_behind (Some first) rest = true
 adds_nothing_behind None rest = is_ok (behind (codes "EXEC") rest >>= behind (codes "CICS"))
 
--- that of a line whose first word was read
+-- the same, by the first word and the rest: a line without a first word may add something
 abbrev pub adds_nothing_read : Result (List ℕ × List Token) LineFault → Bool
 adds_nothing_read (Ok first) = adds_nothing_behind (lookup first.0 starts) first.1
 adds_nothing_read (Err fault) = false

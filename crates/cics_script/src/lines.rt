@@ -382,7 +382,7 @@ fn read_issue(alloc: Global, label: Name8, bytes: &[u8]) -> Result<Line, LineFau
 }
 
 /// Returns whether a line defines and attaches nothing, whatever is wrong behind its first words:
-/// these are LOAD, CLOCK or SHUTDOWN, or EXEC CICS behind a label.
+/// these are LOAD, CLOCK or SHUTDOWN, or EXEC CICS behind any other word.
 pub fn adds_nothing(line: &[u8]) -> bool
     ensures { result ≡ adds_nothing line.now }
 {

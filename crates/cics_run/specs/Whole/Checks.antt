@@ -60,7 +60,7 @@ abbrev pub told_fault : Bool → Option Fault → Option Fault
 told_fault sure (Some (faults.Definition NotThere)) = if sure then Some (faults.Definition NotThere) else None
 told_fault sure fault = fault
 
--- what is told to be amiss in a line: what it lacks may be there by a faulty line before it
+-- what is told to be amiss in a line: nothing if a faulty line before it may define or attach
 abbrev pub told_note : Bool → Option Note → Option Note
 told_note sure note = if sure then note else None
 

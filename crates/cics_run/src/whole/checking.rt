@@ -97,7 +97,8 @@ fn told_fault(sure: bool, fault: Option<Fault>) -> Option<Fault>
     }
 }
 
-// Returns what is told to be amiss in a line. What it lacks may be there by a faulty line before it.
+// Returns what is told to be amiss in a line: nothing if a faulty line before it may define or
+// attach.
 fn told_note(sure: bool, note: Option<Note>) -> Option<Note>
     ensures { result ≡ told_note sure note }
 {
@@ -248,9 +249,9 @@ fn check_lines<K: Sink>(
 /// before or never was, or if it names a file or queue that isn't defined. So is a command of
 /// temporary storage with the name of a transient data queue. At most 64 of all these are told.
 ///
-/// No request but ATTACH is played, and a line with a fault changes nothing. What a line lacks may be
-/// defined or attached by a faulty one before it: then nothing is told of it. But a line whose first
-/// words are LOAD, CLOCK, SHUTDOWN, or EXEC CICS behind a label, defines nothing (`adds_nothing`).
+/// No request but ATTACH is played, and a line with a fault changes nothing. But it may be meant to
+/// define or attach something: then nothing is told of requests behind it. That can't be if it
+/// begins with LOAD, CLOCK or SHUTDOWN, or with EXEC CICS behind any other word (`adds_nothing`).
 /// `file` is the name of the script's file.
 ///
 /// Returns `Status::LineFault` exactly if a run of the script does. Errors: `NoMemory`,

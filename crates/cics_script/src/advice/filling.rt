@@ -33,8 +33,8 @@ pub fn push_filled(
     Ok(())
 }
 
-// How many bytes of a token are put.
-const MOST: usize = 40;
+/// How many bytes of a token are put.
+pub const MOST: usize = 40;
 
 /// Puts the first bytes of a token.
 pub fn push_start(out: &mut Vec<u8>, token: &[u8]) -> Result<(), NoMemory> {

@@ -381,6 +381,6 @@ pub static DEFINITIONS: [(u64, &str, &str, &str); 7] = [
         4,
         "LOAD",
         "FILE DATASET TDQUEUE",
-        "it isn't defined: its DEFINE has to stand above, with this name in the same capitals",
+        "it isn't defined: its DEFINE has to stand above, with the same letters, small or capital",
     ),
 ];

@@ -1,13 +1,13 @@
 //! What is told of a value that is wrong or missing, or of its parentheses.
 
 use crate::advice::context::{Context, is_word};
-use crate::advice::filling::{Told, push_start};
+use crate::advice::filling::{MOST, Told, push_start};
 use crate::advice::tables::{
     DATA_NAME, ITEM_NUMBER, LENGTH_OF, NAME4_AS, NAME8_AS, NO_PARENTHESES, UNCLOSED, UNCLOSED_VALUE,
 };
 use crate::spelling::push_str;
-use crate::whole_token;
-use crate::words::Kind;
+use crate::words::{Kind, option_named};
+use crate::{skip_blanks, whole_token};
 use cics_names::NoMemory;
 
 /// A text that a quote within it splits: a literal, and behind it a word or a number.
@@ -16,26 +16,31 @@ pub struct Split<'a> {
     literal: &'a [u8],
     blank: &'static str,
     rest: &'a [u8],
+    end: &'static str,
 }
 
 impl<'a> Split<'a> {
     /// Returns the text in the parentheses before the column, if a quote splits it.
     pub fn new(context: &Context<'a>) -> Option<Split<'a>> {
         let literal = context.before(1);
-        let (rest, is_ended) = up_to_end(context.behind);
+        let rest = up_to_end(context.behind);
+        let behind = context.behind.get(rest.len()..).unwrap_or(&[]);
         let blank = match context.blanks() {
             0 => "",
-            1 if is_ended => " ",
+            1 if is_end(behind) && goes_on(context) => " ",
             _ => return None,
         };
         let is_split = is_word(context.before(2), "(")
             && is_quoted(literal)
             && !is_unclosed(literal)
             && context.token.first()?.is_ascii_alphanumeric();
+        let is_closed = is_end(behind) || behind.first() == Some(&b')');
+        let is_whole = is_closed && literal.len() <= MOST && rest.len() <= MOST;
         is_split.then_some(Split {
             literal,
             blank,
             rest,
+            end: if is_whole { "'" } else { ".." },
         })
     }
 
@@ -46,20 +51,33 @@ impl<'a> Split<'a> {
         push_str(out, "'")?;
         push_str(out, self.blank)?;
         push_start(out, self.rest)?;
-        push_str(out, "'")
+        push_str(out, self.end)
     }
 }
 
-// Returns the rest of a text, up to its quote, and whether a parenthesis closes behind that. If
-// none does, the rest ends before a parenthesis too.
-fn up_to_end(behind: &[u8]) -> (&[u8], bool) {
-    let rest = behind.split(|byte| *byte == b'\'').next().unwrap_or(behind);
-    let quote = behind.get(rest.len()..).unwrap_or(&[]);
-    if quote.starts_with(b"')") {
-        return (rest, true);
+// Returns whether a quote and a parenthesis come next.
+fn is_end(text: &[u8]) -> bool {
+    match text.split_first() {
+        Some((b'\'', behind)) => skip_blanks(behind).starts_with(b")"),
+        _ => false,
     }
-    let value = rest.split(|byte| *byte == b')').next();
-    (value.unwrap_or(rest), false)
+}
+
+// Returns whether the token may go on with the text before it: that is no name, and the token is no
+// option.
+fn goes_on(context: &Context<'_>) -> bool {
+    let kind = context.kind_of(context.before(3));
+    matches!(kind, Some(Kind::Text)) && option_named(context.token).is_none()
+}
+
+// Returns a text up to its next quote. If that and a parenthesis don't end it, it also ends before
+// its first parenthesis.
+fn up_to_end(text: &[u8]) -> &[u8] {
+    let rest = text.split(|byte| *byte == b'\'').next().unwrap_or(text);
+    if is_end(text.get(rest.len()..).unwrap_or(&[])) {
+        return rest;
+    }
+    rest.split(|byte| *byte == b')').next().unwrap_or(rest)
 }
 
 /// Returns whether a token is a literal in quotes.
@@ -114,11 +132,17 @@ fn of_broken<'a>(context: &Context<'a>) -> Told<'a> {
     }
 }
 
-// Returns whether a literal in quotes has a parenthesis that belongs behind it, and ends where
-// another value begins.
+// Returns whether a literal in quotes has a parenthesis that belongs behind it, and ends where the
+// parentheses of another value begin.
 fn is_unclosed(token: &[u8]) -> bool {
-    let ends = [b"('".as_slice(), b"(X'".as_slice(), b"(x'".as_slice()];
-    is_quoted(token) && token.contains(&b')') && ends.iter().any(|end| token.ends_with(end))
+    is_quoted(token) && token.contains(&b')') && token.contains(&b'(') && is_begun(token)
+}
+
+// Returns whether behind the last parenthesis that opens there is only the begin of a literal.
+fn is_begun(token: &[u8]) -> bool {
+    let last = token.iter().rev().take_while(|byte| **byte != b'(');
+    last.into_iter()
+        .all(|byte| matches!(*byte, b' ' | b'\t' | b'X' | b'x' | b'\''))
 }
 
 // Returns the text for a token behind the value in parentheses.
