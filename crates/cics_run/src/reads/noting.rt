@@ -17,13 +17,13 @@ use std::marker::Model;
 
 // What the steps of a run saw and replaced.
 #[derive(Drop)]
-struct Noticed {
+struct Effects {
     seen: Items<Seen>,
     dirty: Items<Pair>,
     lost: Items<Lost>,
 }
 
-impl Noticed {
+impl Effects {
     // Adds what a step behind these ones saw and replaced.
     fn add(&mut self, past: &Past, step: &Step) -> Result<(), NoMemory>
         ensures { OnOk result (self.new ≡ record {
@@ -39,11 +39,11 @@ impl Noticed {
     }
 }
 
-// The steps of a run, and what was noticed of them.
+// The steps of a run, with their effects.
 #[derive(Drop)]
 struct Noted {
     past: Past,
-    noticed: Noticed,
+    effects: Effects,
 }
 
 impl Model for Noted {
@@ -56,9 +56,9 @@ impl Model for Noted {
     ghost view = { λ n. n.past };
 
     ghost invariant = { λ n. record {
-      seen_by_steps : n.noticed.seen ≡ all_seen n.past;
-      dirty_by_steps : n.noticed.dirty ≡ dirty_reads n.past;
-      lost_by_steps : n.noticed.lost ≡ all_lost n.past;
+      seen_by_steps : n.effects.seen ≡ all_seen n.past;
+      dirty_by_steps : n.effects.dirty ≡ dirty_reads n.past;
+      lost_by_steps : n.effects.lost ≡ all_lost n.past;
     } };
 }
 
@@ -68,7 +68,7 @@ impl Noted {
     {
         Noted {
             past: Past::new(alloc),
-            noticed: Noticed {
+            effects: Effects {
                 seen: Items::new(alloc),
                 dirty: Items::new(alloc),
                 lost: Items::new(alloc),
@@ -83,15 +83,15 @@ impl Noted {
         if self.past.is_no_step(&task, &act)? {
             return Ok(self);
         }
-        let Noted { past, mut noticed } = self;
+        let Noted { past, mut effects } = self;
         let step = Step {
             place: past.next_place(line, task),
             act,
         };
-        noticed.add(&past, &step)?;
+        effects.add(&past, &step)?;
         Ok(Noted {
             past: past.with_step(step)?,
-            noticed,
+            effects,
         })
     }
 
@@ -100,10 +100,10 @@ impl Noted {
         ensures { IfOk result (λ found. found ≡ findings self.now) }
     {
         let past = &self.past;
-        let mut found = dirty_reads(alloc, past, self.noticed.dirty.as_slice())?;
-        let lost = lost_updates(alloc, past, self.noticed.lost.as_slice())?;
+        let mut found = dirty_reads(alloc, past, self.effects.dirty.as_slice())?;
+        let lost = lost_updates(alloc, past, self.effects.lost.as_slice())?;
         push_in_order(alloc, lost.as_slice(), &mut found)?;
-        let read = read_skews(alloc, past, self.noticed.seen.as_slice())?;
+        let read = read_skews(alloc, past, self.effects.seen.as_slice())?;
         push_in_order(alloc, read.as_slice(), &mut found)?;
         let turns = turns(alloc, past)?;
         let write = write_skews(alloc, past, turns.as_slice())?;
