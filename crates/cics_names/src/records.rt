@@ -11,7 +11,7 @@ const SHORT: usize = 30;
 
 /// Memory was refused: a growth was asked for and not granted.
 ///
-/// A call that returns it has changed nothing.
+/// What a call that returns it has changed until then stands at the call.
 #[derive(Clone, Copy, Debug, PartialEq, Eq)]
 pub struct NoMemory;
 

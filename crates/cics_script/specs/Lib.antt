@@ -4,6 +4,7 @@ pub mod Tokens
 pub mod Literals
 pub mod Words
 pub mod Options
+pub mod Parts
 pub mod Views
 pub mod Values
 pub mod Commands
