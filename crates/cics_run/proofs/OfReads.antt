@@ -1,7 +1,6 @@
 mod Examples
 pub mod Keeping
 pub mod Knowing
-pub mod Lists
 pub mod Looks
 pub mod Seeing
 pub mod Watching

@@ -1,6 +1,5 @@
 -- A command on a file that is defined, or isn't.
-use Rattle.std.proofs.Common.{◌≡◌, ap, sym, ◌∙◌, refl, Option, Some, None}
-use Rattle.std.specs.Prelude.{unwrap_or, option_map}
+use Rattle.std.proofs.Common.{◌≡◌, refl, Option, Some, None}
 use Rattle.cics_names.specs.Keyed.{Bytes, Map, value_at}
 use Rattle.cics_ksds.specs.declared.definition.FileDef.{FileDef}
 use Rattle.cics_dispatch.specs.Machine.Machine.{RegionValue, definition_of}

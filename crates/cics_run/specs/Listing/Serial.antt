@@ -91,6 +91,19 @@ verb_for (TdWrite queue from) = verb.WriteqTd queue from None
 verb_for (TdRead queue) = verb.ReadqTd queue None false
 verb_for (TdDelete queue) = verb.DeleteqTd queue
 
+-- what an updating command writes, or else its key or prefix; nothing of a queue that is deleted
+-- or read
+abbrev pub bytes_in : Op → Bytes
+bytes_in (Write file key from) = from
+bytes_in (Rewrite file key from) = from
+bytes_in (Delete file key) = key
+bytes_in (DeleteGeneric file prefix) = prefix
+bytes_in (ReadUpdate file key) = key
+bytes_in (TsWrite queue from) = from
+bytes_in (TsRewrite queue item from) = from
+bytes_in (TdWrite queue from) = from
+bytes_in _ = []
+
 -- before READ UPDATE an update read of the file that may be open is released
 abbrev pub unlock_line : ℕ → Op → List ℕ
 unlock_line unit (ReadUpdate file key) = unit_command_line unit (verb.Unlock file)

@@ -1,5 +1,5 @@
 -- What is known of a run by turn, by task and by cell.
-use Rattle.std.specs.Prelude.{ℕ, Bool, not, ◌||◌, Option, Some, None, unwrap_or, List, [], ◌∷◌, ◌++◌}
+use Rattle.std.specs.Prelude.{ℕ, Bool, not, ◌||◌, unwrap_or, List, [], ◌∷◌, ◌++◌}
 use Rattle.std.specs.declared.cmp.Ordering.{Ordering}
 use Rattle.std.specs.declared.cmp.Ordering.TheVariants.{Less, Greater}
 use Rattle.std.specs.Ordering.{nat_cmp, ordering_then}
@@ -11,8 +11,6 @@ use Rattle.cics_names.specs.Keyed.{Bytes, bytes_cmp}
 use Rattle.cics_run.specs.declared.reads.steps.Cell.{Cell}
 use Rattle.cics_run.specs.declared.reads.steps.Cell.TheVariants.{Record, Item}
 use Rattle.cics_run.specs.declared.reads.steps.Step.{Step}
-use Rattle.cics_run.specs.declared.reads.found.Fate.{Fate}
-use Rattle.cics_run.specs.declared.reads.found.Fate.TheVariants.{Open}
 use Rattle.cics_run.specs.declared.reads.past.Latest.{Latest}
 use Rattle.cics_run.specs.declared.reads.past.Mark.{Mark}
 use Rattle.cics_run.specs.Reads.Steps.{cells_of, is_lasting}
@@ -64,21 +62,3 @@ is_standing run m = m.lasts || not (is_undone m.place.turn run)
 abbrev pub cells : Run → List Cell
 cells [] = []
 cells (s ∷ run) = fold (insert_key cell_cmp) (cells run) (cells_of s)
-
--- how a last step ended its turn
-abbrev pub fate_in : Option Latest → Fate
-fate_in None = Open
-fate_in (Some l) = l.fate
-
--- the turn behind the last step of a task
-abbrev pub turn_behind : Option Latest → ℕ → ℕ
-turn_behind None count = count
-turn_behind (Some l) count = if_open l.fate where
-  if_open : Fate → ℕ
-  if_open Open = l.turn
-  if_open fate = count
-
--- where a last step stands, 0 without one
-abbrev pub number_in : Option Latest → ℕ
-number_in None = 0
-number_in (Some l) = l.at

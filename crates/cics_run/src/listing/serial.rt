@@ -2,9 +2,6 @@
 
 ghost use Rattle.std.specs.Prelude.{◌≡◌, ◌++◌, ◌∷◌, [], OnOk};
 ghost use Rattle.std.specs.List.{flat_map};
-ghost use Rattle.std.specs.Fmt.{decimal};
-ghost use Rattle.cics_script.specs.Texts.{text_of, name_text};
-ghost use Rattle.cics_run.specs.Listing.Serial.{option_with_value, bare_option, key_and_size_options};
 ghost use Rattle.cics_run.specs.Listing.Serial.{load_line, file_line, file_lines, prefix_line};
 ghost use Rattle.cics_run.specs.Listing.Serial.{queue_line};
 ghost use Rattle.cics_run.specs.Listing.Serial.{queue_lines, opening_lines, unit_lines};
@@ -12,11 +9,12 @@ ghost use Rattle.cics_run.specs.Listing.Serial.{committed_lines, open_from, open
 ghost use Rattle.cics_run.specs.Listing.UnitLines.{lines_at};
 
 use crate::listing::listing::{recoverable_title, recovery_title};
-use crate::listing::unit_lines::{gathered, push_command, push_label};
+use crate::listing::unit_lines::{gathered, push_command};
 use cics_history::UnitId;
 use cics_ksds::FileDef;
 use cics_names::{Items, Name4, Name8, NoMemory, Record, Verb};
-use cics_script::spelling::{push_name, push_number, push_str, push_text};
+use cics_script::spelling::Part::{Bytes, Name, Number, Str, Text};
+use cics_script::spelling::{push_parts, push_str};
 use cics_transdata::Recovery;
 use cics_units::{Opening, UnitState, Units};
 
@@ -34,8 +32,7 @@ pub fn push_serial(out: &mut Vec<u8>, units: &Units) -> Result<(), NoMemory>
     push_opening(out, units.opening())?;
     let rows = gathered(*out.allocator(), units.opening(), units.trace())?;
     push_committed(out, &rows, units.commits())?;
-    push_open(out, &rows, units.outcomes())?;
-    Ok(())
+    push_open(out, &rows, units.outcomes())
 }
 
 // Appends what was defined and loaded.
@@ -51,7 +48,9 @@ fn push_files(out: &mut Vec<u8>, files: &[(Name8, FileDef, Items<Record>)]) -> R
     ensures { OnOk result (out.new.items ≡ out.old.items ++ flat_map file_lines files.now) }
 {
     for file in files {
-        push_file(out, file)?;
+        let name = file.0.bytes();
+        push_file_line(out, &name, file.1)?;
+        push_loads(out, "FILE", &name, file.2.as_slice())?;
     }
     Ok(())
 }
@@ -60,7 +59,10 @@ fn push_prefixes(out: &mut Vec<u8>, prefixes: &[Name8]) -> Result<(), NoMemory>
     ensures { OnOk result (out.new.items ≡ out.old.items ++ flat_map prefix_line prefixes.now) }
 {
     for prefix in prefixes {
-        push_prefix(out, prefix)?;
+        push_parts(
+            out,
+            &[Str("DEFINE TSPREFIX("), Name(&prefix.bytes()), Str(")\n")],
+        )?;
     }
     Ok(())
 }
@@ -72,138 +74,74 @@ fn push_queues(
     ensures { OnOk result (out.new.items ≡ out.old.items ++ flat_map queue_lines queues.now) }
 {
     for queue in queues {
-        push_queue(out, queue)?;
+        let name = queue.0.bytes();
+        push_queue_line(out, &name, queue.1)?;
+        push_loads(out, "TDQUEUE", &name, queue.2.as_slice())?;
     }
     Ok(())
-}
-
-// Appends a file, and what was loaded into it.
-fn push_file(out: &mut Vec<u8>, file: &(Name8, FileDef, Items<Record>)) -> Result<(), NoMemory>
-    ensures { OnOk result (out.new.items ≡ out.old.items ++ file_lines file.now) }
-{
-    let name = file.0.bytes();
-    push_file_line(out, &name, file.1)?;
-    push_loads(out, "FILE", &name, file.2.as_slice())
 }
 
 fn push_file_line(out: &mut Vec<u8>, name: &[u8], definition: FileDef) -> Result<(), NoMemory>
     ensures { OnOk result (out.new.items ≡ out.old.items ++ file_line name.now definition) }
 {
-    push_str(out, "DEFINE")?;
-    push_named(out, "FILE", name)?;
-    push_numbers(out, definition)?;
-    push_flag(out, recoverable_title(definition.recoverable))?;
-    push_str(out, "\n")
-}
-
-// Appends where a file's keys lie, and how long its records may be.
-#[tactic(auto, unfolding(crate::specs::Listing::Serial::key_and_size_options))]
-fn push_numbers(out: &mut Vec<u8>, definition: FileDef) -> Result<(), NoMemory>
-    ensures { OnOk result (out.new.items ≡ out.old.items ++ key_and_size_options definition) }
-{
-    push_amount(out, "KEYLENGTH", definition.key_length)?;
-    push_amount(out, "KEYOFFSET", definition.key_offset)?;
-    push_amount(out, "RECORDSIZE", definition.record_size)
-}
-
-fn push_prefix(out: &mut Vec<u8>, prefix: &Name8) -> Result<(), NoMemory>
-    ensures { OnOk result (out.new.items ≡ out.old.items ++ prefix_line prefix.now) }
-{
-    push_str(out, "DEFINE")?;
-    push_named(out, "TSPREFIX", &prefix.bytes())?;
-    push_str(out, "\n")
-}
-
-// Appends a transient data queue, and what was loaded into it.
-fn push_queue(out: &mut Vec<u8>, queue: &(Name4, Recovery, Items<Record>)) -> Result<(), NoMemory>
-    ensures { OnOk result (out.new.items ≡ out.old.items ++ queue_lines queue.now) }
-{
-    let name = queue.0.bytes();
-    push_queue_line(out, &name, queue.1)?;
-    push_loads(out, "TDQUEUE", &name, queue.2.as_slice())
+    push_parts(
+        out,
+        &[
+            Str("DEFINE FILE("),
+            Name(name),
+            Str(") KEYLENGTH("),
+            Number(definition.key_length),
+            Str(") KEYOFFSET("),
+            Number(definition.key_offset),
+            Str(") RECORDSIZE("),
+            Number(definition.record_size),
+            Str(") "),
+            Str(recoverable_title(definition.recoverable)),
+            Str("\n"),
+        ],
+    )
 }
 
 fn push_queue_line(out: &mut Vec<u8>, name: &[u8], recovery: Recovery) -> Result<(), NoMemory>
     ensures { OnOk result (out.new.items ≡ out.old.items ++ queue_line name.now recovery) }
 {
-    push_str(out, "DEFINE")?;
-    push_named(out, "TDQUEUE", name)?;
-    push_flag(out, recovery_title(recovery))?;
-    push_str(out, "\n")
+    push_parts(
+        out,
+        &[
+            Str("DEFINE TDQUEUE("),
+            Name(name),
+            Str(") "),
+            Str(recovery_title(recovery)),
+            Str("\n"),
+        ],
+    )
 }
 
 // Appends the records that were loaded into a file or queue.
-fn push_loads(
+fn push_loads<'a>(
     out: &mut Vec<u8>,
-    kind: &str,
-    name: &[u8],
-    records: &[Record],
+    kind: &'a str,
+    name: &'a [u8],
+    records: &'a [Record],
 ) -> Result<(), NoMemory>
     ensures { OnOk result (out.new.items
         ≡ out.old.items ++ flat_map (load_line kind.now name.now) records.now) }
 {
     for loaded in records {
-        push_load(out, kind, name, loaded.bytes())?;
+        push_parts(
+            out,
+            &[
+                Str("LOAD "),
+                Str(kind),
+                Str("("),
+                Name(name),
+                Str(") FROM("),
+                Text(loaded.bytes()),
+                Str(")\n"),
+            ],
+        )?;
     }
     Ok(())
-}
-
-fn push_load(out: &mut Vec<u8>, kind: &str, name: &[u8], loaded: &[u8]) -> Result<(), NoMemory>
-    ensures { OnOk result (out.new.items
-        ≡ out.old.items ++ load_line kind.now name.now loaded.now) }
-{
-    push_str(out, "LOAD")?;
-    push_named(out, kind, name)?;
-    push_content(out, "FROM", loaded)?;
-    push_str(out, "\n")
-}
-
-// Appends a word that stands alone.
-#[tactic(auto, unfolding(crate::specs::Listing::Serial::bare_option))]
-fn push_flag(out: &mut Vec<u8>, title: &str) -> Result<(), NoMemory>
-    ensures { OnOk result (out.new.items ≡ out.old.items ++ bare_option title.now) }
-{
-    push_str(out, " ")?;
-    push_str(out, title)
-}
-
-// Appends an option that gives a name.
-#[tactic(auto, unfolding(crate::specs::Listing::Serial::option_with_value))]
-fn push_named(out: &mut Vec<u8>, title: &str, name: &[u8]) -> Result<(), NoMemory>
-    ensures { OnOk result (out.new.items
-        ≡ out.old.items ++ option_with_value title.now (name_text name.now)) }
-{
-    push_str(out, " ")?;
-    push_str(out, title)?;
-    push_str(out, "(")?;
-    push_name(out, name)?;
-    push_str(out, ")")
-}
-
-// Appends an option that gives a record.
-#[tactic(auto, unfolding(crate::specs::Listing::Serial::option_with_value))]
-fn push_content(out: &mut Vec<u8>, title: &str, content: &[u8]) -> Result<(), NoMemory>
-    ensures { OnOk result (out.new.items
-        ≡ out.old.items ++ option_with_value title.now (text_of content.now)) }
-{
-    push_str(out, " ")?;
-    push_str(out, title)?;
-    push_str(out, "(")?;
-    push_text(out, content)?;
-    push_str(out, ")")
-}
-
-// Appends an option that gives a number.
-#[tactic(auto, unfolding(crate::specs::Listing::Serial::option_with_value))]
-fn push_amount(out: &mut Vec<u8>, title: &str, number: u64) -> Result<(), NoMemory>
-    ensures { OnOk result (out.new.items
-        ≡ out.old.items ++ option_with_value title.now (decimal number)) }
-{
-    push_str(out, " ")?;
-    push_str(out, title)?;
-    push_str(out, "(")?;
-    push_number(out, number)?;
-    push_str(out, ")")
 }
 
 // Appends the committed units, in this order.
@@ -212,17 +150,10 @@ fn push_committed(out: &mut Vec<u8>, rows: &[Vec<u8>], commits: &[UnitId]) -> Re
         ++ flat_map (committed_lines (lines_at rows.now)) commits.now) }
 {
     for unit in commits {
-        push_committed_unit(out, rows, *unit)?;
+        push_unit(out, rows, *unit)?;
+        push_command(out, *unit, Verb::Syncpoint)?;
     }
     Ok(())
-}
-
-fn push_committed_unit(out: &mut Vec<u8>, rows: &[Vec<u8>], unit: UnitId) -> Result<(), NoMemory>
-    ensures { OnOk result (out.new.items
-        ≡ out.old.items ++ committed_lines (lines_at rows.now) unit) }
-{
-    push_unit(out, rows, unit)?;
-    push_command(out, unit, Verb::Syncpoint)
 }
 
 // Appends the open units.
@@ -257,12 +188,15 @@ fn push_unit(out: &mut Vec<u8>, rows: &[Vec<u8>], unit: UnitId) -> Result<(), No
     ensures { OnOk result (out.new.items
         ≡ out.old.items ++ unit_lines (lines_at rows.now) unit) }
 {
-    push_str(out, "ATTACH ")?;
-    push_label(out, unit)?;
-    push_str(out, " TRANSID('UNIT')")?;
-    push_str(out, "\n")?;
-    out.extend_from_slice(lines_of(rows, unit))?;
-    Ok(())
+    push_parts(
+        out,
+        &[
+            Str("ATTACH U"),
+            Number(unit.number()),
+            Str(" TRANSID('UNIT')\n"),
+            Bytes(lines_of(rows, unit)),
+        ],
+    )
 }
 
 // Returns the lines of a unit.

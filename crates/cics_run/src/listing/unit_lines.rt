@@ -3,13 +3,14 @@
 ghost use Rattle.std.specs.Prelude.{◌≡◌, ◌++◌, ◌<◌, ◌&&◌, ℕ, OnOk, IfOk, length};
 ghost use Rattle.cics_history.specs.Borrowed.{as_op};
 ghost use Rattle.cics_history.specs.Store.{is_normal, is_recoverable};
-ghost use Rattle.cics_run.specs.Listing.Serial.{unit_label, unit_command_line, verb_for};
+ghost use Rattle.cics_run.specs.Listing.Serial.{unit_command_line, verb_for, bytes_in};
 ghost use Rattle.cics_run.specs.Listing.Serial.{done_lines, unlock_line};
 ghost use Rattle.cics_run.specs.Listing.UnitLines.{lines_at, lines_added};
 
 use cics_history::UnitId;
 use cics_names::{Command, Condition, Name8, NoMemory, Record, Verb};
-use cics_script::spelling::{push_number, push_str, write_out};
+use cics_script::spelling::Part::{Number, Str};
+use cics_script::spelling::{push_parts, push_str, write_out};
 use cics_units::{Entry, OpRef, Opening};
 use std::alloc::Global;
 
@@ -93,17 +94,9 @@ pub fn push_command(out: &mut Vec<u8>, unit: UnitId, verb: Verb) -> Result<(), N
 {
     let command = Command { verb, resp: false };
     let mut label = Vec::new(*out.allocator());
-    push_label(&mut label, unit)?;
+    push_parts(&mut label, &[Str("U"), Number(unit.number())])?;
     write_out(out, &label, &command)?;
     push_str(out, "\n")
-}
-
-/// Appends the label of the task of a unit.
-pub fn push_label(out: &mut Vec<u8>, unit: UnitId) -> Result<(), NoMemory>
-    ensures { OnOk result (out.new.items ≡ out.old.items ++ unit_label unit) }
-{
-    push_str(out, "U")?;
-    push_number(out, unit.number())
 }
 
 // Returns DELETE of a key, or with `generic` of each key that begins with it.
@@ -130,44 +123,58 @@ fn ts_write_of(queue: Name8, from: Record, item: Option<u64>) -> Verb
     }
 }
 
+// Returns what a command writes, or else its key or prefix, or no byte.
+fn bytes_in<'a>(op: &OpRef<'a>) -> &'a [u8]
+    ensures { result.now ≡ bytes_in (as_op op.now) }
+{
+    match op {
+        OpRef::Write(_, _, bytes) | OpRef::Rewrite(_, _, bytes) | OpRef::TsRewrite(_, _, bytes) => {
+            bytes
+        }
+        OpRef::Delete(_, bytes)
+        | OpRef::DeleteGeneric(_, bytes)
+        | OpRef::ReadUpdate(_, bytes)
+        | OpRef::TsWrite(_, bytes)
+        | OpRef::TdWrite(_, bytes) => bytes,
+        OpRef::TsDelete(_) | OpRef::TdRead(_) | OpRef::TdDelete(_) => &[],
+    }
+}
+
 // Returns the verb that asks for an updating command. It takes memory for copies of its records.
 fn verb_for(alloc: Global, op: &OpRef<'_>) -> Result<Verb, NoMemory>
     ensures { IfOk result (λ verb. verb ≡ verb_for (as_op op.now)) }
 {
+    let bytes = Record::from_slice(alloc, bytes_in(op))?;
     Ok(match op {
-        OpRef::Write(file, key, from) => Verb::Write {
+        OpRef::Write(file, key, _) => Verb::Write {
             file: *file,
             ridfld: Record::from_slice(alloc, key)?,
             key_length: None,
-            from: Record::from_slice(alloc, from)?,
+            from: bytes,
             length: None,
         },
-        OpRef::Rewrite(file, _, from) => Verb::Rewrite {
+        OpRef::Rewrite(file, _, _) => Verb::Rewrite {
             file: *file,
-            from: Record::from_slice(alloc, from)?,
+            from: bytes,
             length: None,
         },
-        OpRef::Delete(file, key) => delete_of(*file, Record::from_slice(alloc, key)?, false),
-        OpRef::DeleteGeneric(file, prefix) => {
-            delete_of(*file, Record::from_slice(alloc, prefix)?, true)
-        }
-        OpRef::ReadUpdate(file, key) => Verb::Read {
+        OpRef::Delete(file, _) => delete_of(*file, bytes, false),
+        OpRef::DeleteGeneric(file, _) => delete_of(*file, bytes, true),
+        OpRef::ReadUpdate(file, _) => Verb::Read {
             file: *file,
-            ridfld: Record::from_slice(alloc, key)?,
+            ridfld: bytes,
             key_length: None,
             length: None,
             generic: false,
             gteq: false,
             update: true,
         },
-        OpRef::TsWrite(queue, from) => ts_write_of(*queue, Record::from_slice(alloc, from)?, None),
-        OpRef::TsRewrite(queue, item, from) => {
-            ts_write_of(*queue, Record::from_slice(alloc, from)?, Some(*item))
-        }
+        OpRef::TsWrite(queue, _) => ts_write_of(*queue, bytes, None),
+        OpRef::TsRewrite(queue, item, _) => ts_write_of(*queue, bytes, Some(*item)),
         OpRef::TsDelete(queue) => Verb::DeleteqTs { queue: *queue },
-        OpRef::TdWrite(queue, from) => Verb::WriteqTd {
+        OpRef::TdWrite(queue, _) => Verb::WriteqTd {
             queue: *queue,
-            from: Record::from_slice(alloc, from)?,
+            from: bytes,
             length: None,
         },
         OpRef::TdRead(queue) => Verb::ReadqTd {

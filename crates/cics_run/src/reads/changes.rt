@@ -3,14 +3,14 @@
 ghost use Rattle.std.specs.Prelude.{◌≡◌, [], ◌∷◌, slice_get, IfOk};
 ghost use Rattle.cics_history.specs.Borrowed.{as_op};
 ghost use Rattle.cics_run.specs.Reads.Changes.{items_to, records_under, deletes_several, doomed_by};
-ghost use Rattle.cics_run.specs.Reads.Changes.{changed, item_added, done_by, act_at};
-ghost use Rattle.cics_run.specs.declared.reads.steps.Cell.TheVariants.{Record as RecordCell};
+ghost use Rattle.cics_run.specs.Reads.Changes.{changed, done_by, act_at};
 
 use crate::reads::steps::{Act, Cell, Change};
-use cics_history::{Entry, OpRef};
+use cics_history::{OpRef};
 use cics_names::{Condition, Items, Name8, NoMemory, Record, Verb};
 use cics_units::{Opening, Units};
 use std::alloc::Global;
+use std::mem::replace;
 
 // Returns the items of a queue from 1 to a number.
 fn items_to(alloc: Global, queue: &Name8, count: u64) -> Result<Items<Cell>, NoMemory>
@@ -72,32 +72,6 @@ pub fn doomed_by(units: &Units, verb: &Verb) -> Result<Items<Cell>, NoMemory>
     }
 }
 
-// Returns one cell as a list.
-fn alone(alloc: Global, cell: Cell) -> Result<Items<Cell>, NoMemory>
-    ensures { IfOk result (λ cells. cells ≡ cell ∷ []) }
-{
-    let mut cells = Items::new(alloc);
-    cells.push(cell)?;
-    Ok(cells)
-}
-
-// Returns the record of a key, as a list.
-fn record_at(alloc: Global, file: Name8, key: &[u8]) -> Result<Items<Cell>, NoMemory>
-    ensures { IfOk result (λ cells. cells ≡ RecordCell file key.now ∷ []) }
-{
-    alone(alloc, Cell::Record(file, Record::from_slice(alloc, key)?))
-}
-
-// Returns the item that WRITEQ TS added, by the number that it was answered, as a list.
-fn item_added(alloc: Global, queue: Name8, number: Option<u64>) -> Result<Items<Cell>, NoMemory>
-    ensures { IfOk result (λ cells. cells ≡ item_added queue number) }
-{
-    match number {
-        Some(number) => alone(alloc, Cell::Item(queue, number)),
-        None => Ok(Items::new(alloc)),
-    }
-}
-
 // Returns the change of these cells by a command.
 fn changed(opening: &Opening, op: &OpRef<'_>, cells: Items<Cell>, adds: bool) -> Option<Act>
     ensures { result ≡ changed opening.now (as_op op.now) cells adds }
@@ -106,41 +80,65 @@ fn changed(opening: &Opening, op: &OpRef<'_>, cells: Items<Cell>, adds: bool) ->
     Some(Act::Change(Change { cells, adds, lasts }))
 }
 
+// Returns the change of one cell by a command.
+fn changed_one(
+    opening: &Opening,
+    op: &OpRef<'_>,
+    cell: Cell,
+    adds: bool,
+) -> Result<Option<Act>, NoMemory>
+    ensures { IfOk result (λ act. act ≡ changed opening.now (as_op op.now) (cell ∷ []) adds) }
+{
+    let mut cells = Items::new(opening.allocator());
+    cells.push(cell)?;
+    Ok(changed(opening, op, cells, adds))
+}
+
 // Returns what a command did that was answered NORMAL. `doomed` are the cells that were there for
-// it to delete.
+// it to delete. If it deleted them, they are taken out of `doomed`.
 fn done_by(
     opening: &Opening,
     op: &OpRef<'_>,
     number: Option<u64>,
-    doomed: Items<Cell>,
+    doomed: &mut Items<Cell>,
 ) -> Result<Option<Act>, NoMemory>
-    ensures { IfOk result (λ act. act ≡ done_by opening.now (as_op op.now) number doomed) }
+    ensures { IfOk result (λ act. act ≡ done_by opening.now (as_op op.now) number doomed.old) }
 {
     let alloc = opening.allocator();
-    Ok(match op {
-        OpRef::Write(file, key, _) => changed(opening, op, record_at(alloc, *file, key)?, true),
-        OpRef::Rewrite(file, key, _) => changed(opening, op, record_at(alloc, *file, key)?, false),
-        OpRef::Delete(file, key) => changed(opening, op, record_at(alloc, *file, key)?, false),
-        OpRef::DeleteGeneric(_, _) | OpRef::TsDelete(_) => changed(opening, op, doomed, false),
+    match op {
+        OpRef::Write(file, key, _) => {
+            let cell = Cell::Record(*file, Record::from_slice(alloc, key)?);
+            changed_one(opening, op, cell, true)
+        }
+        OpRef::Rewrite(file, key, _) | OpRef::Delete(file, key) => {
+            let cell = Cell::Record(*file, Record::from_slice(alloc, key)?);
+            changed_one(opening, op, cell, false)
+        }
+        OpRef::DeleteGeneric(_, _) | OpRef::TsDelete(_) => {
+            let cells = replace(doomed, Items::new(alloc));
+            Ok(changed(opening, op, cells, false))
+        }
         OpRef::ReadUpdate(file, key) => {
-            Some(Act::LookForUpdate(*file, Record::from_slice(alloc, key)?))
+            Ok(Some(Act::LookForUpdate(*file, Record::from_slice(alloc, key)?)))
         }
-        OpRef::TsWrite(queue, _) => changed(opening, op, item_added(alloc, *queue, number)?, true),
+        OpRef::TsWrite(queue, _) => match number {
+            Some(number) => changed_one(opening, op, Cell::Item(*queue, number), true),
+            None => Ok(changed(opening, op, Items::new(alloc), true)),
+        },
         OpRef::TsRewrite(queue, number, _) => {
-            let cells = alone(alloc, Cell::Item(*queue, *number))?;
-            changed(opening, op, cells, false)
+            changed_one(opening, op, Cell::Item(*queue, *number), false)
         }
-        OpRef::TdWrite(_, _) | OpRef::TdRead(_) | OpRef::TdDelete(_) => None,
-    })
+        OpRef::TdWrite(_, _) | OpRef::TdRead(_) | OpRef::TdDelete(_) => Ok(None),
+    }
 }
 
 /// Returns what the entry at a place of the history did, if there is one. `doomed` are the cells
-/// that were there for it to delete.
+/// that were there for it to delete. If it deleted them, they are taken out of `doomed`.
 ///
 /// Errors: `NoMemory`.
-pub fn act_at(units: &Units, at: usize, doomed: Items<Cell>) -> Result<Option<Act>, NoMemory>
+pub fn act_at(units: &Units, at: usize, doomed: &mut Items<Cell>) -> Result<Option<Act>, NoMemory>
     ensures { IfOk result (λ act. act
-        ≡ act_at units.now.state.opening doomed (slice_get units.now.state.trace at)) }
+        ≡ act_at units.now.state.opening doomed.old (slice_get units.now.state.trace at)) }
 {
     match units.trace().get(at) {
         Some(entry) if entry.condition() == Condition::Normal => {

@@ -4,14 +4,14 @@ use crate::reads::steps::Place;
 use cics_names::Name8;
 
 /// A look, and a change that it saw or missed.
-#[derive(Clone, Copy, PartialEq, Eq)]
+#[derive(Clone, Copy)]
 pub struct Pair {
     pub look: Place,
     pub change: Place,
 }
 
 /// A look and a change that it saw.
-#[derive(Clone, Copy, PartialEq, Eq)]
+#[derive(Clone, Copy)]
 pub struct Seen {
     pub pair: Pair,
     /// Whether the change lasts.
@@ -19,7 +19,7 @@ pub struct Seen {
 }
 
 /// A change that replaced another one, which its task's last look had missed.
-#[derive(Clone, Copy, PartialEq, Eq)]
+#[derive(Clone, Copy)]
 pub struct Lost {
     pub missed: Pair,
     pub by: Place,
@@ -36,7 +36,7 @@ pub enum Fate {
 }
 
 /// What a read saw or missed.
-#[derive(Clone, Copy, PartialEq, Eq)]
+#[derive(Clone, Copy)]
 pub enum Finding {
     /// A look saw an open change, whose turn ended like this.
     DirtyRead(Pair, Fate),

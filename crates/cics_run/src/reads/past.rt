@@ -1,19 +1,18 @@
 //! The steps of a run so far, with what is known by turn, by task and by cell.
 
-ghost use Rattle.std.specs.Prelude.{◌≡◌, ◌∷◌, [], ◌++◌, IfOk, OnOk, Some, option_map};
-ghost use Rattle.std.specs.List.{find};
+ghost use Rattle.std.specs.Prelude.{◌≡◌, ◌∷◌, [], ◌||◌, not, IfOk, OnOk, Some, option_map};
+ghost use Rattle.std.specs.Prelude.{reverse};
+ghost use Rattle.std.specs.List.{find, fold, flat_map, filter};
 ghost use Rattle.std.specs.Option.{option_copied};
 ghost use Rattle.std.specs.BTreeMap.{insert_entry};
 ghost use Rattle.std.specs.Ordering.{nat_cmp};
 ghost use Rattle.cics_names.specs.Keyed.{bytes_cmp};
-ghost use Rattle.std.specs.Prelude.{length, reverse};
-ghost use Rattle.std.specs.List.{fold};
-ghost use Rattle.cics_run.specs.Reads.Runs.{fate_by, last_in, is_by, is_open, is_undone, last, fate_of, next_turn, next_place, near, is_no_step, stands};
-ghost use Rattle.cics_run.specs.Reads.Past.{latest_of, put_mark, mark_of, is_standing, fate_in, turn_behind, number_in, cells};
+ghost use Rattle.cics_run.specs.Reads.Runs.{fate_by, fate_of, is_by, is_no_step, is_undone, last};
+ghost use Rattle.cics_run.specs.Reads.Runs.{last_in, near, next_place};
+ghost use Rattle.cics_run.specs.Reads.Past.{latest_of, put_mark, mark_of, is_standing, cells};
 ghost use Rattle.cics_run.specs.Reads.Skews.{number_of};
-ghost use Rattle.cics_run.specs.Reads.Findings.{seen, of_another, with_seen, seen_in};
+ghost use Rattle.cics_run.specs.Reads.Findings.{of_another, with_seen, seen_in};
 ghost use Rattle.cics_run.specs.Reads.Steps.{cells_of, looks_at, view_ends};
-ghost use Rattle.std.specs.List.{flat_map, filter};
 
 use crate::reads::found::{Fate, Pair, Seen};
 use crate::reads::steps::{Act, Cell, Place, Step, is_same};
@@ -38,19 +37,25 @@ pub struct Mark {
     pub lasts: bool,
 }
 
-/// The steps of a run so far.
-///
-/// Contracts see the steps, the newest first.
+// What is known of the steps by turn, by task and by cell.
 #[derive(Drop)]
-pub struct Past {
+struct Kept {
     alloc: Global,
-    steps: Items<Step>,
     // The last step of each turn, by the turn's number.
     turns: BTreeMap<u64, Latest>,
     // The last step of each task.
     tasks: BTreeMap<Name8, Latest>,
     // The changes of each cell, in order.
     marks: BTreeMap<Cell, Items<Mark>>,
+}
+
+/// The steps of a run so far.
+///
+/// Contracts see the steps, the newest first.
+#[derive(Drop)]
+pub struct Past {
+    steps: Items<Step>,
+    kept: Kept,
 }
 
 impl Model for Past {
@@ -63,9 +68,9 @@ impl Model for Past {
     ghost view = { λ p. reverse p.steps };
 
     ghost invariant = { λ p. record {
-      by_turn : p.turns.entries ≡ turns_of (reverse p.steps);
-      by_task : p.tasks.entries ≡ tasks_of (reverse p.steps);
-      by_cell : p.marks.entries ≡ marks_of (reverse p.steps);
+      by_turn : p.kept.turns.entries ≡ turns_of (reverse p.steps);
+      by_task : p.kept.tasks.entries ≡ tasks_of (reverse p.steps);
+      by_cell : p.kept.marks.entries ≡ marks_of (reverse p.steps);
     } };
 }
 
@@ -82,27 +87,6 @@ fn fate_by(act: &Act) -> Fate
     }
 }
 
-// Returns what is kept of a last step.
-fn latest_of(step: &Step) -> Latest
-    ensures { result ≡ latest_of step.now }
-{
-    Latest {
-        at: step.place.at,
-        turn: step.place.turn,
-        fate: fate_by(&step.act),
-    }
-}
-
-// Returns what is kept of a change.
-fn mark_of(step: &Step) -> Mark
-    ensures { result ≡ mark_of step.now }
-{
-    Mark {
-        place: step.place,
-        lasts: step.act.lasts(),
-    }
-}
-
 // Adds a change of a cell.
 fn put_mark(
     alloc: Global,
@@ -115,90 +99,29 @@ fn put_mark(
     marks.entry(cell)?.or_insert(Items::new(alloc)).push(mark)
 }
 
-// Adds the changes of a step.
-fn put_marks(
-    alloc: Global,
-    marks: &mut BTreeMap<Cell, Items<Mark>>,
-    step: &Step,
-) -> Result<(), NoMemory>
-    ensures { OnOk result (marks.new.entries
-        ≡ fold (put_mark (mark_of step.now)) marks.old.entries (cells_of step.now)) }
-{
-    let mark = mark_of(step);
-    for cell in step.act.cells() {
-        put_mark(alloc, marks, cell.copy()?, mark)?;
-    }
-    Ok(())
-}
-
-// Keeps the last step of a turn.
-fn keep_turn(turns: &mut BTreeMap<u64, Latest>, step: &Step) -> Result<(), NoMemory>
-    ensures { OnOk result (turns.new.entries
-        ≡ insert_entry nat_cmp turns.old.entries step.now.place.turn (latest_of step.now)) }
-{
-    turns.insert(step.place.turn, latest_of(step))?;
-    Ok(())
-}
-
-// Keeps the last step of a task.
-fn keep_task(tasks: &mut BTreeMap<Name8, Latest>, step: &Step) -> Result<(), NoMemory>
-    ensures { OnOk result (tasks.new.entries
-        ≡ insert_entry bytes_cmp tasks.old.entries step.now.place.task (latest_of step.now)) }
-{
-    tasks.insert(step.place.task, latest_of(step))?;
-    Ok(())
-}
-
-// Returns the last of some steps by which a task looked at a cell or changed it.
-fn near<'a>(steps: &'a [Step], task: &Name8, cell: &Cell) -> Option<&'a Step>
-    ensures { option_copied result ≡ near task.now cell.now (reverse steps.now) }
-{
-    steps
-        .iter()
-        .rev()
-        .find(|step| step.is_by(task) && step.touches(cell))
-}
-
-// Returns how a last step ended its turn.
-fn fate_in(step: Option<&Latest>) -> Fate
-    ensures { result ≡ fate_in (option_copied step.entry) }
-{
-    match step {
-        Some(step) => step.fate,
-        None => Fate::Open,
-    }
-}
-
-// Returns where a last step stands, 0 without one.
-fn number_in(step: Option<&Latest>) -> u64
-    ensures { result ≡ number_in (option_copied step.entry) }
-{
-    match step {
-        Some(step) => step.at,
-        None => 0,
-    }
-}
-
-// Returns the turn behind the last step of a task: the same one, or behind an end a new one.
-fn turn_behind(step: Option<&Latest>, count: u64) -> u64
-    ensures { result ≡ turn_behind (option_copied step.entry) count }
-{
-    match step {
-        Some(step) if step.fate == Fate::Open => step.turn,
-        _ => count,
-    }
-}
-
-// Returns a look and a change that it saw.
-fn seen(look: &Step, change: &Mark) -> Seen
-    ensures { result ≡ seen look.now change.now }
-{
-    Seen {
-        pair: Pair {
-            look: look.place,
-            change: change.place,
-        },
-        lasts: change.lasts,
+impl Kept {
+    // Adds what is kept of a step.
+    fn add(&mut self, step: &Step) -> Result<(), NoMemory>
+        ensures turns { OnOk result (self.new.turns.entries ≡ insert_entry nat_cmp
+            self.old.turns.entries step.now.place.turn (latest_of step.now)) }
+        ensures tasks { OnOk result (self.new.tasks.entries ≡ insert_entry bytes_cmp
+            self.old.tasks.entries step.now.place.task (latest_of step.now)) }
+        ensures marks { OnOk result (self.new.marks.entries
+            ≡ fold (put_mark (mark_of step.now)) self.old.marks.entries (cells_of step.now)) }
+    {
+        let Place { at, turn, task, .. } = step.place;
+        let fate = fate_by(&step.act);
+        self.turns.insert(turn, Latest { at, turn, fate })?;
+        self.tasks.insert(task, Latest { at, turn, fate })?;
+        let alloc = self.alloc;
+        let mark = Mark {
+            place: step.place,
+            lasts: step.act.lasts(),
+        };
+        for cell in step.act.cells() {
+            put_mark(alloc, &mut self.marks, cell.copy()?, mark)?;
+        }
+        Ok(())
     }
 }
 
@@ -213,11 +136,24 @@ fn keep_seen(
 {
     match change {
         Some(change) if !is_same(&look.place.task, &change.place.task) => {
-            found.insert(change.place.at, seen(look, change))?;
+            let pair = Pair {
+                look: look.place,
+                change: change.place,
+            };
+            let lasts = change.lasts;
+            found.insert(change.place.at, Seen { pair, lasts })?;
             Ok(())
         }
         _ => Ok(()),
     }
+}
+
+// Returns the last of some steps by which a task looked at a cell or changed it.
+fn near<'a>(steps: &'a [Step], task: &Name8, cell: &Cell) -> Option<&'a Step>
+    ensures { option_copied result ≡ near task.now cell.now (reverse steps.now) }
+{
+    steps.iter().rev().find(|step| is_same(task, &step.place.task)
+        && (step.act.looks_at(cell) || step.changes(cell)))
 }
 
 impl Past {
@@ -226,12 +162,19 @@ impl Past {
         ensures { result ≡ [] }
     {
         Past {
-            alloc,
             steps: Items::new(alloc),
-            turns: BTreeMap::new(alloc),
-            tasks: BTreeMap::new(alloc),
-            marks: BTreeMap::new(alloc),
+            kept: Kept {
+                alloc,
+                turns: BTreeMap::new(alloc),
+                tasks: BTreeMap::new(alloc),
+                marks: BTreeMap::new(alloc),
+            },
         }
+    }
+
+    /// Returns the allocator of the steps.
+    pub fn alloc(&self) -> Global {
+        self.kept.alloc
     }
 
     /// Returns the steps, the oldest first.
@@ -245,70 +188,58 @@ impl Past {
     fn latest_in(&self, turn: u64) -> Option<&Latest>
         ensures { option_copied result ≡ option_map latest_of (last_in turn self.now) }
     {
-        self.turns.get(&turn)
+        self.kept.turns.get(&turn)
     }
 
     /// Returns the number of the last step of a turn, 0 without one.
     pub fn number_of(&self, turn: u64) -> u64
         ensures { result ≡ number_of (last_in turn self.now) }
     {
-        number_in(self.latest_in(turn))
+        match self.latest_in(turn) {
+            Some(step) => step.at,
+            None => 0,
+        }
     }
 
     // Returns the last step of a task.
     fn latest_by(&self, task: &Name8) -> Option<&Latest>
         ensures { option_copied result ≡ option_map latest_of (find (is_by task.now) self.now) }
     {
-        self.tasks.get(task)
+        self.kept.tasks.get(task)
     }
 
     /// Returns how a turn ended.
     pub fn fate_of(&self, turn: u64) -> Fate
         ensures { result ≡ fate_of turn self.now }
     {
-        fate_in(self.latest_in(turn))
+        match self.latest_in(turn) {
+            Some(step) => step.fate,
+            None => Fate::Open,
+        }
     }
 
-    /// Returns whether a turn hasn't ended.
-    pub fn is_open(&self, turn: u64) -> bool
-        ensures { result ≡ is_open turn self.now }
+    /// Returns whether a change of a turn stands: it lasts, or the turn isn't backed out.
+    pub fn stands(&self, lasts: bool, turn: u64) -> bool
+        ensures { result ≡ (lasts || not (is_undone turn self.now)) }
     {
-        self.fate_of(turn) == Fate::Open
-    }
-
-    /// Returns whether a turn ended with a backout.
-    pub fn is_undone(&self, turn: u64) -> bool
-        ensures { result ≡ is_undone turn self.now }
-    {
-        self.fate_of(turn) == Fate::BackedOut
-    }
-
-    // Returns whether a change stands.
-    fn is_standing(&self, mark: &Mark) -> bool
-        ensures { result ≡ is_standing self.now mark.now }
-    {
-        mark.lasts || !self.is_undone(mark.place.turn)
-    }
-
-    /// Returns whether a change stands.
-    pub fn stands(&self, change: &Step) -> bool
-        ensures { result ≡ stands self.now change.now }
-    {
-        change.act.lasts() || !self.is_undone(change.place.turn)
+        lasts || self.fate_of(turn) != Fate::BackedOut
     }
 
     // Returns the last of some changes that stands.
     fn newest<'a>(&self, marks: &'a [Mark]) -> Option<&'a Mark>
         ensures { option_copied result ≡ find (is_standing self.now) (reverse marks.now) }
     {
-        marks.iter().rev().find(|mark| self.is_standing(mark))
+        marks
+            .iter()
+            .rev()
+            .find(|mark| self.stands(mark.lasts, mark.place.turn))
     }
 
     /// Returns the last change of a cell that stands.
     pub fn last(&self, cell: &Cell) -> Option<&Mark>
         ensures { option_copied result ≡ option_map mark_of (last cell.now self.now) }
     {
-        match self.marks.get(cell) {
+        match self.kept.marks.get(cell) {
             Some(marks) => self.newest(marks.as_slice()),
             None => None,
         }
@@ -330,11 +261,10 @@ impl Past {
         let Act::LookForUpdate(file, key) = act else {
             return Ok(false);
         };
-        let cell = Cell::Record(*file, key.copy()?);
-        Ok(match self.near(task, &cell) {
-            Some(step) => step.act.is_plain_look(),
-            None => false,
-        })
+        match self.near(task, &Cell::Record(*file, key.copy()?)) {
+            Some(step) => Ok(matches!(step.act, Act::Look(_))),
+            None => Ok(false),
+        }
     }
 
     /// Returns what a look sees, by the numbers of the changes. All that it is at lies between two
@@ -346,11 +276,11 @@ impl Past {
         ensures { IfOk result (λ found. found.entries ≡ fold with_seen []
             (flat_map (seen_in self.now look.now) (filter (looks_at look.now) (cells self.now)))) }
     {
-        let mut found = BTreeMap::new(self.alloc);
+        let mut found = BTreeMap::new(self.kept.alloc);
         if low.cmp(high).is_gt() {
             return Ok(found);
         }
-        for (cell, marks) in self.marks.range(low..=high) {
+        for (cell, marks) in self.kept.marks.range(low..=high) {
             if look.act.looks_at(cell) {
                 keep_seen(&mut found, look, self.newest(marks.as_slice()))?;
             }
@@ -358,22 +288,20 @@ impl Past {
         Ok(found)
     }
 
-    /// Returns the turn of a task's next step.
-    pub fn next_turn(&self, task: &Name8) -> u64
-        ensures { result ≡ next_turn task.now self.now }
-    {
-        turn_behind(self.latest_by(task), self.steps.len() as u64)
-    }
-
     /// Returns where a task's next step stands.
     pub fn next_place(&self, line: u64, task: Name8) -> Place
         ensures { result ≡ next_place line task self.now }
     {
+        let at = self.steps.len() as u64;
+        let turn = match self.latest_by(&task) {
+            Some(step) if step.fate == Fate::Open => step.turn,
+            _ => at,
+        };
         Place {
-            at: self.steps.len() as u64,
+            at,
             line,
             task,
-            turn: self.next_turn(&task),
+            turn,
         }
     }
 
@@ -382,22 +310,11 @@ impl Past {
         ensures { IfOk result (λ past. past ≡ step ∷ self) }
     {
         let Past {
-            alloc,
             mut steps,
-            mut turns,
-            mut tasks,
-            mut marks,
+            mut kept,
         } = self;
-        keep_turn(&mut turns, &step)?;
-        keep_task(&mut tasks, &step)?;
-        put_marks(alloc, &mut marks, &step)?;
+        kept.add(&step)?;
         steps.push(step)?;
-        Ok(Past {
-            alloc,
-            steps,
-            turns,
-            tasks,
-            marks,
-        })
+        Ok(Past { steps, kept })
     }
 }

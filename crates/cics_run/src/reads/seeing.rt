@@ -1,77 +1,33 @@
 //! What a look saw, and what a change replaced.
 
 ghost use Rattle.std.specs.Prelude.{◌≡◌, ◌++◌, OnOk};
-ghost use Rattle.std.specs.Option.{option_copied, option_to_list};
-ghost use Rattle.cics_run.specs.Reads.Findings.{seen_at, is_dirty};
-ghost use Rattle.cics_run.specs.Reads.Findings.{dirty_among, replaced, replaced_at, lost_at};
+ghost use Rattle.cics_run.specs.Reads.Findings.{seen_at, is_dirty, dirty_at, replaced_at, lost_at};
 
-use crate::reads::found::{Lost, Pair, Seen};
-use crate::reads::past::{Mark, Past};
-use crate::reads::steps::{Cell, Step};
+use crate::reads::found::{Fate, Lost, Pair, Seen};
+use crate::reads::past::Past;
+use crate::reads::steps::{Act, Cell, Step};
 use cics_names::{Items, NoMemory};
 
-/// Appends what a step behind these ones saw, if it is a look.
-pub(crate) fn push_seen(past: &Past, look: &Step, found: &mut Items<Seen>) -> Result<(), NoMemory>
-    ensures { OnOk result (found.new ≡ found.old ++ seen_at past.now look.now) }
-{
-    let Some((low, high)) = look.act.ends()? else {
-        return Ok(());
-    };
-    for (_, one) in past.see(look, &low, &high)? {
-        found.push(one)?;
-    }
-    Ok(())
+/// What the steps of a run saw and replaced.
+#[derive(Drop)]
+pub struct Effects {
+    /// What each look saw.
+    pub seen: Items<Seen>,
+    /// What looks saw of turns that were open then, if a backout undoes it.
+    pub dirty: Items<Pair>,
+    /// The changes that replaced another one without knowing of it.
+    pub lost: Items<Lost>,
 }
 
 // Returns whether what a look saw is open, and undone if it is backed out.
 fn is_dirty(past: &Past, seen: &Seen) -> bool
     ensures { result ≡ is_dirty past.now seen.now }
 {
-    !seen.lasts && past.is_open(seen.pair.change.turn)
+    !seen.lasts && past.fate_of(seen.pair.change.turn) == Fate::Open
 }
 
-/// Appends the dirty reads among what a look behind these steps saw.
-pub(crate) fn push_dirty(
-    past: &Past,
-    seen: &[Seen],
-    found: &mut Items<Pair>,
-) -> Result<(), NoMemory>
-    ensures { OnOk result (found.new ≡ found.old ++ dirty_among past.now seen.now) }
-{
-    for one in seen {
-        if is_dirty(past, one) {
-            found.push(one.pair)?;
-        }
-    }
-    Ok(())
-}
-
-// Returns what a change replaces at a cell, if its task's last step there is a look before the last
+// Appends what a change replaces at a cell, if its task's last step there is a look before the last
 // change.
-fn replaced(change: &Step, near: Option<&Step>, last: Option<&Mark>) -> Option<Lost>
-    ensures { option_to_list result
-        ≡ replaced change.now (option_copied near.entry) (option_copied last.entry) }
-{
-    match (near, last) {
-        (Some(look), Some(missed)) => {
-            if look.act.is_look() && look.place.at < missed.place.at {
-                Some(Lost {
-                    missed: Pair {
-                        look: look.place,
-                        change: missed.place,
-                    },
-                    by: change.place,
-                    lasts: change.act.lasts(),
-                })
-            } else {
-                None
-            }
-        }
-        _ => None,
-    }
-}
-
-// Appends what a change replaces at a cell, if its task didn't know of it.
 fn push_replaced(
     past: &Past,
     change: &Step,
@@ -80,22 +36,58 @@ fn push_replaced(
 ) -> Result<(), NoMemory>
     ensures { OnOk result (found.new ≡ found.old ++ replaced_at past.now change.now cell.now) }
 {
-    let near = past.near(&change.place.task, cell);
-    match replaced(change, near, past.last(cell)) {
-        Some(lost) => found.push(lost),
-        None => Ok(()),
+    match (past.near(&change.place.task, cell), past.last(cell)) {
+        (Some(look), Some(missed))
+            if matches!(look.act, Act::Look(_) | Act::LookForUpdate(..))
+                && look.place.at < missed.place.at => {
+            found.push(Lost {
+                missed: Pair {
+                    look: look.place,
+                    change: missed.place,
+                },
+                by: change.place,
+                lasts: change.act.lasts(),
+            })
+        }
+        _ => Ok(()),
     }
 }
 
-/// Appends what a change behind these steps replaces without knowing of it.
-pub(crate) fn push_lost(past: &Past, change: &Step, found: &mut Items<Lost>) -> Result<(), NoMemory>
-    ensures { OnOk result (found.new ≡ found.old ++ lost_at past.now change.now) }
-{
-    if change.act.adds() {
-        return Ok(());
+impl Effects {
+    // Adds what a step behind `past` saw, if it is a look.
+    fn add_seen(&mut self, past: &Past, look: &Step) -> Result<(), NoMemory>
+        ensures { OnOk result (self.new ≡ record (self.old) {
+          seen = self.old.seen ++ seen_at past.now look.now;
+          dirty = self.old.dirty ++ dirty_at past.now look.now;
+        }) }
+    {
+        let Some((low, high)) = look.act.ends()? else {
+            return Ok(());
+        };
+        for (_, one) in past.see(look, &low, &high)? {
+            self.seen.push(one)?;
+            if is_dirty(past, &one) {
+                self.dirty.push(one.pair)?;
+            }
+        }
+        Ok(())
     }
-    for cell in change.act.cells() {
-        push_replaced(past, change, cell, found)?;
+
+    /// Adds what a step behind `past` saw and replaced.
+    pub fn add(&mut self, past: &Past, step: &Step) -> Result<(), NoMemory>
+        ensures { OnOk result (self.new ≡ record {
+          seen = self.old.seen ++ seen_at past.now step.now;
+          dirty = self.old.dirty ++ dirty_at past.now step.now;
+          lost = self.old.lost ++ lost_at past.now step.now;
+        }) }
+    {
+        self.add_seen(past, step)?;
+        if step.act.adds() {
+            return Ok(());
+        }
+        for cell in step.act.cells() {
+            push_replaced(past, step, cell, &mut self.lost)?;
+        }
+        Ok(())
     }
-    Ok(())
 }

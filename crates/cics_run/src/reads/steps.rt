@@ -1,11 +1,10 @@
 //! The steps of a run: what its tasks looked at and changed, and where their turns ended.
 
-ghost use Rattle.std.specs.Prelude.{◌≡◌, IfOk};
+ghost use Rattle.std.specs.Prelude.{◌≡◌, IfOk, Some};
 ghost use Rattle.cics_names.specs.Keyed.{is_same};
-ghost use Rattle.cics_run.specs.Reads.Steps.{same_cell, is_from, is_upto, covers, views, altered, key_of, ends_of, view_ends};
-ghost use Rattle.cics_run.specs.Reads.Steps.{is_view, is_plain, is_adding, is_lasting};
-ghost use Rattle.cics_run.specs.Reads.Steps.{is_ending, is_undoing, changes, touches};
-ghost use Rattle.cics_run.specs.Reads.Runs.{is_by};
+ghost use Rattle.cics_run.specs.Reads.Steps.{same_cell, is_from, is_upto, views, altered, key_of};
+ghost use Rattle.cics_run.specs.Reads.Steps.{view_ends, is_adding, is_lasting, changes};
+ghost use Rattle.cics_run.specs.declared.reads.steps.Cell.TheVariants.{Record as RecordCell};
 
 use cics_names::{Items, Name8, NoMemory, Record};
 
@@ -58,7 +57,7 @@ pub enum Act {
 
 /// Where a step stands: the number of steps before it, its line and its task, and its turn, by the
 /// number of steps before the turn's first one.
-#[derive(Clone, Copy, PartialEq, Eq)]
+#[derive(Clone, Copy)]
 pub struct Place {
     pub at: u64,
     pub line: u64,
@@ -77,14 +76,18 @@ pub struct Step {
 pub(crate) fn is_same(one: &Name8, other: &Name8) -> bool
     ensures { result ≡ is_same one.now other.now }
 {
-    *one == *other
+    one.cmp(other).is_eq()
 }
 
-// Returns whether two keys are the same.
-fn is_same_key(one: &Record, other: &Record) -> bool
-    ensures { result ≡ is_same one.now other.now }
+// Returns two records of a file.
+fn records(file: Name8, first: &Record, last: &Record) -> Result<Option<(Cell, Cell)>, NoMemory>
+    ensures { IfOk result (λ ends. ends
+        ≡ Some (RecordCell file first.now, RecordCell file last.now)) }
 {
-    *one == *other
+    Ok(Some((
+        Cell::Record(file, first.copy()?),
+        Cell::Record(file, last.copy()?),
+    )))
 }
 
 impl Cell {
@@ -104,15 +107,7 @@ impl Cell {
     pub fn is_same(&self, other: &Cell) -> bool
         ensures { result ≡ same_cell self.now other.now }
     {
-        match (self, other) {
-            (Cell::Record(file, key), Cell::Record(other, other_key)) => {
-                is_same(file, other) && is_same_key(key, other_key)
-            }
-            (Cell::Item(queue, number), Cell::Item(other, other_number)) => {
-                is_same(queue, other) && *number == *other_number
-            }
-            _ => false,
-        }
+        self.cmp(other).is_eq()
     }
 }
 
@@ -148,48 +143,21 @@ impl Bound {
     }
 }
 
-impl Spot {
-    // Returns two cells between which all lie that a look here covers.
-    fn ends(&self) -> Result<(Cell, Cell), NoMemory>
-        ensures { IfOk result (λ ends. ends ≡ ends_of self.now) }
-    {
-        Ok(match self {
-            Spot::Keys { file, from, to } => (
-                Cell::Record(*file, from.key().copy()?),
-                Cell::Record(*file, to.key().copy()?),
-            ),
-            Spot::Item(queue, number) => (Cell::Item(*queue, *number), Cell::Item(*queue, *number)),
-        })
-    }
-
-    /// Returns whether a look here covers a cell.
-    pub fn covers(&self, cell: &Cell) -> bool
-        ensures { result ≡ covers self.now cell.now }
-    {
-        match (self, cell) {
-            (Spot::Keys { file, from, to }, Cell::Record(other, key)) => {
-                is_same(file, other) && from.is_from(key) && to.is_upto(key)
-            }
-            (Spot::Item(queue, number), Cell::Item(other, other_number)) => {
-                is_same(queue, other) && *number == *other_number
-            }
-            _ => false,
-        }
-    }
-}
-
 impl Act {
     /// Returns whether it looks at a cell.
     pub fn looks_at(&self, cell: &Cell) -> bool
         ensures { result ≡ views self.now cell.now }
     {
-        match self {
-            Act::Look(spot) => spot.covers(cell),
-            Act::LookForUpdate(file, key) => match cell {
-                Cell::Record(other, other_key) => is_same(file, other)
-                    && is_same_key(key, other_key),
-                Cell::Item(..) => false,
-            },
+        match (self, cell) {
+            (Act::Look(Spot::Keys { file, from, to }), Cell::Record(other, key)) => {
+                is_same(file, other) && from.is_from(key) && to.is_upto(key)
+            }
+            (Act::Look(Spot::Item(queue, number)), Cell::Item(other, other_number)) => {
+                is_same(queue, other) && *number == *other_number
+            }
+            (Act::LookForUpdate(file, key), Cell::Record(other, other_key)) => {
+                is_same(file, other) && key.cmp(other_key).is_eq()
+            }
             _ => false,
         }
     }
@@ -200,16 +168,14 @@ impl Act {
     pub fn ends(&self) -> Result<Option<(Cell, Cell)>, NoMemory>
         ensures { IfOk result (λ ends. ends ≡ view_ends self.now) }
     {
-        Ok(match self {
-            Act::Look(spot) => Some(spot.ends()?),
-            Act::LookForUpdate(file, key) => {
-                Some((
-                    Cell::Record(*file, key.copy()?),
-                    Cell::Record(*file, key.copy()?),
-                ))
+        match self {
+            Act::Look(Spot::Keys { file, from, to }) => records(*file, from.key(), to.key()),
+            Act::Look(Spot::Item(queue, number)) => {
+                Ok(Some((Cell::Item(*queue, *number), Cell::Item(*queue, *number))))
             }
-            _ => None,
-        })
+            Act::LookForUpdate(file, key) => records(*file, key, key),
+            _ => Ok(None),
+        }
     }
 
     /// Returns the cells that it changes.
@@ -220,20 +186,6 @@ impl Act {
             Act::Change(change) => change.cells.as_slice(),
             _ => &[],
         }
-    }
-
-    /// Returns whether it is a look.
-    pub fn is_look(&self) -> bool
-        ensures { result ≡ is_view self.now }
-    {
-        matches!(self, Act::Look(_) | Act::LookForUpdate(..))
-    }
-
-    /// Returns whether it is a look by another command than READ UPDATE.
-    pub fn is_plain_look(&self) -> bool
-        ensures { result ≡ is_plain self.now }
-    {
-        matches!(self, Act::Look(_))
     }
 
     /// Returns whether it adds a record or an item.
@@ -255,23 +207,6 @@ impl Act {
             _ => false,
         }
     }
-
-    /// Returns whether it ends a turn.
-    pub fn is_end(&self) -> bool
-        ensures { result ≡ is_ending self.now }
-    {
-        matches!(self, Act::End { .. })
-    }
-
-    /// Returns whether it ends a turn with a backout.
-    pub fn is_backout(&self) -> bool
-        ensures { result ≡ is_undoing self.now }
-    {
-        match self {
-            Act::End { is_committed } => !*is_committed,
-            _ => false,
-        }
-    }
 }
 
 impl Step {
@@ -280,19 +215,5 @@ impl Step {
         ensures { result ≡ changes self.now cell.now }
     {
         self.act.cells().iter().any(|one| cell.is_same(one))
-    }
-
-    /// Returns whether it looks at a cell or changes it.
-    pub fn touches(&self, cell: &Cell) -> bool
-        ensures { result ≡ touches self.now cell.now }
-    {
-        self.act.looks_at(cell) || self.changes(cell)
-    }
-
-    /// Returns whether a task did it.
-    pub fn is_by(&self, task: &Name8) -> bool
-        ensures { result ≡ is_by task.now self.now }
-    {
-        is_same(task, &self.place.task)
     }
 }

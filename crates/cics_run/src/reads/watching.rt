@@ -1,17 +1,14 @@
 //! The observer that notes what the tasks of a run look at and change.
 
-ghost use Rattle.std.specs.Prelude.{◌≡◌, ◌++◌, [], None, length, OnOk, IfOk};
-ghost use Rattle.std.specs.Option.{option_copied};
-ghost use Rattle.cics_names.specs.Keyed.{value_at, with_value};
+ghost use Rattle.std.specs.Prelude.{◌≡◌, ◌++◌, None, length, OnOk, IfOk};
 ghost use Rattle.cics_dispatch.specs.Machine.Blockers.{waiting_command};
-ghost use Rattle.cics_run.specs.Reads.Watched.{reads_text, are_amiss, amiss_text};
-ghost use Rattle.cics_run.specs.Reads.Watched.{nothing_watched, plain_of, end_of, with_act};
-ghost use Rattle.cics_run.specs.Reads.Watched.{unless_failed, executed, line_of};
-ghost use Rattle.cics_run.specs.Reads.Watched.{with_backout, with_backouts, run_after, began, with_line, with_label};
-ghost use Rattle.cics_run.specs.Reads.Watched.{may_delete, deleting, doomed_if, doomed_next, behind};
+ghost use Rattle.cics_run.specs.Reads.Watched.{reads_text, are_amiss, amiss_text, nothing_watched};
+ghost use Rattle.cics_run.specs.Reads.Watched.{plain_of, end_of, with_act, change_in, executed};
+ghost use Rattle.cics_run.specs.Reads.Watched.{line_of, with_backouts, run_after};
+ghost use Rattle.cics_run.specs.Reads.Watched.{began, with_line, with_label, may_delete, deleting};
+ghost use Rattle.cics_run.specs.Reads.Watched.{doomed_if, doomed_next, behind};
 ghost use Rattle.cics_run.specs.Reads.Watching.{watched_in};
 ghost use Rattle.cics_run.specs.Reads.Written.{findings};
-ghost use Rattle.cics_run.specs.declared.reads.steps.Act.TheVariants.{End as EndOf};
 
 use crate::reads::changes::{act_at, deletes_several, doomed_by};
 use crate::reads::found::Finding;
@@ -20,12 +17,11 @@ use crate::reads::noting::Reads;
 use crate::reads::steps::{Act, Cell};
 use crate::reads::writing::{is_any_amiss, push_findings};
 use crate::stage::{Fault, Observer};
-use cics_dispatch::{Event, Outcome, Reason, Region, Request, Verb};
+use cics_dispatch::{Event, Outcome, Region, Request, Verb};
 use cics_names::{Items, Name8, NoMemory};
 use cics_script::spelling::push_str;
 use std::alloc::Global;
 use std::collections::BTreeMap;
-use std::mem::replace;
 
 /// Notes the steps of a run.
 #[derive(Drop)]
@@ -46,22 +42,12 @@ pub struct Watcher {
     alloc: Global,
 }
 
-// What a command of a task did: without an entry in the history, and by its entry. `line` is the
-// line at which it was issued.
-#[derive(Drop)]
+// A command of a task that was executed. `line` is the line at which it was issued.
+#[derive(Clone, Copy)]
 struct Executed<'a> {
     line: u64,
     label: Name8,
-    plain: Option<Act>,
-    change: Option<Act>,
     outcome: &'a Outcome,
-}
-
-// Returns the end of a turn.
-fn end(is_committed: bool) -> Act
-    ensures { result ≡ EndOf is_committed }
-{
-    Act::End { is_committed }
 }
 
 // Returns what a command does that leaves no entry in the history, if it passes its checks.
@@ -69,12 +55,11 @@ fn plain_of(region: &Region, label: &Name8, verb: &Verb) -> Result<Option<Act>, 
     ensures { IfOk result (λ act. act ≡ plain_of region.now label.now verb.now) }
 {
     match verb {
-        Verb::Syncpoint => Ok(Some(end(true))),
-        Verb::Rollback => Ok(Some(end(false))),
-        _ => match spot_of(region, label, verb)? {
-            Some(spot) => Ok(Some(Act::Look(spot))),
-            None => Ok(None),
-        },
+        Verb::Syncpoint => Ok(Some(Act::End { is_committed: true })),
+        Verb::Rollback => Ok(Some(Act::End {
+            is_committed: false,
+        })),
+        _ => Ok(spot_of(region, label, verb)?.map(Act::Look)),
     }
 }
 
@@ -84,18 +69,10 @@ fn end_of(outcome: &Outcome) -> Option<Act>
 {
     match outcome {
         Outcome::Replied(_) | Outcome::Waiting(_) => None,
-        Outcome::Abended(_, _) => Some(end(false)),
-        Outcome::Ended => Some(end(true)),
-    }
-}
-
-// Returns what a command does without an entry, unless it failed a check.
-fn unless_failed(reason: Option<Reason>, plain: Option<Act>) -> Option<Act>
-    ensures { result ≡ unless_failed reason plain }
-{
-    match reason {
-        None => plain,
-        Some(_) => None,
+        Outcome::Abended(_, _) => Some(Act::End {
+            is_committed: false,
+        }),
+        Outcome::Ended => Some(Act::End { is_committed: true }),
     }
 }
 
@@ -107,21 +84,6 @@ fn began(event: &Event) -> Option<Name8>
         Event::Issued(label, Outcome::Waiting(_), _) => Some(*label),
         _ => None,
     }
-}
-
-// Keeps the line of a task's command.
-fn keep_line(lines: &mut BTreeMap<Name8, u64>, label: Name8, number: u64) -> Result<(), NoMemory>
-    ensures { OnOk result (lines.new.entries ≡ with_value label number lines.old.entries) }
-{
-    lines.insert(label, number)?;
-    Ok(())
-}
-
-// Returns the line of a task's command, if it is kept.
-fn kept_line<'a>(lines: &'a BTreeMap<Name8, u64>, label: &Name8) -> Option<&'a u64>
-    ensures { option_copied result ≡ value_at label.now lines.now.entries }
-{
-    lines.get(label)
 }
 
 // Returns whether the task of a label waits with DELETE GENERIC or DELETEQ TS.
@@ -163,6 +125,32 @@ fn doomed_next(region: &Region, labels: &[Name8]) -> Result<Items<Cell>, NoMemor
         }
     }
     Ok(Items::new(region.units().opening().allocator()))
+}
+
+// Notes what a task did by a line, if it did something.
+fn note(reads: &mut Reads, line: u64, label: Name8, act: Option<Act>) -> Result<(), NoMemory>
+    ensures { OnOk result (reads.new ≡ with_act reads.old line label act) }
+{
+    match act {
+        Some(act) => reads.note(line, label, act),
+        None => Ok(()),
+    }
+}
+
+// Notes that a shutdown backs out the turn of each task.
+fn note_shutdown(reads: &mut Reads, line: u64, region: &Region) -> Result<(), NoMemory>
+    ensures { OnOk result (reads.new ≡ with_backouts reads.old line region.now.machine.tasks
+        (length region.now.machine.tasks)) }
+{
+    for at in 0..region.task_count() {
+        if let Some(label) = region.label_at(at) {
+            let end = Act::End {
+                is_committed: false,
+            };
+            reads.note(line, label, end)?;
+        }
+    }
+    Ok(())
 }
 
 impl Watcher {
@@ -216,70 +204,32 @@ impl Watcher {
         push_findings(out, found.as_slice(), true)
     }
 
-    // Notes what a task did by a line, if it did something.
-    fn note(&mut self, line: u64, label: Name8, act: Option<Act>) -> Result<(), NoMemory>
+    // Notes what a command did: what `plain` has, what its entry says, and how it ends the turn.
+    fn note_executed(&mut self, command: &Executed<'_>, region: &Region) -> Result<(), NoMemory>
         ensures { OnOk result (watched_in self.new ≡ record (watched_in self.old) {
-          run = with_act (watched_in self.old).run line label act;
-        }) }
-    {
-        match act {
-            Some(act) => self.reads.note(line, label, act),
-            None => Ok(()),
-        }
-    }
-
-    // Notes what a command did.
-    fn note_executed(&mut self, command: Executed<'_>) -> Result<(), NoMemory>
-        ensures { OnOk result (watched_in self.new ≡ record (watched_in self.old) {
-          run = executed (watched_in self.old).run command.entry.line command.entry.label
-              command.entry.plain command.entry.change command.entry.outcome.now;
+          run = executed (watched_in self.old).run command.now.line command.now.label
+              (watched_in self.old).plain (change_in (watched_in self.old) region.now.machine)
+              command.now.outcome.now;
+          plain = None;
+          doomed = (watched_in self.new).doomed;
         }) }
     {
         let Executed {
             line,
             label,
-            plain,
-            change,
             outcome,
-        } = command;
-        self.note(line, label, plain)?;
-        self.note(line, label, change)?;
-        self.note(line, label, end_of(outcome))
+        } = *command;
+        note(&mut self.reads, line, label, self.plain.take())?;
+        let change = act_at(region.units(), self.entries, &mut self.doomed)?;
+        note(&mut self.reads, line, label, change)?;
+        note(&mut self.reads, line, label, end_of(outcome))
     }
 
     // Returns the line at which the waiting command of a task was issued.
     fn line_of(&self, number: u64, label: &Name8) -> u64
         ensures { result ≡ line_of (watched_in self.now) number label.now }
     {
-        match kept_line(&self.lines, label) {
-            Some(line) => *line,
-            None => number,
-        }
-    }
-
-    // Notes that a line backs out the turn of a task, if there is such a task.
-    fn note_backout(&mut self, line: u64, label: Option<Name8>) -> Result<(), NoMemory>
-        ensures { OnOk result (watched_in self.new ≡ record (watched_in self.old) {
-          run = with_backout (watched_in self.old).run line label;
-        }) }
-    {
-        match label {
-            Some(label) => self.reads.note(line, label, end(false)),
-            None => Ok(()),
-        }
-    }
-
-    // Notes that a shutdown backs out the turn of each task.
-    fn note_shutdown(&mut self, line: u64, region: &Region) -> Result<(), NoMemory>
-        ensures { OnOk result (watched_in self.new ≡ record (watched_in self.old) {
-          run = with_backouts (watched_in self.old).run line region.now.machine.tasks
-              (length region.now.machine.tasks);
-        }) }
-    {
-        for at in 0..region.task_count() {
-            self.note_backout(line, region.label_at(at))?;
-        }
-        Ok(())
+        self.lines.get(label).copied().unwrap_or(number)
     }
 
     // Notes the steps of an event.
@@ -287,35 +237,38 @@ impl Watcher {
         ensures { OnOk result (watched_in self.new ≡ record (watched_in self.old) {
           run = run_after (watched_in self.old) number
               (record { event = event.now; machine = region.now.machine });
-          plain = None;
-          doomed = [];
+          plain = (watched_in self.new).plain;
+          doomed = (watched_in self.new).doomed;
         }) }
     {
-        let plain = replace(&mut self.plain, None);
-        let doomed = replace(&mut self.doomed, Items::new(self.alloc));
         match event {
             Event::Issued(label, outcome, reason) => {
-                let change = act_at(region.units(), self.entries, doomed)?;
-                self.note_executed(Executed {
+                if reason.is_some() {
+                    self.plain = None;
+                }
+                let command = Executed {
                     line: number,
                     label: *label,
-                    plain: unless_failed(*reason, plain),
-                    change,
                     outcome,
-                })
+                };
+                self.note_executed(&command, region)
             }
             Event::Woken(woken) => {
-                let change = act_at(region.units(), self.entries, doomed)?;
-                self.note_executed(Executed {
+                self.plain = None;
+                let command = Executed {
                     line: self.line_of(number, &woken.label),
                     label: woken.label,
-                    plain: None,
-                    change,
                     outcome: &woken.outcome,
-                })
+                };
+                self.note_executed(&command, region)
             }
-            Event::Expired(expired) => self.reads.note(number, expired.label, end(false)),
-            Event::ShutDown(_) => self.note_shutdown(number, region),
+            Event::Expired(expired) => {
+                let end = Act::End {
+                    is_committed: false,
+                };
+                self.reads.note(number, expired.label, end)
+            }
+            Event::ShutDown(_) => note_shutdown(&mut self.reads, number, region),
             Event::Attached(_, _) | Event::ClockSet(_) | Event::Refused(_, _) => Ok(()),
         }
     }
@@ -329,7 +282,7 @@ impl Watcher {
     {
         match began(event) {
             Some(label) => {
-                keep_line(&mut self.lines, label, number)?;
+                self.lines.insert(label, number)?;
                 self.deleters.push(label)?;
                 Ok(())
             }
@@ -338,14 +291,17 @@ impl Watcher {
     }
 
     // Looks at the region behind an event: how long the history is, and what may be deleted next.
+    // Forgets what the last command does.
     fn look_ahead(&mut self, region: &Region) -> Result<(), NoMemory>
         ensures { OnOk result (watched_in self.new ≡ record (watched_in self.old) {
+          plain = None;
           entries = length region.now.machine.units.trace;
           deleters = deleting region.now.machine (watched_in self.old).deleters;
           doomed = doomed_next region.now.machine
               (deleting region.now.machine (watched_in self.old).deleters);
         }) }
     {
+        self.plain = None;
         self.entries = region.units().trace().len();
         keep_deleters(region, &mut self.deleters);
         self.doomed = doomed_next(region, self.deleters.as_slice())?;

@@ -4,9 +4,10 @@ ghost use Rattle.std.specs.Prelude.{◌≡◌, ◌++◌, OnOk};
 ghost use Rattle.cics_run.specs.Told.Causes.{general_text, search_words, sought_text, absent_text};
 ghost use Rattle.cics_run.specs.Told.Causes.{item_text, cause_text};
 
-use crate::told::parts::{key_in, length_in, push_about, push_counted, push_quoted, used_in};
+use crate::told::parts::{key_in, length_in, push_about, used_in};
 use cics_names::{Condition, NoMemory, Verb};
-use cics_script::spelling::{push_number, push_str, push_text};
+use cics_script::spelling::Part::{Number, Str, Text};
+use cics_script::spelling::{push_number, push_parts, push_str, push_text};
 
 /// Returns what is told of a condition if its command isn't at hand.
 pub fn general_text(condition: Condition) -> &'static str
@@ -92,22 +93,25 @@ pub fn push_cause(out: &mut Vec<u8>, verb: &Verb, condition: Condition) -> Resul
         Condition::Notfnd => push_absent(out, verb),
         Condition::Duprec => {
             push_about(out, "a record of ", verb, " has the key ")?;
-            push_quoted(out, "", key_in(verb), " already")
+            push_parts(out, &[Text(key_in(verb)), Str(" already")])
         }
         Condition::Endfile => push_about(out, "no record of ", verb, " is left that way"),
-        Condition::Lengerr => {
-            push_counted(
-                out,
-                "what was read is longer than LENGTH(",
-                length_in(verb),
-                ")",
-            )
-        }
+        Condition::Lengerr => push_parts(
+            out,
+            &[
+                Str("what was read is longer than LENGTH("),
+                Number(length_in(verb)),
+                Str(")"),
+            ],
+        ),
         Condition::Qzero => push_about(out, "queue ", verb, " has no record"),
         Condition::Qbusy => push_about(out, "another task uses queue ", verb, ""),
         Condition::Itemerr => push_item(out, verb),
         Condition::Qiderr => push_about(out, "there is no queue ", verb, ""),
-        Condition::Enqbusy => push_quoted(out, "another task owns the value ", used_in(verb), ""),
+        Condition::Enqbusy => push_parts(
+            out,
+            &[Str("another task owns the value "), Text(used_in(verb))],
+        ),
         _ => push_str(out, general_text(condition)),
     }
 }

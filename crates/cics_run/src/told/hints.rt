@@ -1,13 +1,16 @@
 //! Hints at the end of a run, on RESP2 alone, and on what was written to temporary storage.
 
+ghost use Rattle.std.specs.Prelude.{OnOk};
+ghost use Rattle.cics_run.specs.Told.Told.{IsLonger};
+
 use crate::session::Session;
 use crate::stage::Note;
 use crate::told::instead::meant_words;
 use cics_dispatch::Region;
 use cics_names::{Name4, Name8, NoMemory};
 use cics_script::advice::{Origin, has_resp2_alone, push_place};
-use cics_script::spelling::{push_bare, push_str};
-use std::alloc::Global;
+use cics_script::spelling::Part::{Bytes, Str};
+use cics_script::spelling::{push_bare, push_parts, push_str};
 
 // How many lines with RESP2 alone are kept.
 const ENOUGH: usize = 64;
@@ -33,39 +36,39 @@ fn push_namesake(
     region: &Region,
     queue: &Name4,
     text: &mut Vec<u8>,
-) -> Result<(), NoMemory> {
+) -> Result<(), NoMemory>
+    ensures { OnOk result (IsLonger out.old.items out.new.items) }
+{
     text.clear();
     push_bare(text, &queue.bytes())?;
     match Name8::new(text) {
         Ok(name) if region.units().item_count(&name) > 0 => {
-            push_str(out, "cicsrun: ")?;
-            push_bare(out, &queue.bytes())?;
-            push_str(out, meant_words())?;
-            push_str(out, "\n")
+            push_parts(
+                out,
+                &[Str("cicsrun: "), Bytes(text), Str(meant_words()), Str("\n")],
+            )
         }
         _ => Ok(()),
     }
 }
 
-/// Returns a line for each queue that both transient data and temporary storage have. Behind them
-/// it returns one for each line of the script that is kept for its RESP2.
-pub fn hints_of(
-    alloc: Global,
+/// Appends a line for each queue that both transient data and temporary storage have. Behind them
+/// it appends one for each line of the script that is kept for its RESP2.
+pub fn push_hints(
+    out: &mut Vec<u8>,
     region: &Region,
     session: &Session,
     file: Option<&[u8]>,
-) -> Result<Vec<u8>, NoMemory> {
-    let mut hints = Vec::new(alloc);
-    let mut text = Vec::new(alloc);
+) -> Result<(), NoMemory>
+    ensures { OnOk result (IsLonger out.old.items out.new.items) }
+{
+    let mut text = Vec::new(*out.allocator());
     for (queue, _) in region.units().opening().queues().iter() {
-        push_namesake(&mut hints, region, queue, &mut text)?;
+        push_namesake(out, region, queue, &mut text)?;
     }
     for line in &session.journal.alone {
-        push_place(&mut hints, Origin { file, line: *line }, None)?;
-        push_str(
-            &mut hints,
-            "RESP2 alone handles nothing, write RESP or NOHANDLE\n",
-        )?;
+        push_place(out, Origin { file, line: *line }, None)?;
+        push_str(out, "RESP2 alone handles nothing, write RESP or NOHANDLE\n")?;
     }
-    Ok(hints)
+    Ok(())
 }

@@ -1,15 +1,14 @@
 //! What is suggested for a name that isn't there.
 
 ghost use Rattle.std.specs.Prelude.{◌≡◌, ◌++◌, OnOk};
-ghost use Rattle.std.specs.Option.{option_copied};
 ghost use Rattle.cics_run.specs.Told.Instead.{instead_text, meant_queue, meant_words};
-ghost use Rattle.cics_run.specs.Told.Instead.{instead_of_queue, instead_of_file, instead_of_name};
 ghost use Rattle.cics_run.specs.Told.Instead.{instead_in};
 
 use crate::stage::Stage;
 use crate::told::nearest::{nearest_file, nearest_queue, same_queue};
 use cics_names::{Condition, Name4, Name8, NoMemory, Verb};
-use cics_script::spelling::{push_bare, push_str};
+use cics_script::spelling::Part::{Bare, Str};
+use cics_script::spelling::push_parts;
 use cics_units::Opening;
 
 /// Appends the label or the file that is suggested for another one, if there is one, and what is
@@ -17,24 +16,20 @@ use cics_units::Opening;
 pub fn push_instead(out: &mut Vec<u8>, name: Option<Name8>, behind: &str) -> Result<(), NoMemory>
     ensures { OnOk result (out.new.items ≡ out.old.items ++ instead_text name behind.now) }
 {
-    let Some(name) = name else {
-        return Ok(());
-    };
-    push_str(out, "; ")?;
-    push_bare(out, &name.bytes())?;
-    push_str(out, behind)
+    match name {
+        Some(name) => push_parts(out, &[Str("; "), Bare(&name.bytes()), Str(behind)]),
+        None => Ok(()),
+    }
 }
 
 // Appends the queue that is suggested for another one, if there is one, and what is told of it.
 fn push_instead_queue(out: &mut Vec<u8>, name: Option<Name4>, behind: &str) -> Result<(), NoMemory>
     ensures { OnOk result (out.new.items ≡ out.old.items ++ instead_text name behind.now) }
 {
-    let Some(name) = name else {
-        return Ok(());
-    };
-    push_str(out, "; ")?;
-    push_bare(out, &name.bytes())?;
-    push_str(out, behind)
+    match name {
+        Some(name) => push_parts(out, &[Str("; "), Bare(&name.bytes()), Str(behind)]),
+        None => Ok(()),
+    }
 }
 
 /// Returns what is told of a queue of transient data that a command of temporary storage names.
@@ -59,34 +54,6 @@ pub fn meant_queue(opening: &Opening, verb: &Verb) -> Option<Name4>
     }
 }
 
-// Appends what is suggested for the queue that a command names.
-fn push_instead_of_queue(out: &mut Vec<u8>, opening: &Opening, verb: &Verb) -> Result<(), NoMemory>
-    ensures { OnOk result (out.new.items
-        ≡ out.old.items ++ instead_of_queue opening.now verb.now) }
-{
-    match verb {
-        Verb::WriteqTd { queue, .. } | Verb::ReadqTd { queue, .. } | Verb::DeleteqTd { queue } => {
-            push_instead_queue(out, nearest_queue(opening, &queue.bytes()), " is")
-        }
-        _ => push_instead_queue(out, meant_queue(opening, verb), meant_words()),
-    }
-}
-
-// Appends what is suggested for the file that a command names.
-fn push_instead_of_file(
-    out: &mut Vec<u8>,
-    opening: &Opening,
-    file: Option<&Name8>,
-) -> Result<(), NoMemory>
-    ensures { OnOk result (out.new.items
-        ≡ out.old.items ++ instead_of_file opening.now (option_copied file.entry)) }
-{
-    match file {
-        Some(name) => push_instead(out, nearest_file(opening, name), " is"),
-        None => Ok(()),
-    }
-}
-
 /// Appends what is defined almost as the file or queue that a command names, if its condition says
 /// that this isn't there. Of a queue of temporary storage it is one of transient data.
 pub fn push_instead_in(
@@ -103,8 +70,18 @@ pub fn push_instead_in(
     };
     let opening = region.units().opening();
     match condition {
-        Condition::Dsiderr => push_instead_of_file(out, opening, verb.file()),
-        Condition::Qiderr => push_instead_of_queue(out, opening, verb),
+        Condition::Dsiderr => match verb.file() {
+            Some(name) => push_instead(out, nearest_file(opening, name), " is"),
+            None => Ok(()),
+        },
+        Condition::Qiderr => match verb {
+            Verb::WriteqTd { queue, .. }
+            | Verb::ReadqTd { queue, .. }
+            | Verb::DeleteqTd { queue } => {
+                push_instead_queue(out, nearest_queue(opening, &queue.bytes()), " is")
+            }
+            _ => push_instead_queue(out, meant_queue(opening, verb), meant_words()),
+        },
         _ => Ok(()),
     }
 }

@@ -1,9 +1,8 @@
 //! What is told of an event that was noted.
 
-ghost use Rattle.std.specs.Prelude.{◌≡◌, ◌++◌, Some, None, unwrap_or, IfOk, OnOk};
-ghost use Rattle.std.specs.Option.{option_copied};
-ghost use Rattle.cics_run.specs.Told.Noted.{undefined, definition_in, condition_head, raised_text};
-ghost use Rattle.cics_run.specs.Told.Noted.{issued_text, resumed_text, refusal_words, hint_text};
+ghost use Rattle.std.specs.Prelude.{◌≡◌, ◌++◌, Some, None, OnOk};
+ghost use Rattle.cics_run.specs.Told.Noted.{definition_in, raised_text};
+ghost use Rattle.cics_run.specs.Told.Noted.{issued_text, resumed_text, refusal_words};
 ghost use Rattle.cics_run.specs.Told.Noted.{reason_or_cause, refused_text, note_text};
 ghost use Rattle.cics_script.specs.Lines.{line as line_of};
 
@@ -15,7 +14,8 @@ use crate::told::reasons::push_reason;
 use cics_dispatch::Refused;
 use cics_ksds::FileDef;
 use cics_names::{Condition, Name8, NoMemory, Verb};
-use cics_script::spelling::{push_bare, push_str};
+use cics_script::spelling::Part::{Bare, Str};
+use cics_script::spelling::{push_parts, push_str};
 use cics_script::{Line, LineFault, read_line};
 
 // The definition that stands for an undefined file.
@@ -40,13 +40,6 @@ fn definition_in(stage: &Stage, verb: &Verb) -> FileDef
         Some(file) => file.definition(),
         None => UNDEFINED,
     }
-}
-
-fn push_condition_name(out: &mut Vec<u8>, condition: Condition) -> Result<(), NoMemory>
-    ensures { OnOk result (out.new.items ≡ out.old.items ++ condition_head condition) }
-{
-    push_str(out, condition.name())?;
-    push_str(out, ": ")
 }
 
 // Appends the check that a command failed, or what came up as it was executed.
@@ -89,7 +82,7 @@ fn push_issued(
     ensures { OnOk result (out.new.items
         ≡ out.old.items ++ issued_text stage.now (line_of line.now) raised) }
 {
-    push_condition_name(out, raised.condition)?;
+    push_parts(out, &[Str(raised.condition.name()), Str(": ")])?;
     match read_line(stage.allocator(), line) {
         Ok(Line::Issue(_, command)) => push_raised(out, stage, &command.verb, raised),
         Err(LineFault::NoMemory) => Err(NoMemory),
@@ -98,13 +91,19 @@ fn push_issued(
 }
 
 // Appends what is told of a condition that a command was answered as it resumed.
-fn push_resumed(out: &mut Vec<u8>, label: Name8, condition: Condition) -> Result<(), NoMemory>
-    ensures { OnOk result (out.new.items ≡ out.old.items ++ resumed_text label condition) }
+fn push_resumed(out: &mut Vec<u8>, label: &[u8], condition: Condition) -> Result<(), NoMemory>
+    ensures { OnOk result (out.new.items ≡ out.old.items ++ resumed_text label.now condition) }
 {
-    push_bare(out, &label.bytes())?;
-    push_str(out, "'s command resumed: ")?;
-    push_condition_name(out, condition)?;
-    push_str(out, general_text(condition))
+    push_parts(
+        out,
+        &[
+            Bare(label),
+            Str("'s command resumed: "),
+            Str(condition.name()),
+            Str(": "),
+            Str(general_text(condition)),
+        ],
+    )
 }
 
 // Returns why a request was refused, behind its subject.
@@ -122,25 +121,8 @@ fn refusal_words(refusal: Refused) -> &'static str
     }
 }
 
-// Appends the nearest label that was attached, if no task has that of a command.
-fn push_hint(
-    out: &mut Vec<u8>,
-    stage: &Stage,
-    label: &Name8,
-    refusal: Refused,
-) -> Result<(), NoMemory>
-    ensures { OnOk result (out.new.items
-        ≡ out.old.items ++ hint_text stage.now label.now refusal) }
-{
-    match (refusal, stage) {
-        (Refused::NoTask, Stage::Running(region)) => {
-            push_instead(out, nearest_label(region, label), " was")
-        }
-        _ => Ok(()),
-    }
-}
-
-// Appends what is told of a refused request of a task.
+// Appends what is told of a refused request of a task. If no task has the label, it appends the
+// nearest one that was attached.
 fn push_refused(
     out: &mut Vec<u8>,
     stage: &Stage,
@@ -150,9 +132,13 @@ fn push_refused(
     ensures { OnOk result (out.new.items
         ≡ out.old.items ++ refused_text stage.now label.now refusal) }
 {
-    push_bare(out, &label.bytes())?;
-    push_str(out, refusal_words(refusal))?;
-    push_hint(out, stage, label, refusal)
+    push_parts(out, &[Bare(&label.bytes()), Str(refusal_words(refusal))])?;
+    match (refusal, stage) {
+        (Refused::NoTask, Stage::Running(region)) => {
+            push_instead(out, nearest_label(region, label), " was")
+        }
+        _ => Ok(()),
+    }
 }
 
 /// Appends what is told of an event of a line. The stage is that behind the line.
@@ -162,23 +148,23 @@ pub fn push_note(out: &mut Vec<u8>, stage: &Stage, line: &[u8], note: &Note) -> 
 {
     match note {
         Note::Issued(raised) => push_issued(out, stage, line, *raised),
-        Note::Resumed(label, condition) => push_resumed(out, *label, *condition),
-        Note::TimedOut(label) => {
-            push_bare(out, &label.bytes())?;
-            push_str(out, " was abended with AKCS, as by a time-out")
-        }
+        Note::Resumed(label, condition) => push_resumed(out, &label.bytes(), *condition),
+        Note::TimedOut(label) => push_parts(
+            out,
+            &[
+                Bare(&label.bytes()),
+                Str(" was abended with AKCS, as by a time-out"),
+            ],
+        ),
         Note::Refused(label, refusal) => push_refused(out, stage, label, *refusal),
-        Note::Meant(queue) => {
-            push_bare(out, &queue.bytes())?;
-            push_str(out, meant_words())
-        }
-        Note::ClockRefused(refusal) => {
-            push_str(out, "CLOCK")?;
-            push_str(out, refusal_words(*refusal))
-        }
-        Note::ShutdownRefused(refusal) => {
-            push_str(out, "SHUTDOWN")?;
-            push_str(out, refusal_words(*refusal))
-        }
+        Note::Meant(queue) => push_parts(out, &[Bare(&queue.bytes()), Str(meant_words())]),
+        Note::ClockRefused(refusal) => push_parts(
+            out,
+            &[Str("CLOCK"), Str(refusal_words(*refusal))],
+        ),
+        Note::ShutdownRefused(refusal) => push_parts(
+            out,
+            &[Str("SHUTDOWN"), Str(refusal_words(*refusal))],
+        ),
     }
 }

@@ -1,14 +1,13 @@
 //! The options of a command that a person is told of, whatever its verb.
 
 ghost use Rattle.std.specs.Prelude.{◌≡◌, ◌++◌, OnOk};
-ghost use Rattle.std.specs.Option.{option_copied};
 ghost use Rattle.cics_run.specs.Told.Parts.{key_in, from_in, length_in, used_in, key_length_in};
-ghost use Rattle.cics_run.specs.Told.Parts.{number_or_none, first_bytes, file_text, name_in};
-ghost use Rattle.cics_run.specs.Told.Parts.{about_text, counted_text, bytes_word, sized_text};
-ghost use Rattle.cics_run.specs.Told.Parts.{quoted_text};
+ghost use Rattle.cics_run.specs.Told.Parts.{number_or_none, first_bytes, about_text, bytes_word};
+ghost use Rattle.cics_script.specs.Texts.{bare};
 
-use cics_names::{Name8, NoMemory, Verb};
-use cics_script::spelling::{push_bare, push_number, push_str, push_text};
+use cics_names::{NoMemory, Verb};
+use cics_script::spelling::Part::{Bare, Str};
+use cics_script::spelling::push_parts;
 
 /// Returns RIDFLD, or no byte.
 pub fn key_in(verb: &Verb) -> &[u8]
@@ -93,85 +92,46 @@ pub fn used_in(verb: &Verb) -> &[u8]
     first_bytes(from_in(verb), length_given(verb))
 }
 
-fn push_file(out: &mut Vec<u8>, file: Option<&Name8>) -> Result<(), NoMemory>
-    ensures { OnOk result (out.new.items ≡ out.old.items ++ file_text (option_copied file.entry)) }
+// Appends a name between two texts.
+fn push_between<'a>(
+    out: &mut Vec<u8>,
+    before: &'a str,
+    name: &'a [u8],
+    behind: &'a str,
+) -> Result<(), NoMemory>
+    ensures { OnOk result (out.new.items
+        ≡ out.old.items ++ (before.now ++ (bare name.now ++ behind.now))) }
 {
-    match file {
-        Some(name) => push_bare(out, &name.bytes()),
-        None => Ok(()),
-    }
-}
-
-// Appends the name of the file or queue that a command names.
-fn push_name_in(out: &mut Vec<u8>, verb: &Verb) -> Result<(), NoMemory>
-    ensures { OnOk result (out.new.items ≡ out.old.items ++ name_in verb.now) }
-{
-    match verb {
-        Verb::WriteqTs { queue, .. } | Verb::ReadqTs { queue, .. } | Verb::DeleteqTs { queue } => {
-            push_bare(out, &queue.bytes())
-        }
-        Verb::WriteqTd { queue, .. } | Verb::ReadqTd { queue, .. } | Verb::DeleteqTd { queue } => {
-            push_bare(out, &queue.bytes())
-        }
-        _ => push_file(out, verb.file()),
-    }
+    push_parts(out, &[Str(before), Bare(name), Str(behind)])
 }
 
 /// Appends the name of the file or queue that a command names, between two texts.
-pub fn push_about(
+pub fn push_about<'a>(
     out: &mut Vec<u8>,
-    before: &str,
+    before: &'a str,
     verb: &Verb,
-    behind: &str,
+    behind: &'a str,
 ) -> Result<(), NoMemory>
     ensures { OnOk result (out.new.items
         ≡ out.old.items ++ about_text before.now verb.now behind.now) }
 {
-    push_str(out, before)?;
-    push_name_in(out, verb)?;
-    push_str(out, behind)
+    match verb {
+        Verb::WriteqTs { queue, .. } | Verb::ReadqTs { queue, .. } | Verb::DeleteqTs { queue } => {
+            push_between(out, before, &queue.bytes(), behind)
+        }
+        Verb::WriteqTd { queue, .. } | Verb::ReadqTd { queue, .. } | Verb::DeleteqTd { queue } => {
+            push_between(out, before, &queue.bytes(), behind)
+        }
+        _ => match verb.file() {
+            Some(name) => push_between(out, before, &name.bytes(), behind),
+            None => push_between(out, before, &[], behind),
+        },
+    }
 }
 
-/// Appends a number between two texts.
-pub fn push_counted(
-    out: &mut Vec<u8>,
-    before: &str,
-    number: u64,
-    behind: &str,
-) -> Result<(), NoMemory>
-    ensures { OnOk result (out.new.items
-        ≡ out.old.items ++ counted_text before.now number behind.now) }
-{
-    push_str(out, before)?;
-    push_number(out, number)?;
-    push_str(out, behind)
-}
-
-// Returns the word for some bytes, behind their number.
-fn bytes_word(count: usize) -> &'static str
+/// Returns the word for some bytes, behind their number.
+pub fn bytes_word(count: usize) -> &'static str
     ensures { result.now ≡ bytes_word count }
 {
     if count == 1 { " byte" } else { " bytes" }
-}
-
-/// Appends how many bytes there are, behind a text.
-pub fn push_sized(out: &mut Vec<u8>, before: &str, bytes: &[u8]) -> Result<(), NoMemory>
-    ensures { OnOk result (out.new.items ≡ out.old.items ++ sized_text before.now bytes.now) }
-{
-    push_counted(out, before, bytes.len() as u64, bytes_word(bytes.len()))
-}
-
-/// Appends bytes as a literal, between two texts.
-pub fn push_quoted(
-    out: &mut Vec<u8>,
-    before: &str,
-    bytes: &[u8],
-    behind: &str,
-) -> Result<(), NoMemory>
-    ensures { OnOk result (out.new.items
-        ≡ out.old.items ++ quoted_text before.now bytes.now behind.now) }
-{
-    push_str(out, before)?;
-    push_text(out, bytes)?;
-    push_str(out, behind)
 }

@@ -1,17 +1,21 @@
 //! What is told of the check that a command failed.
 
-ghost use Rattle.std.specs.Prelude.{◌≡◌, ◌++◌, OnOk};
+ghost use Rattle.std.specs.Prelude.{◌≡◌, ◌++◌, OnOk, if◌then◌else◌};
 ghost use Rattle.cics_run.specs.Told.Reasons.{key_in_from, plain_reason, state_reason, size_reason};
 ghost use Rattle.cics_run.specs.Told.Reasons.{length_reason, record_reason, reason_text};
+ghost use Rattle.cics_dispatch.specs.declared.machine.reasons.Reason.TheVariants.{
+  RecordTooShort,
+  RecordTooLong,
+};
 
 use crate::told::parts::{
-    from_in, key_in, key_length_in, length_in, push_about, push_counted, push_quoted, push_sized,
-    used_in,
+    bytes_word, from_in, key_in, key_length_in, length_in, push_about, used_in,
 };
 use cics_dispatch::Reason;
 use cics_ksds::FileDef;
 use cics_names::{NoMemory, Verb};
-use cics_script::spelling::push_str;
+use cics_script::spelling::Part::{Number, Str, Text};
+use cics_script::spelling::{push_parts, push_str};
 
 // Returns the key in what is written, or no byte if that doesn't fit the file.
 fn key_in_from(definition: FileDef, content: &[u8]) -> &[u8]
@@ -74,8 +78,18 @@ fn push_length_reason(out: &mut Vec<u8>, verb: &Verb, before: &str) -> Result<()
     ensures { OnOk result (out.new.items
         ≡ out.old.items ++ length_reason verb.now before.now) }
 {
-    push_counted(out, "LENGTH is ", length_in(verb), ", ")?;
-    push_sized(out, before, from_in(verb))
+    let count = from_in(verb).len();
+    push_parts(
+        out,
+        &[
+            Str("LENGTH is "),
+            Number(length_in(verb)),
+            Str(", "),
+            Str(before),
+            Number(count as u64),
+            Str(bytes_word(count)),
+        ],
+    )
 }
 
 // Appends what is told of a check of LENGTH, or of the bytes that are written.
@@ -85,14 +99,69 @@ fn push_size_reason(out: &mut Vec<u8>, verb: &Verb, reason: Reason) -> Result<()
     match reason {
         Reason::LengthNotInFrom => push_length_reason(out, verb, "FROM has "),
         Reason::ItemSize => {
-            push_sized(out, "what is written has ", used_in(verb))?;
-            push_str(out, ", not 1 to 32767")
+            let count = used_in(verb).len();
+            push_parts(
+                out,
+                &[
+                    Str("what is written has "),
+                    Number(count as u64),
+                    Str(bytes_word(count)),
+                    Str(", not 1 to 32767"),
+                ],
+            )
         }
-        Reason::ValueSize => {
-            push_counted(out, "LENGTH is ", length_in(verb), ", not from 1 to 255")
-        }
+        Reason::ValueSize => push_parts(
+            out,
+            &[
+                Str("LENGTH is "),
+                Number(length_in(verb)),
+                Str(", not from 1 to 255"),
+            ],
+        ),
         Reason::ValueTooShort => push_length_reason(out, verb, "RESOURCE has "),
         _ => push_state_reason(out, verb, reason),
+    }
+}
+
+// Appends what is told of a record that ends before its key does (`is_short`), or that is longer
+// than RECORDSIZE.
+fn push_misfit(
+    out: &mut Vec<u8>,
+    definition: FileDef,
+    verb: &Verb,
+    is_short: bool,
+) -> Result<(), NoMemory>
+    ensures { OnOk result (out.new.items ≡ out.old.items
+        ++ record_reason definition verb.now (if is_short then RecordTooShort else RecordTooLong)) }
+{
+    let count = used_in(verb).len();
+    let (number, word) = (Number(count as u64), Str(bytes_word(count)));
+    if is_short {
+        push_parts(
+            out,
+            &[
+                Str("the record has "),
+                number,
+                word,
+                Str(", KEYOFFSET("),
+                Number(definition.key_offset),
+                Str(") and KEYLENGTH("),
+                Number(definition.key_length),
+                Str(") need more"),
+            ],
+        )
+    } else {
+        push_parts(
+            out,
+            &[
+                Str("the record has "),
+                number,
+                word,
+                Str(", RECORDSIZE("),
+                Number(definition.record_size),
+                Str(") allows fewer"),
+            ],
+        )
     }
 }
 
@@ -106,35 +175,27 @@ fn push_record_reason(
     ensures { OnOk result (out.new.items
         ≡ out.old.items ++ record_reason definition verb.now reason) }
 {
+    let key = key_in_from(definition, used_in(verb));
     match reason {
-        Reason::RecordTooShort => {
-            push_sized(out, "the record has ", used_in(verb))?;
-            push_counted(out, ", KEYOFFSET(", definition.key_offset, ") and ")?;
-            push_counted(out, "KEYLENGTH(", definition.key_length, ") need more")
-        }
-        Reason::RecordTooLong => {
-            push_sized(out, "the record has ", used_in(verb))?;
-            push_counted(
-                out,
-                ", RECORDSIZE(",
-                definition.record_size,
-                ") allows fewer",
-            )
-        }
-        Reason::KeyIsNotRidfld => {
-            let key = key_in_from(definition, used_in(verb));
-            push_quoted(out, "the key in FROM is ", key, ", ")?;
-            push_quoted(out, "RIDFLD is ", key_in(verb), "")
-        }
-        Reason::KeyIsNotRead => {
-            let key = key_in_from(definition, used_in(verb));
-            push_quoted(
-                out,
-                "the key in FROM is ",
-                key,
-                ", another one was read for update",
-            )
-        }
+        Reason::RecordTooShort => push_misfit(out, definition, verb, true),
+        Reason::RecordTooLong => push_misfit(out, definition, verb, false),
+        Reason::KeyIsNotRidfld => push_parts(
+            out,
+            &[
+                Str("the key in FROM is "),
+                Text(key),
+                Str(", RIDFLD is "),
+                Text(key_in(verb)),
+            ],
+        ),
+        Reason::KeyIsNotRead => push_parts(
+            out,
+            &[
+                Str("the key in FROM is "),
+                Text(key),
+                Str(", another one was read for update"),
+            ],
+        ),
         _ => push_size_reason(out, verb, reason),
     }
 }
@@ -151,12 +212,30 @@ pub fn push_reason(
 {
     match reason {
         Reason::KeyLengthDiffers => {
-            push_counted(out, "KEYLENGTH is ", key_length_in(verb), ", ")?;
-            push_sized(out, "RIDFLD has ", key_in(verb))
+            let count = key_in(verb).len();
+            push_parts(
+                out,
+                &[
+                    Str("KEYLENGTH is "),
+                    Number(key_length_in(verb)),
+                    Str(", RIDFLD has "),
+                    Number(count as u64),
+                    Str(bytes_word(count)),
+                ],
+            )
         }
         Reason::KeySize | Reason::PrefixTooLong => {
-            push_sized(out, "RIDFLD has ", key_in(verb))?;
-            push_counted(out, ", the file has keys of ", definition.key_length, "")
+            let count = key_in(verb).len();
+            push_parts(
+                out,
+                &[
+                    Str("RIDFLD has "),
+                    Number(count as u64),
+                    Str(bytes_word(count)),
+                    Str(", the file has keys of "),
+                    Number(definition.key_length),
+                ],
+            )
         }
         _ => push_record_reason(out, definition, verb, reason),
     }

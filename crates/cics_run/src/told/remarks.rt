@@ -1,9 +1,9 @@
 //! The remarks of a run: a line for each event that a person is told of at its end.
 
 ghost use Rattle.std.specs.Prelude.{◌≡◌, ◌++◌, [], false, OnOk};
-ghost use Rattle.std.specs.List.{flat_map, fold};
+ghost use Rattle.std.specs.List.{fold};
 ghost use Rattle.cics_run.specs.Told.Findings.{with_finding};
-ghost use Rattle.cics_run.specs.Told.Remarks.{counted, with_note, remark_line, more_line};
+ghost use Rattle.cics_run.specs.Told.Remarks.{counted, with_note, remark_line};
 ghost use Rattle.cics_run.specs.Told.Remarks.{remark_lines};
 
 use crate::reads::{Finding, is_amiss};
@@ -12,7 +12,8 @@ use crate::told::findings::{line_of, push_finding};
 use crate::told::noted::push_note;
 use cics_names::{Items, NoMemory};
 use cics_script::advice::{Origin, push_place};
-use cics_script::spelling::{push_number, push_str};
+use cics_script::spelling::Part::{Bytes, Number, Str};
+use cics_script::spelling::push_parts;
 use std::alloc::Global;
 
 // How many remarks are kept at most.
@@ -138,20 +139,7 @@ fn push_remark(out: &mut Vec<u8>, file: Option<&[u8]>, remark: &Remark) -> Resul
 {
     let line = remark.number;
     push_place(out, Origin { file, line }, None)?;
-    out.extend_from_slice(remark.text.as_slice())?;
-    push_str(out, "\n")
-}
-
-// Appends the line on the remarks that aren't kept, if there are any.
-fn push_more(out: &mut Vec<u8>, more: u64) -> Result<(), NoMemory>
-    ensures { OnOk result (out.new.items ≡ out.old.items ++ more_line more) }
-{
-    if more == 0 {
-        return Ok(());
-    }
-    push_str(out, "cicsrun: and ")?;
-    push_number(out, more)?;
-    push_str(out, " more\n")
+    push_parts(out, &[Bytes(remark.text.as_slice()), Str("\n")])
 }
 
 /// Appends a line for each remark that is kept, and one that says how many more there were. `file`
@@ -166,5 +154,8 @@ pub fn push_remarks(
     for remark in remarks.kept.as_slice() {
         push_remark(out, file, remark)?;
     }
-    push_more(out, remarks.more)
+    match remarks.more {
+        0 => Ok(()),
+        more => push_parts(out, &[Str("cicsrun: and "), Number(more), Str(" more\n")]),
+    }
 }

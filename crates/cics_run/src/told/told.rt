@@ -2,7 +2,7 @@
 
 ghost use Rattle.std.specs.Prelude.{◌≡◌, ◌++◌, OnOk, IfOk};
 ghost use Rattle.cics_run.specs.Told.Told.{IsToldOf, few_deadlock_lines};
-ghost use Rattle.cics_run.specs.Told.Told.{IsToldOfStage, IsToldAtEnd, strict_lines, IsLonger};
+ghost use Rattle.cics_run.specs.Told.Told.{IsToldOfStage, IsToldAtEnd, strict_lines};
 ghost use Rattle.cics_run.specs.Told.Told.{watched_lines, found_lines};
 ghost use Rattle.cics_run.specs.Reads.Watching.{watched_in};
 
@@ -11,7 +11,7 @@ use crate::session::Session;
 use crate::stage::{Scope, Stage};
 use crate::told::deadlocked::push_deadlocks;
 use crate::told::faulty::push_told;
-use crate::told::hints::hints_of;
+use crate::told::hints::push_hints;
 use crate::told::remarks::{Remarks, push_remarks};
 use crate::told::waiting::push_waiting;
 use cics_dispatch::Region;
@@ -90,20 +90,6 @@ fn push_strict(out: &mut Vec<u8>, region: &Region, scope: Scope) -> Result<(), N
         return Ok(());
     }
     push_waiting(out, region)
-}
-
-// Appends the hints on what a run leaves.
-fn push_hints(
-    out: &mut Vec<u8>,
-    region: &Region,
-    session: &Session,
-    file: Option<&[u8]>,
-) -> Result<(), NoMemory>
-    ensures { OnOk result (IsLonger out.old.items out.new.items) }
-{
-    let hints = hints_of(*out.allocator(), region, session, file)?;
-    out.extend_from_slice(&hints)?;
-    Ok(())
 }
 
 // Appends what is told of the region in which a run ended.

@@ -1,8 +1,8 @@
 //! Whether a run leaves a task waiting, and what is told of that.
 
-ghost use Rattle.std.specs.Prelude.{◌≡◌, ◌++◌, length, OnOk};
-ghost use Rattle.cics_run.specs.Told.Waiting.{waiting_at, first_waiting_below, first_waiting};
-ghost use Rattle.cics_run.specs.Told.Waiting.{is_left_waiting, waiter_text, first_line};
+ghost use Rattle.std.specs.Prelude.{◌≡◌, ◌++◌, OnOk};
+ghost use Rattle.cics_run.specs.Told.Waiting.{waiting_at, first_waiting};
+ghost use Rattle.cics_run.specs.Told.Waiting.{is_left_waiting, waiter_text};
 ghost use Rattle.cics_run.specs.Told.Waiting.{waiting_line};
 
 use crate::session::Session;
@@ -11,7 +11,8 @@ use crate::told::deadlocked::push_wait;
 use cics_dispatch::Region;
 use cics_dispatch::deadlocks::waiting_count;
 use cics_names::{Name8, NoMemory};
-use cics_script::spelling::{push_bare, push_number, push_str};
+use cics_script::spelling::Part::{Number, Str};
+use cics_script::spelling::{push_bare, push_parts, push_str};
 
 // Returns the label of the task of a number, if it waits.
 fn waiting_at(region: &Region, number: usize) -> Option<Name8>
@@ -61,19 +62,6 @@ fn push_waiter(out: &mut Vec<u8>, region: &Region, label: &Name8) -> Result<(), 
     }
 }
 
-// Appends how many tasks of a region wait, and for whom and what one of them does.
-fn push_first(out: &mut Vec<u8>, region: &Region, label: &Name8) -> Result<(), NoMemory>
-    ensures { OnOk result (out.new.items
-        ≡ out.old.items ++ first_line region.now.machine label.now) }
-{
-    push_str(out, "cicsrun: still waiting at the end: ")?;
-    push_number(out, waiting_count(region) as u64)?;
-    push_str(out, "; ")?;
-    push_waiter(out, region, label)?;
-    push_str(out, "\n")?;
-    Ok(())
-}
-
 /// Appends how many tasks of a region wait, and for whom and what the first does. Appends nothing
 /// if none waits.
 ///
@@ -81,8 +69,17 @@ fn push_first(out: &mut Vec<u8>, region: &Region, label: &Name8) -> Result<(), N
 pub fn push_waiting(out: &mut Vec<u8>, region: &Region) -> Result<(), NoMemory>
     ensures { OnOk result (out.new.items ≡ out.old.items ++ waiting_line region.now.machine) }
 {
-    match first_waiting(region) {
-        Some(label) => push_first(out, region, &label),
-        None => Ok(()),
-    }
+    let Some(label) = first_waiting(region) else {
+        return Ok(());
+    };
+    push_parts(
+        out,
+        &[
+            Str("cicsrun: still waiting at the end: "),
+            Number(waiting_count(region) as u64),
+            Str("; "),
+        ],
+    )?;
+    push_waiter(out, region, &label)?;
+    push_str(out, "\n")
 }

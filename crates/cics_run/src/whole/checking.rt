@@ -21,7 +21,8 @@ use crate::whole::requests::{is_played, note_on};
 use cics_dispatch::{Event, Region, Request};
 use cics_names::NoMemory;
 use cics_script::advice::Origin;
-use cics_script::spelling::{push_number, push_str};
+use cics_script::spelling::Part::{Number, Str};
+use cics_script::spelling::{push_parts, push_str};
 use cics_script::{Line, LineFault, adds_nothing, read_line};
 use cics_units::DefineFault;
 use std::alloc::Global;
@@ -146,11 +147,14 @@ fn push_count(out: &mut Vec<u8>, faulty: u64) -> Result<(), NoMemory>
     match faulty {
         0 => Ok(()),
         1 => push_str(out, "cicsrun: 1 line is at fault\n"),
-        _ => {
-            push_str(out, "cicsrun: ")?;
-            push_number(out, faulty)?;
-            push_str(out, " lines are at fault\n")
-        }
+        _ => push_parts(
+            out,
+            &[
+                Str("cicsrun: "),
+                Number(faulty),
+                Str(" lines are at fault\n"),
+            ],
+        ),
     }
 }
 

@@ -27,7 +27,7 @@ returns c =
     let passed : map deref_pair c.loop-cell.yielded ≡ r =
     sym (sym c.into_iter-cell-iterator.ensures.into_iter_gives ∙ given deref_pair _ c.loop-cell.yielded c.loop-cell.cell-iterator c.loop-cell.yielded_by
     ∙ ap (λ t. map deref_pair c.loop-cell.yielded ++ t) c.in-None.ensures.steps.0 ∙ append-nil (map deref_pair c.loop-cell.yielded)) in
-    let same : c.self.inside.marks.entries ≡ marks_of now = c.self.invariant.by_cell ∙ ap marks_of c.self.view_is in
+    let same : c.self.inside.kept.marks.entries ≡ marks_of now = c.self.invariant.by_cell ∙ ap marks_of c.self.view_is in
     let there : r ≡ entries_between cell_cmp (Included c.args.low.now) (Included c.args.high.now) (marks_of now) =
     c.range-cell-items.ensures.between tt ∙ (λ i. entries_between (cells_ordered i) (Included (c.new.ensures.start i).now) (Included (c.new.ensures.end i).now) (same i)) in
     let kept : AllByRecursion (IsKept now) r =

@@ -1,7 +1,0 @@
-use Rattle.std.proofs.Common.{◌≡◌, ◌++◌, take}
-use Rattle.std.specs.List.{flat_map}
-use Rattle.cics_run.specs.Reads.Findings.{replaced_at}
-use Rattle.cics_run.proofs.reads.seeing.push_lost.Given as goal
-
-abbrev pub invariant-loop-cell : goal.invariant-loop-cell
-invariant-loop-cell l = l.found ≡ l.initial.found ++ flat_map (replaced_at l.past l.change) (take l.cell-index l.cell-items)
