@@ -3,7 +3,7 @@
 ghost use Rattle.std.specs.Prelude.{◌≡◌, ◌<◌, [], ◌∷◌, ◌++◌, None, IfOk, OnOk, length, map};
 ghost use Rattle.cics_orders.specs.Giving.{initial_lane, frame, task_lane, is_of, is_last};
 ghost use Rattle.cics_orders.specs.Plans.Firsts.{first_index};
-ghost use Rattle.cics_orders.specs.Giving.{told_more, with_told, hearing, told_by, with_given};
+ghost use Rattle.cics_orders.specs.Giving.{with_told, hearing, told_by, with_given};
 
 use crate::lines::Lines;
 use crate::plans::{TaskPlan, is_same};
@@ -66,13 +66,6 @@ impl Lane {
         let _left = self.lines.as_slice().len();
         self.given += 1;
     }
-
-    // Tells its task an outcome.
-    fn tell(&mut self, outcome: Outcome) -> Result<(), NoMemory>
-        ensures { OnOk result (self.new ≡ told_more self.old outcome) }
-    {
-        self.told.push(outcome)
-    }
 }
 
 /// Returns the lanes of tasks and of the clock, of which no line is given.
@@ -121,7 +114,7 @@ fn tell(lanes: &mut Vec<Lane>, label: &Name8, outcome: Outcome) -> Result<(), No
     ensures { OnOk result (lanes.new.items ≡ with_told lanes.old.items label.now outcome) }
 {
     match index_of(lanes.as_slice(), label) {
-        Some(at) => lanes[at].tell(outcome),
+        Some(at) => lanes[at].told.push(outcome),
         None => Ok(()),
     }
 }

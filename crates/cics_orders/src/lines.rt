@@ -38,31 +38,6 @@ impl Model for Lines {
         ≡ map (λ next. line next.1) l.shared.value.lines };
 }
 
-// Copies lines.
-fn copied(alloc: Global, lines: &[(u64, Record)]) -> Result<Items<(u64, Record)>, NoMemory>
-    ensures { IfOk result (λ copies. copies ≡ lines.now) }
-{
-    let mut copies = Items::new(alloc);
-    for (number, line) in lines {
-        copies.push((*number, line.copy()?))?;
-    }
-    Ok(copies)
-}
-
-// Reads what lines say.
-fn read_all(
-    alloc: Global,
-    lines: &[(u64, Record)],
-) -> Result<Items<Result<Line, LineFault>>, NoMemory>
-    ensures { IfOk result (λ says. says ≡ map (λ next. line next.1) lines.now) }
-{
-    let mut says = Items::new(alloc);
-    for (_, line) in lines {
-        says.push(read(alloc, line.bytes())?)?;
-    }
-    Ok(says)
-}
-
 impl Lines {
     /// Reads lines.
     ///
@@ -70,9 +45,15 @@ impl Lines {
     pub(crate) fn new(alloc: Global, lines: &[(u64, Record)]) -> Result<Lines, NoMemory>
         ensures { IfOk result (λ own. own ≡ lines.now) }
     {
+        let mut copies = Items::new(alloc);
+        let mut says = Items::new(alloc);
+        for (number, line) in lines {
+            copies.push((*number, line.copy()?))?;
+            says.push(read(alloc, line.bytes())?)?;
+        }
         let read = ReadLines {
-            lines: copied(alloc, lines)?,
-            says: read_all(alloc, lines)?,
+            lines: copies,
+            says,
         };
         Ok(Lines {
             shared: Rc::new(alloc, read)?,

@@ -1,6 +1,6 @@
 //! The stamps of what tasks were told, and of lanes.
 
-ghost use Rattle.std.specs.Prelude.{◌≡◌, ◌++◌, map, OnOk};
+ghost use Rattle.std.specs.Prelude.{◌≡◌, ◌++◌, map, OnOk, option_copied};
 ghost use Rattle.cics_names.specs.Stamps.{number_stamp, text_stamp, option_stamp, list_stamp};
 ghost use Rattle.cics_orders.specs.Stamps.{count_stamp, reply_stamp, outcome_stamp, told_of};
 ghost use Rattle.cics_orders.specs.Stamps.{seen, lane_stamp};
@@ -27,19 +27,14 @@ fn stamp_content(out: &mut Vec<u8>, content: &Option<Record>) -> Result<(), NoMe
 fn stamp_count(out: &mut Vec<u8>, number: Option<Number>) -> Result<(), NoMemory>
     ensures { OnOk result (out.new.items ≡ out.old.items ++ option_stamp count_stamp number) }
 {
-    match number {
-        Some(Number::Item(item)) => {
-            stamp_number(out, 1)?;
-            stamp_number(out, 0)?;
-            stamp_number(out, item)
-        }
-        Some(Number::Numrec(records)) => {
-            stamp_number(out, 1)?;
-            stamp_number(out, 1)?;
-            stamp_number(out, records)
-        }
-        None => stamp_number(out, 0),
-    }
+    let (kind, count) = match number {
+        Some(Number::Item(item)) => (0, item),
+        Some(Number::Numrec(records)) => (1, records),
+        None => return stamp_number(out, 0),
+    };
+    stamp_number(out, 1)?;
+    stamp_number(out, kind)?;
+    stamp_number(out, count)
 }
 
 // Appends the stamp of a reply.
@@ -52,11 +47,19 @@ fn stamp_reply(out: &mut Vec<u8>, reply: &Reply) -> Result<(), NoMemory>
     stamp_count(out, reply.number)
 }
 
-// Appends the stamp of a reply that may be missing.
-fn stamp_told(out: &mut Vec<u8>, reply: &Option<Reply>) -> Result<(), NoMemory>
-    ensures { OnOk result (out.new.items
-        ≡ out.old.items ++ option_stamp reply_stamp reply.now) }
+// Appends the stamps of the kind of an outcome, of what it names, and of its reply, which may be
+// missing.
+fn stamp_told(
+    out: &mut Vec<u8>,
+    kind: u64,
+    name: &[u8],
+    reply: Option<&Reply>,
+) -> Result<(), NoMemory>
+    ensures { OnOk result (out.new.items ≡ out.old.items ++ (number_stamp kind
+        ++ (text_stamp name.now ++ option_stamp reply_stamp (option_copied reply.entry)))) }
 {
+    stamp_number(out, kind)?;
+    stamp_text(out, name)?;
     match reply {
         Some(reply) => {
             stamp_number(out, 1)?;
@@ -66,37 +69,15 @@ fn stamp_told(out: &mut Vec<u8>, reply: &Option<Reply>) -> Result<(), NoMemory>
     }
 }
 
-// Appends the stamps of the kind of an outcome, and of what it names.
-fn stamp_kind(out: &mut Vec<u8>, kind: u64, name: &[u8]) -> Result<(), NoMemory>
-    ensures { OnOk result (out.new.items
-        ≡ out.old.items ++ (number_stamp kind ++ text_stamp name.now)) }
-{
-    stamp_number(out, kind)?;
-    stamp_text(out, name)
-}
-
 // Appends the stamp of an outcome.
 fn stamp_outcome(out: &mut Vec<u8>, outcome: &Outcome) -> Result<(), NoMemory>
     ensures { OnOk result (out.new.items ≡ out.old.items ++ outcome_stamp outcome.now) }
 {
     match outcome {
-        Outcome::Replied(reply) => {
-            stamp_kind(out, 0, &[])?;
-            stamp_number(out, 1)?;
-            stamp_reply(out, reply)
-        }
-        Outcome::Waiting(label) => {
-            stamp_kind(out, 1, &label.bytes())?;
-            stamp_number(out, 0)
-        }
-        Outcome::Abended(code, reply) => {
-            stamp_kind(out, 2, &code.0.bytes())?;
-            stamp_told(out, reply)
-        }
-        Outcome::Ended => {
-            stamp_kind(out, 3, &[])?;
-            stamp_number(out, 0)
-        }
+        Outcome::Replied(reply) => stamp_told(out, 0, &[], Some(reply)),
+        Outcome::Waiting(label) => stamp_told(out, 1, &label.bytes(), None),
+        Outcome::Abended(code, reply) => stamp_told(out, 2, &code.0.bytes(), reply.as_ref()),
+        Outcome::Ended => stamp_told(out, 3, &[], None),
     }
 }
 
@@ -130,19 +111,8 @@ fn stamp_outcomes(out: &mut Vec<u8>, outcomes: &[Outcome]) -> Result<(), NoMemor
     stamp_number(out, 0)
 }
 
-impl Lane {
-    // Appends its stamp, but for its label and its lines. With `told` it has all that its task was
-    // told, else how the task ended.
-    fn stamp(&self, told: bool, out: &mut Vec<u8>) -> Result<(), NoMemory>
-        ensures { OnOk result (out.new.items
-            ≡ out.old.items ++ lane_stamp (seen told self.now)) }
-    {
-        stamp_number(out, self.given as u64)?;
-        stamp_outcomes(out, told_of(self.told.as_slice(), told))
-    }
-}
-
-/// Appends the stamps of lanes.
+/// Appends the stamps of lanes, but for their labels and lines. With `told` they have all that
+/// tasks were told, else how they ended.
 ///
 /// Errors: `NoMemory`.
 pub(crate) fn stamp_lanes(out: &mut Vec<u8>, lanes: &[Lane], told: bool) -> Result<(), NoMemory>
@@ -151,7 +121,8 @@ pub(crate) fn stamp_lanes(out: &mut Vec<u8>, lanes: &[Lane], told: bool) -> Resu
 {
     for lane in lanes {
         stamp_number(out, 1)?;
-        lane.stamp(told, out)?;
+        stamp_number(out, lane.given as u64)?;
+        stamp_outcomes(out, told_of(lane.told.as_slice(), told))?;
     }
     stamp_number(out, 0)
 }

@@ -29,21 +29,14 @@ fn ends_turn(says: &Result<Line, LineFault>) -> bool
     }
 }
 
-// Returns what the line says that was given last, if so many were.
-fn last_said(lines: &Lines, given: usize) -> Option<&Result<Line, LineFault>>
-    ensures { option_copied result ≡ last_said lines.now given }
+// Returns whether the line that was given last is there, and didn't end its task's turn.
+fn goes_on(lines: &Lines, given: usize) -> bool
+    ensures { result ≡ goes_on (last_said lines.now given) }
 {
     if given == 0 {
-        return None;
+        return false;
     }
-    lines.said_at(given - 1)
-}
-
-// Returns whether the line that was given last is there, and didn't end its task's turn.
-fn goes_on(last: Option<&Result<Line, LineFault>>) -> bool
-    ensures { result ≡ goes_on (option_copied last.entry) }
-{
-    match last {
+    match lines.said_at(given - 1) {
         Some(says) => !ends_turn(says),
         None => false,
     }
@@ -66,7 +59,7 @@ fn is_unfinished(region: &Region, lane: &Lane) -> bool
 fn is_in_turn(region: &Region, lane: &Lane) -> bool
     ensures { result ≡ is_in_turn region.now.machine lane.now }
 {
-    goes_on(last_said(&lane.lines, lane.given)) && is_unfinished(region, lane)
+    goes_on(&lane.lines, lane.given) && is_unfinished(region, lane)
 }
 
 // Returns whether a lane is another one than that of a number, and its task is within a turn.

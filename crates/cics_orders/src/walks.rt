@@ -117,26 +117,17 @@ fn lane_of(plan: &Plan, task: Option<usize>) -> usize
     }
 }
 
-// Returns the number of the line that a lane may give.
-fn line_ready(region: &Region, lane: &Lane) -> Option<u64>
-    ensures { result ≡ line_ready region.now.machine lane.now }
-{
-    if !is_ready(region, lane) {
-        return None;
-    }
-    match lane.lines.as_slice().get(lane.given) {
-        Some((number, _)) => Some(*number),
-        None => None,
-    }
-}
-
 // Returns the number of the line that the lane of a number may give.
 fn next_number(region: &Region, lanes: &[Lane], number: usize) -> Option<u64>
     ensures { result ≡ option_and_then (line_ready region.now.machine)
         (slice_get lanes.now number) }
 {
-    match lanes.get(number) {
-        Some(lane) => line_ready(region, lane),
+    let lane = match lanes.get(number) {
+        Some(lane) if is_ready(region, lane) => lane,
+        _ => return None,
+    };
+    match lane.lines.as_slice().get(lane.given) {
+        Some((number, _)) => Some(*number),
         None => None,
     }
 }
@@ -164,10 +155,10 @@ impl Walker {
     {
         let most = line_count(&plan)?;
         let clock = Lines::new(alloc, plan.clock.as_slice())?;
-        let opening = opened(alloc, plan.definitions.as_slice())?;
         let fresh = initial_lanes(alloc, plan.tasks.as_slice(), clock)?;
-        let region = initial_region(&opening, plan.tasks.as_slice())?;
         let lanes = fresh_lanes(alloc, fresh.as_slice())?;
+        let opening = opened(alloc, plan.definitions.as_slice())?;
+        let region = initial_region(&opening, plan.tasks.as_slice())?;
         Ok(Walker {
             alloc,
             plan,

@@ -4,13 +4,13 @@ ghost use Rattle.std.specs.Prelude.{◌≡◌, ◌++◌, ◌-◌, OnOk, IfOk, le
 ghost use Rattle.std.specs.List.{flat_map};
 ghost use Rattle.cics_dispatch.specs.Machine.Blockers.{waiting_command};
 ghost use Rattle.cics_orders.specs.Endings.Telling.{end_text, blocker_text, number_text, stand_text};
-ghost use Rattle.cics_orders.specs.Endings.Telling.{state_text, task_text, told_text};
+ghost use Rattle.cics_orders.specs.Endings.Telling.{task_text, told_text};
 
 use crate::Lane;
 use cics_dispatch::{Outcome, Region};
 use cics_names::{Name8, NoMemory, Record};
 use cics_run::stage::journal::push_outcome;
-use cics_script::spelling::{push_bare, push_number, push_str};
+use cics_script::spelling::{Part, push_number, push_parts, push_str};
 use std::alloc::Global;
 
 // Appends how a task has ended.
@@ -20,20 +20,12 @@ fn push_end(out: &mut Vec<u8>, told: &[Outcome]) -> Result<(), NoMemory>
 {
     match told.last() {
         Some(Outcome::Ended) => push_str(out, " ENDED"),
-        Some(Outcome::Abended(code, _)) => {
-            push_str(out, " ABEND ")?;
-            push_bare(out, &code.0.bytes())
-        }
+        Some(Outcome::Abended(code, _)) => push_parts(
+            out,
+            &[Part::Str(" ABEND "), Part::Bare(&code.0.bytes())],
+        ),
         _ => push_str(out, " SHUTDOWN"),
     }
-}
-
-// Appends a task that blocks another one.
-fn push_blocker(out: &mut Vec<u8>, blocker: &Name8) -> Result<(), NoMemory>
-    ensures { OnOk result (out.new.items ≡ out.old.items ++ blocker_text blocker.now) }
-{
-    push_str(out, " ")?;
-    push_bare(out, &blocker.bytes())
 }
 
 // Appends the tasks that block another one.
@@ -42,7 +34,7 @@ fn push_blockers(out: &mut Vec<u8>, blockers: &[Name8]) -> Result<(), NoMemory>
         ≡ out.old.items ++ flat_map blocker_text blockers.now) }
 {
     for blocker in blockers {
-        push_blocker(out, blocker)?;
+        push_parts(out, &[Part::Str(" "), Part::Bare(&blocker.bytes())])?;
     }
     Ok(())
 }
@@ -79,23 +71,6 @@ fn push_stand(
     push_last_number(out, lane)
 }
 
-// Appends what a task does.
-fn push_state(
-    out: &mut Vec<u8>,
-    region: &Region,
-    label: &Name8,
-    lane: &Lane,
-) -> Result<(), NoMemory>
-    ensures { OnOk result (out.new.items
-        ≡ out.old.items ++ state_text region.now.machine label.now lane.now) }
-{
-    if region.has_ended(label) {
-        push_end(out, lane.told.as_slice())
-    } else {
-        push_stand(out, region, label, lane)
-    }
-}
-
 /// Returns the line of a task.
 pub(crate) fn task_part(
     alloc: Global,
@@ -106,9 +81,12 @@ pub(crate) fn task_part(
     ensures { IfOk result (λ part. part ≡ task_text region.now.machine label.now lane.now) }
 {
     let mut text = Vec::new(alloc);
-    push_str(&mut text, "TASK ")?;
-    push_bare(&mut text, &label.bytes())?;
-    push_state(&mut text, region, label, lane)?;
+    push_parts(&mut text, &[Part::Str("TASK "), Part::Bare(&label.bytes())])?;
+    if region.has_ended(label) {
+        push_end(&mut text, lane.told.as_slice())?;
+    } else {
+        push_stand(&mut text, region, label, lane)?;
+    }
     push_str(&mut text, "\n")?;
     Ok(Record::new(text))
 }
@@ -123,9 +101,10 @@ pub(crate) fn told_part(
     ensures { IfOk result (λ part. part ≡ told_text label.now number outcome.now) }
 {
     let mut text = Vec::new(alloc);
-    push_str(&mut text, "LINE ")?;
-    push_number(&mut text, number)?;
-    push_str(&mut text, " ")?;
+    push_parts(
+        &mut text,
+        &[Part::Str("LINE "), Part::Number(number), Part::Str(" ")],
+    )?;
     push_outcome(&mut text, *label, outcome)?;
     Ok(Record::new(text))
 }

@@ -2,7 +2,7 @@
 
 ghost use Rattle.std.specs.Prelude.{◌≡◌, ◌++◌, IfOk, OnOk};
 ghost use Rattle.cics_orders.specs.Report.Parts.{mark};
-ghost use Rattle.cics_orders.specs.Endings.Telling.{told_parts, lane_parts, is_deadlocked, parts_of};
+ghost use Rattle.cics_orders.specs.Endings.Telling.{told_parts, lane_parts, parts_of};
 
 use crate::Lane;
 use crate::endings::blocks::add_blocks;
@@ -60,14 +60,6 @@ fn add_task(told: Told<'_>, parts: &mut Items<Record>, lane: &Lane) -> Result<()
     add_told(told.alloc, parts, label, lane)
 }
 
-// Returns whether tasks wait for each other in a circle.
-fn is_deadlocked(alloc: Global, region: &Region) -> Result<bool, NoMemory>
-    ensures { IfOk result (λ found. found ≡ is_deadlocked region.now.machine) }
-{
-    let found = deadlocks(alloc, region)?;
-    Ok(found.len() > 0)
-}
-
 /// Returns the parts of an ending: its mark, the block of each file and queue, and the line of each
 /// task in the order of attach. If `with_told`, what a task was told of each of its lines that was
 /// answered follows its line.
@@ -83,7 +75,7 @@ pub fn parts_of(
     ensures { IfOk result (λ parts. parts ≡ parts_of region.now.machine with_told lanes.now) }
 {
     let mut parts = Items::new(alloc);
-    let mark = mark_text(is_deadlocked(alloc, region)?);
+    let mark = mark_text(deadlocks(alloc, region)?.len() > 0);
     parts.push(Record::from_slice(alloc, mark.as_bytes())?)?;
     add_blocks(alloc, &mut parts, region)?;
     let told = Told {

@@ -70,7 +70,7 @@ fn add_line(tasks: &mut Vec<TaskPlan>, label: &Name8, next: (u64, Record)) -> Re
     ensures { OnOk result (tasks.new.items ≡ line_added tasks.old.items label.now next) }
 {
     match index_of(tasks.as_slice(), label) {
-        Some(at) => tasks[at].add(next),
+        Some(at) => tasks[at].lines.push(next),
         None => Ok(()),
     }
 }
@@ -124,27 +124,19 @@ impl Planner {
         ensures { TakesLine (followed self.old next line) self.new result }
     {
         match line {
-            Line::Blank => Ok(None),
-            Line::Attach(label, transaction, dtimout) => {
-                self.attach(TaskPlan {
-                    label,
-                    transaction,
-                    dtimout,
-                    attach: next,
-                    lines: Items::new(self.alloc),
-                })?;
-                Ok(None)
-            }
-            Line::Issue(label, _) => {
-                self.issue(next, label)?;
-                Ok(None)
-            }
-            Line::Clock(_) | Line::Shutdown => {
-                self.time(next)?;
-                Ok(None)
-            }
-            definition => self.define(next, definition),
+            Line::Blank => {}
+            Line::Attach(label, transaction, dtimout) => self.attach(TaskPlan {
+                label,
+                transaction,
+                dtimout,
+                attach: next,
+                lines: Items::new(self.alloc),
+            })?,
+            Line::Issue(label, _) => self.issue(next, label)?,
+            Line::Clock(_) | Line::Shutdown => self.time(next)?,
+            definition => return self.define(next, definition),
         }
+        Ok(None)
     }
 
     // Takes a line that defines or loads.

@@ -1,11 +1,10 @@
 //! What a script is taken apart into.
 
-ghost use Rattle.std.specs.Prelude.{◌≡◌, OnOk};
+ghost use Rattle.std.specs.Prelude.{◌≡◌};
 ghost use Rattle.cics_names.specs.Keyed.{is_same};
-ghost use Rattle.cics_orders.specs.Plans.Taking.{with_line};
 
 use cics_dispatch::Refused;
-use cics_names::{Items, Name4, Name8, NoMemory, Record};
+use cics_names::{Items, Name4, Name8, Record};
 use cics_script::LineFault;
 use cics_units::DefineFault;
 
@@ -22,17 +21,7 @@ pub struct TaskPlan {
     pub lines: Items<(u64, Record)>,
 }
 
-impl TaskPlan {
-    // Adds a command line.
-    pub(crate) fn add(&mut self, next: (u64, Record)) -> Result<(), NoMemory>
-        ensures { OnOk result (self.new ≡ with_line self.old next) }
-    {
-        self.lines.push(next)
-    }
-}
-
 /// What a script defines, and the lines that its tasks and the clock give.
-#[derive(Drop)]
 pub struct Plan {
     /// The lines that define and load.
     pub definitions: Items<(u64, Record)>,
@@ -43,6 +32,18 @@ pub struct Plan {
     /// The numbers of all these lines in the script's order, each behind its task's index; the
     /// clock's lines have none.
     pub written: Items<(Option<usize>, u64)>,
+}
+
+// By hand: so each place that drops a plan is one call, not a drop of each field.
+impl Drop for Plan {
+    fn drop(self) {
+        let Plan {
+            definitions: _definitions,
+            tasks: _tasks,
+            clock: _clock,
+            written: _written,
+        } = self;
+    }
 }
 
 /// A line that is refused in every order: the second ATTACH of a label, or a command of a label

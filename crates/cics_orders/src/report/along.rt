@@ -1,6 +1,6 @@
 //! The lines of an order.
 
-ghost use Rattle.std.specs.Prelude.{◌≡◌, ◌+◌, IfOk, OnOk, get_or, slice_set};
+ghost use Rattle.std.specs.Prelude.{◌≡◌, IfOk, OnOk};
 ghost use Rattle.cics_orders.specs.Report.Along.{lane_lines, given_more, lines_along};
 
 use crate::plans::Plan;
@@ -17,25 +17,6 @@ fn lane_lines(plan: &Plan, lane: usize) -> &[(u64, Record)]
     }
 }
 
-// Returns how many lines a lane has given.
-fn given_by(given: &[usize], lane: usize) -> usize
-    ensures { result ≡ get_or given.now lane 0 }
-{
-    match given.get(lane) {
-        Some(count) => *count,
-        None => 0,
-    }
-}
-
-// Sets how many lines a lane has given, if the lane is there.
-fn set_given(given: &mut Vec<usize>, lane: usize, count: usize)
-    ensures { given.new.items ≡ slice_set given.old.items lane count }
-{
-    if lane < given.len() {
-        given[lane] = count;
-    }
-}
-
 // Adds the next line of a lane, if it has one left.
 fn give(
     plan: &Plan,
@@ -46,15 +27,14 @@ fn give(
     ensures { OnOk result ((given.new.items, lines.new)
         ≡ given_more plan.now (given.old.items, lines.old) lane) }
 {
-    let at = given_by(given, lane);
-    match lane_lines(plan, lane).get(at) {
-        Some((number, bytes)) => {
-            lines.push((*number, bytes.copy()?))?;
-            set_given(given, lane, at + 1);
-            Ok(())
+    let at = given.get(lane).copied().unwrap_or(0);
+    if let Some((number, bytes)) = lane_lines(plan, lane).get(at) {
+        lines.push((*number, bytes.copy()?))?;
+        if lane < given.len() {
+            given[lane] = at + 1;
         }
-        None => Ok(()),
     }
+    Ok(())
 }
 
 /// Returns the lines of an order, each with its number.

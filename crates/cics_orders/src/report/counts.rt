@@ -11,7 +11,7 @@ use crate::report::parts::mark_in;
 use crate::search::Report;
 use crate::space::Ending;
 use cics_names::{Items, NoMemory, Record};
-use cics_script::spelling::{push_number, push_str};
+use cics_script::spelling::{Part, push_parts, push_str};
 
 // Returns the words before a number. It is a lower bound if orders were left out, and so is the
 // greatest number that is kept.
@@ -35,38 +35,45 @@ fn push_wide(out: &mut Vec<u8>, number: u128) -> Result<(), NoMemory>
     Ok(())
 }
 
-/// Appends a number, which is a lower bound if orders were left out.
-pub(crate) fn push_count(out: &mut Vec<u8>, has_all: bool, count: u128) -> Result<(), NoMemory>
-    ensures { OnOk result (out.new.items ≡ out.old.items ++ count_text has_all count) }
+/// Appends a text and a number, which is a lower bound if orders were left out.
+pub(crate) fn push_count(
+    out: &mut Vec<u8>,
+    text: &str,
+    has_all: bool,
+    count: u128,
+) -> Result<(), NoMemory>
+    ensures { OnOk result (out.new.items
+        ≡ out.old.items ++ (text.now ++ count_text has_all count)) }
 {
-    push_str(out, bound_text(has_all, count))?;
+    push_parts(
+        out,
+        &[Part::Str(text), Part::Str(bound_text(has_all, count))],
+    )?;
     push_wide(out, count)
 }
 
-// Appends two numbers: of all, and of the serial ones.
-fn push_both(out: &mut Vec<u8>, report: &Report, all: u128, serial: u128) -> Result<(), NoMemory>
-    ensures { OnOk result (out.new.items ≡ out.old.items ++ both_text report.now all serial) }
+// Appends a text and two numbers: of all, and of the serial ones.
+fn push_both(
+    out: &mut Vec<u8>,
+    text: &str,
+    report: &Report,
+    counts: (u128, u128),
+) -> Result<(), NoMemory>
+    ensures { OnOk result (out.new.items
+        ≡ out.old.items ++ (text.now ++ both_text report.now counts.0 counts.1)) }
 {
-    push_count(out, report.is_whole, all)?;
-    push_str(out, " SERIAL ")?;
-    push_count(out, report.has_all_serial, serial)
+    push_count(out, text, report.is_whole, counts.0)?;
+    push_count(out, " SERIAL ", report.has_all_serial, counts.1)
 }
 
-// Returns whether an ending has these parts.
-fn has_parts(ending: &Ending, parts: &Option<Items<Record>>) -> bool
-    ensures { result ≡ has_parts ending.now parts.now }
+// Returns the mark of an ending, if it has the parts to which the order as written leads.
+fn written_mark(ending: &Ending, written: &Option<Items<Record>>) -> &'static str
+    ensures { result.now ≡ written_mark (has_parts ending.now written.now) }
 {
-    match parts {
-        Some(parts) => parts.as_slice() == ending.parts(),
-        None => false,
+    match written {
+        Some(parts) if parts.as_slice() == ending.parts() => " AS WRITTEN",
+        _ => "",
     }
-}
-
-// Returns the mark of the ending that the order as written leads to.
-fn written_mark(is_written: bool) -> &'static str
-    ensures { result.now ≡ written_mark is_written }
-{
-    if is_written { " AS WRITTEN" } else { "" }
 }
 
 /// Appends how many orders lead to an ending, and its marks.
@@ -77,33 +84,26 @@ pub(crate) fn push_heading(
 ) -> Result<(), NoMemory>
     ensures { OnOk result (out.new.items ≡ out.old.items ++ heading_text report.now ending.now) }
 {
-    push_str(out, " ORDERS ")?;
-    push_both(out, report, ending.orders(), ending.serial())?;
-    out.extend_from_slice(mark_in(ending.parts()))?;
-    push_str(out, written_mark(has_parts(ending, &report.written)))?;
-    push_str(out, "\n")
+    push_both(out, " ORDERS ", report, (ending.orders(), ending.serial()))?;
+    let parts = [
+        Part::Bytes(mark_in(ending.parts())),
+        Part::Str(written_mark(ending, &report.written)),
+        Part::Str("\n"),
+    ];
+    push_parts(out, &parts)
 }
 
-// Returns how many orders lead to endings.
-fn all_orders(endings: &[Ending]) -> u128
-    ensures { result ≡ all_orders endings.now }
+// Returns how many orders lead to endings, and how many serial ones.
+fn order_counts(endings: &[Ending]) -> (u128, u128)
+    ensures { result ≡ (all_orders endings.now, serial_orders endings.now) }
 {
-    let mut count = 0u128;
+    let mut all = 0u128;
+    let mut serial = 0u128;
     for i in 0..endings.len() {
-        count = count.saturating_add(endings[i].orders());
+        all = all.saturating_add(endings[i].orders());
+        serial = serial.saturating_add(endings[i].serial());
     }
-    count
-}
-
-// Returns how many serial orders lead to endings.
-fn serial_orders(endings: &[Ending]) -> u128
-    ensures { result ≡ serial_orders endings.now }
-{
-    let mut count = 0u128;
-    for i in 0..endings.len() {
-        count = count.saturating_add(endings[i].serial());
-    }
-    count
+    (all, serial)
 }
 
 // Returns to how many endings a serial order leads.
@@ -126,9 +126,14 @@ pub(crate) fn push_limit(out: &mut Vec<u8>, report: &Report, limit: u64) -> Resu
     if report.is_whole && report.has_all_serial {
         return Ok(());
     }
-    push_str(out, "LIMIT ")?;
-    push_number(out, limit)?;
-    push_str(out, " REACHED\n")
+    push_parts(
+        out,
+        &[
+            Part::Str("LIMIT "),
+            Part::Number(limit),
+            Part::Str(" REACHED\n"),
+        ],
+    )
 }
 
 /// Appends the numbers of orders and endings.
@@ -136,14 +141,8 @@ pub(crate) fn push_totals(out: &mut Vec<u8>, report: &Report) -> Result<(), NoMe
     ensures { OnOk result (out.new.items ≡ out.old.items ++ totals_text report.now) }
 {
     let endings = report.endings.as_slice();
-    push_str(out, "ORDERS ")?;
-    push_both(out, report, all_orders(endings), serial_orders(endings))?;
-    push_str(out, "\nENDINGS ")?;
-    push_both(
-        out,
-        report,
-        endings.len() as u128,
-        serial_endings(endings) as u128,
-    )?;
+    let counts = (endings.len() as u128, serial_endings(endings) as u128);
+    push_both(out, "ORDERS ", report, order_counts(endings))?;
+    push_both(out, "\nENDINGS ", report, counts)?;
     push_str(out, "\n")
 }

@@ -1,11 +1,11 @@
 //! What the reads of an order saw and missed.
 
-ghost use Rattle.std.specs.Prelude.{◌≡◌, ◌++◌, OnOk, IfOk};
+ghost use Rattle.std.specs.Prelude.{◌≡◌, ◌++◌, OnOk};
 ghost use Rattle.std.specs.List.{fold};
-ghost use Rattle.cics_orders.specs.Report.Findings.{with_line, with_attach, watched_along};
-ghost use Rattle.cics_orders.specs.Report.Findings.{amiss_along, watch_of};
+ghost use Rattle.cics_run.specs.Reads.Watched.{amiss_text};
+ghost use Rattle.cics_orders.specs.Report.Findings.{with_line, with_attach, amiss_along, watch_of};
 
-use crate::plans::{Plan, TaskPlan};
+use crate::plans::Plan;
 use crate::report::along::lines_along;
 use cics_names::{NoMemory, Record};
 use cics_run::reads::Watcher;
@@ -42,40 +42,39 @@ impl Watch {
         Ok(())
     }
 
-    // Attaches tasks.
-    fn run_attaches(&mut self, tasks: &[TaskPlan]) -> Result<(), NoMemory>
-        ensures { OnOk result (watch_of self.new
-            ≡ fold with_attach (watch_of self.old) tasks.now) }
+    // Runs the lines that define and attach, and behind them others. Appends what is amiss.
+    fn push_amiss(
+        &mut self,
+        out: &mut Vec<u8>,
+        plan: &Plan,
+        lines: &[(u64, Record)],
+    ) -> Result<(), NoMemory>
+        ensures { OnOk result (out.new.items
+            ≡ out.old.items ++ amiss_text (fold with_line (fold with_attach (fold with_line
+            (watch_of self.old) plan.now.definitions) plan.now.tasks) lines.now).watched) }
     {
-        for task in tasks {
+        self.run_lines(plan.definitions.as_slice())?;
+        for task in plan.tasks.as_slice() {
             self.run_line(&task.attach)?;
         }
-        Ok(())
+        self.run_lines(lines)?;
+        self.watcher.push_amiss(out)
     }
 }
 
-// Runs the lines of an order, each with its number in the whole script, and returns the run.
-fn watched_along(alloc: Global, plan: &Plan, order: &[usize]) -> Result<Watch, NoMemory>
-    ensures { IfOk result (λ watch. watch_of watch ≡ watched_along plan.now order.now) }
-{
-    let mut watch = Watch {
-        stage: Stage::new(alloc),
-        watcher: Watcher::new(alloc),
-        alloc,
-    };
-    let lines = lines_along(alloc, plan, order)?;
-    watch.run_lines(plan.definitions.as_slice())?;
-    watch.run_attaches(plan.tasks.as_slice())?;
-    watch.run_lines(lines.as_slice())?;
-    Ok(watch)
-}
-
-/// Appends what the reads of an order saw and missed, of that what is amiss.
+/// Appends what is amiss in the reads of an order. Runs the lines that define and attach, then
+/// those of the order, each with its number in the whole script.
 ///
 /// Errors: `NoMemory`. Cost: that of a run of the order's lines.
 pub(crate) fn push_amiss(out: &mut Vec<u8>, plan: &Plan, order: &[usize]) -> Result<(), NoMemory>
     ensures { OnOk result (out.new.items ≡ out.old.items ++ amiss_along plan.now order.now) }
 {
-    let watch = watched_along(*out.allocator(), plan, order)?;
-    watch.watcher.push_amiss(out)
+    let alloc = *out.allocator();
+    let lines = lines_along(alloc, plan, order)?;
+    let mut watch = Watch {
+        stage: Stage::new(alloc),
+        watcher: Watcher::new(alloc),
+        alloc,
+    };
+    watch.push_amiss(out, plan, lines.as_slice())
 }

@@ -2,13 +2,13 @@
 
 ghost use Rattle.std.specs.Prelude.{◌≡◌, ◌++◌, false, IfOk, OnOk};
 ghost use Rattle.std.specs.List.{flat_map};
-ghost use Rattle.cics_orders.specs.Report.Open.{may_begin, is_ending, ends_task, may_be_open};
-ghost use Rattle.cics_orders.specs.Report.Open.{may_leave, open_words, label_text, open_text};
+ghost use Rattle.cics_orders.specs.Report.Open.{may_begin, ends_task, may_be_open, may_leave};
+ghost use Rattle.cics_orders.specs.Report.Open.{open_text};
 
 use crate::plans::{TaskPlan, read};
 use crate::turns::is_syncpoint;
-use cics_names::{Name8, NoMemory, Record, Verb};
-use cics_script::spelling::{push_bare, push_str};
+use cics_names::{NoMemory, Record, Verb};
+use cics_script::spelling::{Part, push_parts};
 use cics_script::{Line, LineFault};
 use std::alloc::Global;
 
@@ -31,19 +31,12 @@ fn may_begin(verb: &Verb) -> bool
     }
 }
 
-// Returns whether a verb is RETURN or ABEND.
-fn is_ending(verb: &Verb) -> bool
-    ensures { result ≡ is_ending verb.now }
-{
-    matches!(verb, Verb::Return | Verb::Abend { .. })
-}
-
-// Returns whether a line ends its task.
+// Returns whether a line ends its task: RETURN or ABEND.
 fn ends_task(says: &Result<Line, LineFault>) -> bool
     ensures { result ≡ ends_task says.now }
 {
     match says {
-        Ok(Line::Issue(_, command)) => is_ending(&command.verb),
+        Ok(Line::Issue(_, command)) => matches!(command.verb, Verb::Return | Verb::Abend { .. }),
         _ => false,
     }
 }
@@ -75,33 +68,20 @@ fn may_leave(alloc: Global, lines: &[(u64, Record)]) -> Result<bool, NoMemory>
     Ok(is_open)
 }
 
-// Appends that a task may leave its unit open.
-#[tactic(auto, unfolding(crate::specs::Report::Open::open_words))]
-fn push_open_words(out: &mut Vec<u8>) -> Result<(), NoMemory>
-    ensures { OnOk result (out.new.items ≡ out.old.items ++ open_words) }
-{
-    push_str(out, " MAY LEAVE ITS UNIT OPEN\n")
-}
-
-// Appends the line on a task of this label that may leave its unit open.
-fn push_label(out: &mut Vec<u8>, label: &Name8) -> Result<(), NoMemory>
-    ensures { OnOk result (out.new.items ≡ out.old.items ++ label_text label.now) }
-{
-    push_str(out, "TASK ")?;
-    push_bare(out, &label.bytes())?;
-    push_open_words(out)
-}
-
 // Appends the line on a task, if it may leave its unit open.
+#[tactic(auto, unfolding(crate::specs::Report::Open::open_words))]
 fn push_open_task(out: &mut Vec<u8>, task: &TaskPlan) -> Result<(), NoMemory>
     ensures { OnOk result (out.new.items ≡ out.old.items ++ open_text task.now) }
 {
-    let may = may_leave(*out.allocator(), task.lines.as_slice())?;
-    if may {
-        push_label(out, &task.label)
-    } else {
-        Ok(())
+    if !may_leave(*out.allocator(), task.lines.as_slice())? {
+        return Ok(());
     }
+    let parts = [
+        Part::Str("TASK "),
+        Part::Bare(&task.label.bytes()),
+        Part::Str(" MAY LEAVE ITS UNIT OPEN\n"),
+    ];
+    push_parts(out, &parts)
 }
 
 /// Appends a line for each task that may leave its unit open.

@@ -1,6 +1,6 @@
 //! The parts of endings.
 
-ghost use Rattle.std.specs.Prelude.{◌≡◌, ◌++◌, IfOk, OnOk, filter};
+ghost use Rattle.std.specs.Prelude.{◌≡◌, ◌++◌, IfOk, OnOk};
 ghost use Rattle.std.specs.List.{flat_map};
 ghost use Rattle.cics_orders.specs.Report.Parts.{mark_in, told_in, is_in, is_in_each, first_told};
 ghost use Rattle.cics_orders.specs.Report.Parts.{shared, own_text};
@@ -58,11 +58,15 @@ fn first_told(endings: &[Ending]) -> &[Record]
     }
 }
 
-// Returns those of some parts that each ending has.
-fn common(alloc: Global, endings: &[Ending], parts: &[Record]) -> Result<Items<Record>, NoMemory>
-    ensures { IfOk result (λ all. all ≡ filter (is_in_each endings.now) parts.now) }
+/// Returns the parts that each of two endings or more has.
+pub(crate) fn shared(alloc: Global, endings: &[Ending]) -> Result<Items<Record>, NoMemory>
+    ensures { IfOk result (λ all. all ≡ shared endings.now) }
 {
     let mut all = Items::new(alloc);
+    if endings.len() <= 1 {
+        return Ok(all);
+    }
+    let parts = first_told(endings);
     for i in 0..parts.len() {
         if is_in_each(endings, &parts[i]) {
             all.push(parts[i].copy()?)?;
@@ -71,45 +75,15 @@ fn common(alloc: Global, endings: &[Ending], parts: &[Record]) -> Result<Items<R
     Ok(all)
 }
 
-/// Returns the parts that each of two endings or more has.
-pub(crate) fn shared(alloc: Global, endings: &[Ending]) -> Result<Items<Record>, NoMemory>
-    ensures { IfOk result (λ all. all ≡ shared endings.now) }
-{
-    if endings.len() > 1 {
-        common(alloc, endings, first_told(endings))
-    } else {
-        Ok(Items::new(alloc))
-    }
-}
-
-// Appends a part, unless each ending has it.
-fn push_own_part(out: &mut Vec<u8>, all: &[Record], part: &Record) -> Result<(), NoMemory>
-    ensures { OnOk result (out.new.items ≡ out.old.items ++ own_text all.now part.now) }
-{
-    if is_in(all, part) {
-        return Ok(());
-    }
-    out.extend_from_slice(part.bytes())?;
-    Ok(())
-}
-
-/// Appends those of some parts that some ending lacks.
+/// Appends the parts that aren't in `all`, in their order.
 pub(crate) fn push_own(out: &mut Vec<u8>, all: &[Record], parts: &[Record]) -> Result<(), NoMemory>
     ensures { OnOk result (out.new.items
         ≡ out.old.items ++ flat_map (own_text all.now) parts.now) }
 {
     for part in parts {
-        push_own_part(out, all, part)?;
-    }
-    Ok(())
-}
-
-/// Appends parts.
-pub(crate) fn push_parts(out: &mut Vec<u8>, parts: &[Record]) -> Result<(), NoMemory>
-    ensures { OnOk result (out.new.items ≡ out.old.items ++ flat_map (λ part. part) parts.now) }
-{
-    for part in parts {
-        out.extend_from_slice(part.bytes())?;
+        if !is_in(all, part) {
+            out.extend_from_slice(part.bytes())?;
+        }
     }
     Ok(())
 }

@@ -4,21 +4,21 @@ ghost use Rattle.std.specs.Prelude.{◌≡◌, ◌++◌, OnOk};
 ghost use Rattle.std.specs.List.{flat_map};
 ghost use Rattle.cics_orders.specs.Report.Reporting.{fault_text, refused_text, word_of, word_text};
 ghost use Rattle.cics_orders.specs.Report.Reporting.{order_text, numbered_text, ending_text, endings_text};
-ghost use Rattle.cics_orders.specs.Report.Reporting.{every_text, report_text, amiss_if};
+ghost use Rattle.cics_orders.specs.Report.Reporting.{every_text, report_text};
 
 use crate::plans::{Plan, Planned, RefusedLine, ScriptFault, read};
 use crate::report::along::lines_along;
 use crate::report::counts::{push_heading, push_limit, push_totals};
 use crate::report::findings::push_amiss;
 use crate::report::open::push_open_tasks;
-use crate::report::parts::{push_own, push_parts, shared, told_in};
+use crate::report::parts::{push_own, shared, told_in};
 use crate::search::Report;
 use crate::space::Ending;
 use cics_dispatch::{Event, Subject};
 use cics_names::{NoMemory, Record};
 use cics_run::session::Orders;
 use cics_run::stage::{Fault, journal};
-use cics_script::spelling::{push_bare, push_number, push_str};
+use cics_script::spelling::{Part, push_bare, push_parts, push_str};
 use cics_script::{Line, LineFault};
 
 /// Appends the fault of a script, as a plain run prints it: that of the line with this number.
@@ -38,9 +38,14 @@ pub fn push_fault(out: &mut Vec<u8>, number: u64, fault: ScriptFault) -> Result<
 fn push_refused_line(out: &mut Vec<u8>, line: &RefusedLine) -> Result<(), NoMemory>
     ensures { OnOk result (out.new.items ≡ out.old.items ++ refused_text line.now) }
 {
-    push_str(out, "LINE ")?;
-    push_number(out, line.number)?;
-    push_str(out, " ")?;
+    push_parts(
+        out,
+        &[
+            Part::Str("LINE "),
+            Part::Number(line.number),
+            Part::Str(" "),
+        ],
+    )?;
     journal::push_event(
         out,
         &Event::Refused(Subject::Task(line.label), line.refusal),
@@ -72,18 +77,9 @@ fn push_word(out: &mut Vec<u8>, says: &Result<Line, LineFault>) -> Result<(), No
 fn push_next_word(out: &mut Vec<u8>, next: &(u64, Record)) -> Result<(), NoMemory>
     ensures { OnOk result (out.new.items ≡ out.old.items ++ word_text next.now) }
 {
-    let says = read(*out.allocator(), next.1.bytes())?;
     push_str(out, " ")?;
+    let says = read(*out.allocator(), next.1.bytes())?;
     push_word(out, &says)
-}
-
-fn push_words(out: &mut Vec<u8>, lines: &[(u64, Record)]) -> Result<(), NoMemory>
-    ensures { OnOk result (out.new.items ≡ out.old.items ++ flat_map word_text lines.now) }
-{
-    for next in lines {
-        push_next_word(out, next)?;
-    }
-    Ok(())
 }
 
 // Appends an order.
@@ -92,7 +88,9 @@ fn push_order(out: &mut Vec<u8>, plan: &Plan, order: &[usize]) -> Result<(), NoM
 {
     let lines = lines_along(*out.allocator(), plan, order)?;
     push_str(out, "ORDER")?;
-    push_words(out, lines.as_slice())?;
+    for next in lines.as_slice() {
+        push_next_word(out, next)?;
+    }
     push_str(out, "\n")
 }
 
@@ -106,8 +104,7 @@ fn push_numbered(
     ensures { OnOk result (out.new.items
         ≡ out.old.items ++ numbered_text report.now number ending.now) }
 {
-    push_str(out, "ENDING ")?;
-    push_number(out, number)?;
+    push_parts(out, &[Part::Str("ENDING "), Part::Number(number)])?;
     push_heading(out, report, ending)
 }
 
@@ -120,25 +117,16 @@ struct Telling<'a> {
     all: &'a [Record],
 }
 
-// Appends what the reads of an order saw and missed that is amiss, if that is wanted.
-fn push_reads(out: &mut Vec<u8>, telling: &Telling<'_>, order: &[usize]) -> Result<(), NoMemory>
-    ensures { OnOk result (out.new.items ≡ out.old.items
-        ++ amiss_if telling.now.reads telling.now.plan.now order.now) }
-{
-    if !telling.reads {
-        return Ok(());
-    }
-    push_amiss(out, telling.plan, order)
-}
-
-// Appends the first order of an ending, what its reads saw and missed, and the parts that some
-// ending lacks.
+// Appends the first order of an ending, if wanted what is amiss in its reads, and those of its
+// parts that some ending lacks.
 fn push_ending(out: &mut Vec<u8>, telling: &Telling<'_>, ending: &Ending) -> Result<(), NoMemory>
     ensures { OnOk result (out.new.items ≡ out.old.items ++ ending_text telling.now.reads
         telling.now.plan.now telling.now.all.now ending.now) }
 {
     push_order(out, telling.plan, ending.order())?;
-    push_reads(out, telling, ending.order())?;
+    if telling.reads {
+        push_amiss(out, telling.plan, ending.order())?;
+    }
     push_own(out, telling.all, told_in(ending.parts()))
 }
 
@@ -165,7 +153,7 @@ fn push_every(out: &mut Vec<u8>, all: &[Record]) -> Result<(), NoMemory>
         return Ok(());
     }
     push_str(out, "EVERY ENDING\n")?;
-    push_parts(out, all)
+    push_own(out, &[], all)
 }
 
 /// Appends the report on the orders of a script's lines, which were followed within a limit

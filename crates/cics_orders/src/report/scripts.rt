@@ -2,23 +2,22 @@
 
 ghost use Rattle.std.specs.Prelude.{◌≡◌, ◌++◌, OnOk, IfOk, option_copied};
 ghost use Rattle.std.specs.List.{flat_map};
-ghost use Rattle.cics_orders.specs.Report.Reporting.{script_line, attach_line, ending_at, run_text};
-ghost use Rattle.cics_orders.specs.Report.Reporting.{title_text, script_at, Puts};
+ghost use Rattle.cics_orders.specs.Report.Reporting.{script_line, ending_at, run_text, title_text};
+ghost use Rattle.cics_orders.specs.Report.Reporting.{script_at, Puts};
 
-use crate::plans::{Plan, TaskPlan};
+use crate::plans::Plan;
 use crate::report::along::lines_along;
 use crate::report::counts::{push_count, push_heading};
 use crate::search::Report;
 use crate::space::Ending;
 use cics_names::{NoMemory, Record};
-use cics_script::spelling::{push_number, push_str};
+use cics_script::spelling::{Part, push_parts};
 
 // Appends a line as it stands in the script.
 fn push_line(out: &mut Vec<u8>, line: &(u64, Record)) -> Result<(), NoMemory>
     ensures { OnOk result (out.new.items ≡ out.old.items ++ script_line line.now) }
 {
-    out.extend_from_slice(line.1.bytes())?;
-    push_str(out, "\n")
+    push_parts(out, &[Part::Bytes(line.1.bytes()), Part::Str("\n")])
 }
 
 fn push_lines(out: &mut Vec<u8>, lines: &[(u64, Record)]) -> Result<(), NoMemory>
@@ -30,23 +29,15 @@ fn push_lines(out: &mut Vec<u8>, lines: &[(u64, Record)]) -> Result<(), NoMemory
     Ok(())
 }
 
-// Appends the lines that attach tasks.
-fn push_attaches(out: &mut Vec<u8>, tasks: &[TaskPlan]) -> Result<(), NoMemory>
-    ensures { OnOk result (out.new.items ≡ out.old.items ++ flat_map attach_line tasks.now) }
-{
-    for task in tasks {
-        push_line(out, &task.attach)?;
-    }
-    Ok(())
-}
-
 // Appends the lines that define and attach, and behind them those of an order.
 fn push_run(out: &mut Vec<u8>, plan: &Plan, order: &[usize]) -> Result<(), NoMemory>
     ensures { OnOk result (out.new.items ≡ out.old.items ++ run_text plan.now order.now) }
 {
     let lines = lines_along(*out.allocator(), plan, order)?;
     push_lines(out, plan.definitions.as_slice())?;
-    push_attaches(out, plan.tasks.as_slice())?;
+    for task in plan.tasks.as_slice() {
+        push_line(out, &task.attach)?;
+    }
     push_lines(out, lines.as_slice())
 }
 
@@ -70,10 +61,8 @@ fn push_title(
     ensures { OnOk result (out.new.items
         ≡ out.old.items ++ title_text report.now number ending.now) }
 {
-    push_str(out, "* ENDING ")?;
-    push_number(out, number)?;
-    push_str(out, " OF ")?;
-    push_count(out, report.is_whole, report.endings.len() as u128)?;
+    push_parts(out, &[Part::Str("* ENDING "), Part::Number(number)])?;
+    push_count(out, " OF ", report.is_whole, report.endings.len() as u128)?;
     push_heading(out, report, ending)
 }
 

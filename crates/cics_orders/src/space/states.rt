@@ -68,17 +68,6 @@ impl Hash for Stamp {
     }
 }
 
-impl Stamp {
-    // Returns a copy.
-    fn copy(&self, alloc: Global) -> Result<Stamp, NoMemory>
-        ensures { IfOk result (λ s. s ≡ self.now) }
-    {
-        let mut bytes = Vec::new(alloc);
-        bytes.extend_from_slice(self.bytes.as_slice())?;
-        Ok(Stamp { bytes })
-    }
-}
-
 /// What is noted of a state that orders lead to.
 #[derive(Drop)]
 pub struct Reached {
@@ -94,8 +83,10 @@ impl Reached {
     pub fn copy(&self, alloc: Global) -> Result<Reached, NoMemory>
         ensures { IfOk result (λ r. r ≡ self.now) }
     {
+        let mut bytes = Vec::new(alloc);
+        bytes.extend_from_slice(self.stamp.bytes.as_slice())?;
         Ok(Reached {
-            stamp: self.stamp.copy(alloc)?,
+            stamp: Stamp { bytes },
             lanes: copied(alloc, self.lanes.as_slice())?,
             has_ended: self.has_ended,
         })

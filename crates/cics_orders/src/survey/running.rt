@@ -47,11 +47,13 @@ fn status_of(report: &Report, is_strict: bool, is_there: bool) -> Surveyed
 fn push_survey(out: &mut Vec<u8>, survey: &Survey, wanted: Orders) -> Result<Surveyed, NoMemory>
     ensures { IfOk result (Writes wanted survey.now out.old.items out.new.items) }
 {
-    let Some(number) = wanted.ending else {
-        push_report(out, &survey.planned, wanted, &survey.report)?;
-        return Ok(status_of(&survey.report, wanted.strict, true));
+    let is_there = match wanted.ending {
+        Some(number) => push_script(out, &survey.planned.plan, &survey.report, number)?,
+        None => {
+            push_report(out, &survey.planned, wanted, &survey.report)?;
+            true
+        }
     };
-    let is_there = push_script(out, &survey.planned.plan, &survey.report, number)?;
     Ok(status_of(&survey.report, wanted.strict, is_there))
 }
 

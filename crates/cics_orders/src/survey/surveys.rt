@@ -1,11 +1,10 @@
 //! The orders of a script.
 
-ghost use Rattle.std.specs.Prelude.{◌≡◌, true, IfOk};
-ghost use Rattle.cics_orders.specs.Plans.Proper.{is_proper};
+ghost use Rattle.std.specs.Prelude.{IfOk};
 ghost use Rattle.cics_orders.specs.Plans.Taking.{initial_taken, taken_apart, planned};
-ghost use Rattle.cics_orders.specs.Survey.Surveys.{IsReportOf, IsSurvey};
+ghost use Rattle.cics_orders.specs.Survey.Surveys.{IsSurvey};
 
-use crate::plans::{Plan, Planned, ScriptFault, plan_of};
+use crate::plans::{Planned, ScriptFault, plan_of};
 use crate::search::{Progress, Report, ToldPlan, explore_script};
 use cics_names::{NoMemory, Record};
 use cics_run::session::Orders;
@@ -16,23 +15,6 @@ use std::alloc::Global;
 pub struct Survey {
     pub planned: Planned,
     pub report: Report,
-}
-
-// Follows the orders of a plan.
-fn follow<P: Progress>(
-    alloc: Global,
-    plan: Plan,
-    wanted: Orders,
-    progress: &mut P,
-) -> Result<Report, NoMemory>
-    requires { is_proper plan ≡ true }
-    ensures { IfOk result (IsReportOf plan wanted) }
-{
-    let told = ToldPlan {
-        plan,
-        told: wanted.told,
-    };
-    explore_script(alloc, told, wanted.limit, progress)
 }
 
 /// Takes a script apart, and follows the orders of its lines within the limit `wanted.limit`, as
@@ -53,11 +35,15 @@ pub fn survey_script<P: Progress>(
         Ok(planned) => planned,
         Err(fault) => return Ok(Err(fault)),
     };
-    // `follow` takes a plan of its own.
+    // `explore_script` takes a plan of its own.
     let own = match plan_of(alloc, lines)? {
         Ok(own) => own,
         Err(fault) => return Ok(Err(fault)),
     };
-    let report = follow(alloc, own.plan, wanted, progress)?;
+    let told = ToldPlan {
+        plan: own.plan,
+        told: wanted.told,
+    };
+    let report = explore_script(alloc, told, wanted.limit, progress)?;
     Ok(Ok(Survey { planned, report }))
 }

@@ -1,7 +1,8 @@
-use Rattle.std.proofs.Common.{◌∙◌, sym, arith}
+use Rattle.std.proofs.Common.{◌∙◌, ap, sym, arith}
 use Rattle.std.proofs.lemmas.Result.{on_ok_weaker}
 use Rattle.cics_orders.specs.Plans.Taking.{is_task, with_line}
 use Rattle.cics_orders.proofs.OfPlans.Changed.{within, changed, unchanged}
+use Rattle.cics_orders.specs.declared.plans.plans.TaskPlan.{TaskPlan}
 use Rattle.cics_orders.proofs.plans.planning.add_line.Goals as goal
 
 -- the index that was found is in range
@@ -12,10 +13,11 @@ index_mut-requires c =
 -- the task there has the line
 pub returns-in-Some : goal.returns-in-Some
 returns-in-Some c =
-    on_ok_weaker c.add.result
-    (changed (λ x. is_task x c.args.label.now) c.args.tasks.now.items _ c.as_slice.ensures.value (λ x. with_line x c.args.next) c.in-Some.at
-    c.index_mut.result.now c.add.new.self (sym c.index_of.ensures ∙ c.in-Some.is) c.index_mut.ensures.value)
-    c.add.ensures
+    let task : TaskPlan = c.index_mut.result.now in
+    on_ok_weaker c.push.result
+    (λ lines.
+    changed (λ x. is_task x c.args.label.now) c.args.tasks.now.items _ c.as_slice.ensures.value (λ x. with_line x c.args.next) c.in-Some.at
+    task _ (sym c.index_of.ensures ∙ c.in-Some.is) c.index_mut.ensures.value (ap (λ ls. record task { lines = ls }) lines)) c.push.ensures.ok
 
 -- no task has the label
 pub returns-in-None : goal.returns-in-None

@@ -1,6 +1,0 @@
-use Rattle.cics_orders.specs.Report.Reporting.{script_line}
-use Rattle.cics_script.proofs.OfSpelling.Each.{each-step}
-use Rattle.cics_orders.proofs.report.scripts.push_lines.Goals as goal
-
-pub loop-line-preserved : goal.loop-line-preserved
-loop-line-preserved c = each-step script_line c.args.lines.now c.loop-line.line-index c.line-item.result c.args.out.now.items _ _ c.loop-line-test.true c.line-item.is c.loop-line.invariant c.in_ok-push_line.ensures

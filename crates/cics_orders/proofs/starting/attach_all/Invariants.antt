@@ -1,8 +1,0 @@
-use Rattle.std.proofs.Common.{◌≡◌, drop}
-use Rattle.std.specs.List.{fold}
-use Rattle.cics_orders.specs.Giving.{with_task}
-use Rattle.cics_orders.proofs.starting.attach_all.Given as goal
-
--- the tasks that are left are attached after those so far
-abbrev pub invariant-loop-task : goal.invariant-loop-task
-invariant-loop-task l = fold with_task l.region.machine (drop l.task-index l.tasks) ≡ fold with_task l.fn.region.machine l.tasks

@@ -1,7 +1,0 @@
-use Rattle.std.proofs.Common.{◌≡◌, drop}
-use Rattle.cics_orders.specs.Giving.{defined_more}
-use Rattle.cics_orders.proofs.starting.define_all.Given as goal
-
--- the lines that are left define the rest
-abbrev pub invariant-loop-bytes : goal.invariant-loop-bytes
-invariant-loop-bytes l = defined_more l.opening (drop l.bytes-index l.lines) ≡ defined_more l.fn.opening l.lines
