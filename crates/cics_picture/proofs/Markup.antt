@@ -1,9 +1,8 @@
 -- What a picture puts together is the text of a document.
-use Rattle.std.proofs.Common.{◌≡◌, ℕ, List, [], ◌∷◌, ◌++◌, refl, ap, sym, ◌∙◌, append_assoc}
+use Rattle.std.proofs.Common.{◌≡◌, ℕ, List, [], ◌++◌, refl, ap, sym, ◌∙◌}
 use Rattle.std.proofs.lemmas.List.{append-nil}
 use Rattle.cics_picture.specs.declared.xml.names.Tag.{Tag}
-use Rattle.cics_picture.specs.Xml.Characters.{character_text, shown}
-use Rattle.cics_picture.specs.Xml.Documents.{Attribute, Document, Empty, element, joined, said, document_text, start_text, end_text}
+use Rattle.cics_picture.specs.Xml.Documents.{Attribute, Document, Empty, element, joined, document_text, start_text, end_text}
 use Rattle.cics_picture.proofs.OfXml.Joined.{text_joined}
 
 -- the text of a document
@@ -18,13 +17,6 @@ itself d = (d, refl)
 
 pub behind : (a b : List ℕ) → IsMarkup a → IsMarkup b → IsMarkup (a ++ b)
 behind a b p q = (joined p.0 q.0, (λ i. p.1 i ++ q.1 i) ∙ sym (text_joined p.0 q.0))
-
--- the text of bytes one behind another
-pub said-both : (a b : List ℕ) → document_text (said a) ++ document_text (said b) ≡ document_text (said (a ++ b))
-said-both [] b = refl
-said-both (c ∷ a) b =
-    append_assoc (character_text (shown c)) (document_text (said a)) (document_text (said b))
-    ∙ ap (λ t. character_text (shown c) ++ t) (said-both a b)
 
 pub within : (tag : Tag) (attributes : List Attribute) (inside : List ℕ) → IsMarkup inside → IsMarkup (start_text tag attributes ++ (inside ++ end_text tag))
 within tag attributes inside p = (

@@ -15,10 +15,6 @@ use lib.Chars.{codes}
 abbrev pub class : List ℕ → Attribute
 class name = attribute key.Class (map shown name)
 
--- the start of a text at a place
-abbrev pub words_start : List ℕ → ℕ → ℕ → List ℕ
-words_start name x y = start_text tag.Text (class name ∷ number_of key.X x ∷ number_of key.Y y ∷ [])
-
 -- words at a place
 unfoldable pub words : List ℕ → ℕ → ℕ → List ℕ → List ℕ
 words name x y bytes = document_text (element tag.Text (class name ∷ number_of key.X x ∷ number_of key.Y y ∷ []) (said bytes))

@@ -1,5 +1,6 @@
 pub mod Kinds
 pub mod Texts
+pub mod Pieces
 pub mod Definitions
 pub mod Lines
 pub mod Sheets

@@ -10,6 +10,8 @@ use Rattle.cics_picture.specs.Lanes.{lane_x, row_y}
 use Rattle.cics_picture.specs.Elements.{words, cut, mark, shape, bar_shape, ring_shape, stays_shape, shows_shape, stroke, field, spoken, picture_start, moved_start}
 use Rattle.cics_picture.specs.Bars.{bar_text}
 use Rattle.cics_picture.specs.Drawings.{Drawn, finished}
+use Rattle.cics_picture.specs.declared.sheet.Meaning.{Meaning}
+use Rattle.cics_picture.specs.declared.sheet.Meaning.TheVariants as meaning
 use Rattle.cics_picture.specs.declared.style.TheConstants.{STYLE}
 use lib.Chars.{codes}
 
@@ -70,6 +72,11 @@ region_legend = legend_item 974 kind.Clock (codes "clock") ++ legend_item 1054 k
 -- what a bar, a ring or a diamond means, of a class and a path
 unfoldable pub sign_item : ℕ → List ℕ → List ℕ → List ℕ → List ℕ
 sign_item x name path text = shape name path x 74 ++ words (codes "d s") (x + 16) 78 text
+
+-- what a mark or a sign means, as text
+abbrev pub meaning_text : Meaning → List ℕ
+meaning_text (meaning.Mark x kind text) = legend_item x kind text.now
+meaning_text (meaning.Sign x name path text) = sign_item x name.now path.now text.now
 
 -- what bars, rings and diamonds mean
 unfoldable pub units_legend : List ℕ

@@ -1,4 +1,5 @@
 pub mod Names
 pub mod Characters
 pub mod Documents
+pub mod Attributes
 pub mod Reading

@@ -7,7 +7,7 @@ ghost use Rattle.cics_picture.specs.Lanes.{most_lanes, row_y};
 ghost use Rattle.cics_picture.specs.Bars.{new_lanes, nobodies, lane_at, lanes_behind, has_same};
 ghost use Rattle.cics_picture.specs.Bars.{noted, gone, lane_behind, ended, is_caught, look_of};
 ghost use Rattle.cics_picture.specs.Bars.{new_blocker, look_class, bar_text};
-ghost use Rattle.cics_picture.specs.Drawings.{drawn_of, moved_if, ring_if, stays_if, link_if, shows_if};
+ghost use Rattle.cics_picture.specs.Drawings.{drawn_of, moved_if, ring_if, stays_if, shows_if};
 ghost use Rattle.cics_picture.specs.Drawings.{turned, turned_from};
 ghost use Rattle.cics_picture.specs.Drawings.{any_caught};
 ghost use Rattle.cics_picture.specs.Drawings.{word_if, with_end, finished};
@@ -17,6 +17,7 @@ use crate::elements::{push_arrow, push_field, push_link, push_shape, push_words}
 use crate::events::Kind;
 use crate::lanes::{MOST_LANES, lane_x, row_y};
 use cics_names::{Items, NoMemory};
+use cics_script::spelling::Part;
 
 /// How the task of a lane stands after a line of the script.
 #[derive(Clone, Copy, PartialEq, Eq)]
@@ -36,7 +37,7 @@ pub struct Standing {
 
 /// A lane so far, and how its task stands. `last` is the height of the row of its last event,
 /// `top` the top of its open unit's bar. `asked` is the row at which the task last waited.
-#[derive(Clone, Copy, PartialEq, Eq)]
+#[derive(Clone, Copy)]
 pub struct Lane {
     pub last: u64,
     pub asked: u64,
@@ -45,7 +46,7 @@ pub struct Lane {
 }
 
 /// The bar of a unit.
-#[derive(Clone, Copy, PartialEq, Eq)]
+#[derive(Clone, Copy)]
 pub struct Bar {
     pub unit: u64,
     pub x: u64,
@@ -242,18 +243,8 @@ fn push_stays_if(out: &mut Vec<u8>, stays: bool, lane: usize, y: u64) -> Result<
     push_shape(out, "st".as_bytes(), diamond.as_bytes(), (lane_x(lane), y))
 }
 
-// Puts a line from a read to the lane of the task whose change it shows, if it has one.
-fn push_link_if(out: &mut Vec<u8>, lane: usize, changer: usize, y: u64) -> Result<(), NoMemory>
-    requires { lane < most_lanes }
-    ensures { OnOk result (out.new.items ≡ out.old.items ++ link_if lane changer y) }
-{
-    if changer >= MOST_LANES {
-        return Ok(());
-    }
-    push_link(out, lane, changer, y)
-}
-
-// Puts a dashed ring round the mark of a read that shows what isn't committed, with that line.
+// Puts a line to the lane of the task whose change a read shows, if that task has one. Then it puts
+// a dashed ring round the mark of the read.
 fn push_shows_if(
     out: &mut Vec<u8>,
     shows: Option<usize>,
@@ -266,7 +257,9 @@ fn push_shows_if(
     let Some(changer) = shows else {
         return Ok(());
     };
-    push_link_if(out, lane, changer, y)?;
+    if changer < MOST_LANES {
+        push_link(out, lane, changer, y)?;
+    }
     let ring = "M-9 0a9 9 0 1 0 18 0a9 9 0 1 0 -18 0z";
     push_shape(out, "un".as_bytes(), ring.as_bytes(), (lane_x(lane), y))
 }
@@ -290,7 +283,7 @@ fn push_word_if(out: &mut Vec<u8>, caught: bool, y: u64) -> Result<(), NoMemory>
     if !caught {
         return Ok(());
     }
-    push_words(out, "ma e".as_bytes(), (1264, y), "deadlock".as_bytes())
+    push_words(out, "ma e".as_bytes(), (1264, y), &[Part::Str("deadlock")])
 }
 
 /// Returns lanes before the first event.
@@ -392,21 +385,14 @@ fn look_class(look: Look) -> &'static str
     }
 }
 
-// Puts the bar of a unit.
-fn push_bar(out: &mut Vec<u8>, looks: &[Look], bar: Bar) -> Result<(), NoMemory>
-    ensures { OnOk result (out.new.items ≡ out.old.items ++ bar_text looks.now bar) }
-{
-    let class = look_class(look_of(looks, bar.unit));
-    push_field(out, class.as_bytes(), (bar.x, bar.y), (14, bar.height))
-}
-
 /// Puts the bars of units. `looks` has that of each unit's bar, by the unit's number.
 pub fn push_bars(out: &mut Vec<u8>, looks: &[Look], bars: &[Bar]) -> Result<(), NoMemory>
     ensures { OnOk result (out.new.items
         ≡ out.old.items ++ flat_map (bar_text looks.now) bars.now) }
 {
     for bar in bars {
-        push_bar(out, looks, *bar)?;
+        let class = look_class(look_of(looks, bar.unit));
+        push_field(out, class.as_bytes(), (bar.x, bar.y), (14, bar.height))?;
     }
     Ok(())
 }

@@ -1,50 +1,42 @@
 //! The elements of a picture, each put at the end of a text.
 
 ghost use Rattle.std.specs.Prelude.{◌≡◌, ◌++◌, ◌<◌, ◌≤◌, OnOk};
+ghost use Rattle.std.specs.List.{flat_map};
+ghost use Rattle.cics_script.specs.Parts.{part_text};
 ghost use Rattle.cics_picture.specs.Lanes.{most_lanes};
-ghost use Rattle.cics_picture.specs.Elements.{words_start, words, number_words, shape, stroke};
-ghost use Rattle.cics_picture.specs.Elements.{field, spoken};
-ghost use Rattle.cics_picture.specs.Xml.Documents.{attribute_text};
-ghost use Rattle.cics_picture.specs.Elements.{namespace, picture_start, moved_start, mark};
+ghost use Rattle.cics_picture.specs.Elements.{words, shape, stroke, field, spoken};
+ghost use Rattle.cics_picture.specs.Elements.{picture_start, moved_start, mark};
 ghost use Rattle.cics_picture.specs.Elements.{tip, head};
 ghost use Rattle.cics_picture.specs.Elements.{arrow, link, cut};
 
 use crate::events::Kind;
 use crate::lanes::lane_x;
 use crate::style::NAMESPACE;
-use crate::xml::{
-    Key, Tag, push_attribute, push_end, push_inside, push_move, push_number, push_number_attribute,
-    push_start, push_text,
-};
+use crate::xml::{Attribute, Key, Tag, push_element, push_parted, push_start};
 use cics_names::NoMemory;
+use cics_script::spelling::Part;
 
-// Puts the start of a text at a place.
-fn push_words_start(out: &mut Vec<u8>, class: &[u8], place: (u64, u64)) -> Result<(), NoMemory>
-    ensures { OnOk result (out.new.items
-        ≡ out.old.items ++ words_start class.now place.0 place.1) }
-{
-    push_start(out, Tag::Text)?;
-    push_attribute(out, Key::Class, class)?;
-    push_number_attribute(out, Key::X, place.0)?;
-    push_number_attribute(out, Key::Y, place.1)?;
-    push_inside(out)
-}
-
-/// Puts words at a place.
-#[tactic(auto, using(crate::proofs::Chains::filled), unfolding(crate::specs::Elements::words))]
+/// Puts words of some parts at a place.
+#[tactic(auto, unfolding(crate::specs::Elements::words))]
 pub fn push_words(
     out: &mut Vec<u8>,
     class: &[u8],
     place: (u64, u64),
-    bytes: &[u8],
+    parts: &[Part<'_>],
 ) -> Result<(), NoMemory>
     ensures { OnOk result (out.new.items
-        ≡ out.old.items ++ words class.now place.0 place.1 bytes.now) }
+        ≡ out.old.items ++ words class.now place.0 place.1 (flat_map part_text parts.now)) }
 {
-    push_words_start(out, class, place)?;
-    push_text(out, bytes)?;
-    push_end(out, Tag::Text)?;
-    Ok(())
+    push_parted(
+        out,
+        Tag::Text,
+        &[
+            Attribute::Bytes(Key::Class, class),
+            Attribute::Number(Key::X, place.0),
+            Attribute::Number(Key::Y, place.1),
+        ],
+        parts,
+    )
 }
 
 /// Puts words at a place that are in two parts.
@@ -57,48 +49,39 @@ pub fn push_cut_words(
     ensures { OnOk result (out.new.items ≡ out.old.items
         ++ words class.now place.0 place.1 (parts.entry.0.now ++ parts.entry.1.now)) }
 {
-    push_words_start(out, class, place)?;
-    push_text(out, parts.0)?;
-    push_text(out, parts.1)?;
-    push_end(out, Tag::Text)
-}
-
-/// Puts a number at a place.
-#[tactic(auto, using(crate::proofs::Chains::filled), unfolding(crate::specs::Elements::number_words))]
-pub fn push_number_words(
-    out: &mut Vec<u8>,
-    class: &[u8],
-    place: (u64, u64),
-    number: u64,
-) -> Result<(), NoMemory>
-    ensures { OnOk result (out.new.items
-        ≡ out.old.items ++ number_words class.now place.0 place.1 number) }
-{
-    push_words_start(out, class, place)?;
-    push_number(out, number)?;
-    push_end(out, Tag::Text)?;
-    Ok(())
+    push_words(
+        out,
+        class,
+        place,
+        &[Part::Bytes(parts.0), Part::Bytes(parts.1)],
+    )
 }
 
 /// Puts a shape round a place.
-pub fn push_shape(
+#[tactic(auto, unfolding(crate::specs::Elements::shape))]
+pub fn push_shape<'a>(
     out: &mut Vec<u8>,
-    class: &[u8],
-    path: &[u8],
+    class: &'a [u8],
+    path: &'a [u8],
     place: (u64, u64),
 ) -> Result<(), NoMemory>
     ensures { OnOk result (out.new.items
         ≡ out.old.items ++ shape class.now path.now place.0 place.1) }
 {
-    push_start(out, Tag::Path)?;
-    push_attribute(out, Key::Class, class)?;
-    push_attribute(out, Key::D, path)?;
-    push_move(out, place.0, place.1)?;
-    push_inside(out)?;
-    push_end(out, Tag::Path)
+    push_element(
+        out,
+        Tag::Path,
+        &[
+            Attribute::Bytes(Key::Class, class),
+            Attribute::Bytes(Key::D, path),
+            Attribute::Move(place.0, place.1),
+        ],
+        &[],
+    )
 }
 
 /// Puts a line from a place to another.
+#[tactic(auto, unfolding(crate::specs::Elements::stroke))]
 pub fn push_stroke(
     out: &mut Vec<u8>,
     class: &[u8],
@@ -108,17 +91,22 @@ pub fn push_stroke(
     ensures { OnOk result (out.new.items
         ≡ out.old.items ++ stroke class.now from.0 from.1 to.0 to.1) }
 {
-    push_start(out, Tag::Line)?;
-    push_attribute(out, Key::Class, class)?;
-    push_number_attribute(out, Key::X1, from.0)?;
-    push_number_attribute(out, Key::Y1, from.1)?;
-    push_number_attribute(out, Key::X2, to.0)?;
-    push_number_attribute(out, Key::Y2, to.1)?;
-    push_inside(out)?;
-    push_end(out, Tag::Line)
+    push_element(
+        out,
+        Tag::Line,
+        &[
+            Attribute::Bytes(Key::Class, class),
+            Attribute::Number(Key::X1, from.0),
+            Attribute::Number(Key::Y1, from.1),
+            Attribute::Number(Key::X2, to.0),
+            Attribute::Number(Key::Y2, to.1),
+        ],
+        &[],
+    )
 }
 
 /// Puts a rectangle at a place.
+#[tactic(auto, unfolding(crate::specs::Elements::field))]
 pub fn push_field(
     out: &mut Vec<u8>,
     class: &[u8],
@@ -128,50 +116,50 @@ pub fn push_field(
     ensures { OnOk result (out.new.items
         ≡ out.old.items ++ field class.now place.0 place.1 size.0 size.1) }
 {
-    push_start(out, Tag::Rect)?;
-    push_attribute(out, Key::Class, class)?;
-    push_number_attribute(out, Key::X, place.0)?;
-    push_number_attribute(out, Key::Y, place.1)?;
-    push_number_attribute(out, Key::Width, size.0)?;
-    push_number_attribute(out, Key::Height, size.1)?;
-    push_inside(out)?;
-    push_end(out, Tag::Rect)
+    push_element(
+        out,
+        Tag::Rect,
+        &[
+            Attribute::Bytes(Key::Class, class),
+            Attribute::Number(Key::X, place.0),
+            Attribute::Number(Key::Y, place.1),
+            Attribute::Number(Key::Width, size.0),
+            Attribute::Number(Key::Height, size.1),
+        ],
+        &[],
+    )
 }
 
 /// Puts an element that has a text alone.
+#[tactic(auto, unfolding(crate::specs::Elements::spoken))]
 pub fn push_spoken(out: &mut Vec<u8>, tag: Tag, bytes: &[u8]) -> Result<(), NoMemory>
     ensures { OnOk result (out.new.items ≡ out.old.items ++ spoken tag bytes.now) }
 {
-    push_start(out, tag)?;
-    push_inside(out)?;
-    push_text(out, bytes)?;
-    push_end(out, tag)
-}
-
-fn push_namespace(out: &mut Vec<u8>) -> Result<(), NoMemory>
-    ensures { OnOk result (out.new.items ≡ out.old.items ++ attribute_text namespace) }
-{
-    push_attribute(out, Key::Xmlns, NAMESPACE.as_bytes())
+    push_element(out, tag, &[], bytes)
 }
 
 /// Puts the start of a picture of a size.
+#[tactic(auto, unfolding(crate::specs::Elements::picture_start, crate::specs::Elements::namespace))]
 pub fn push_picture_start(out: &mut Vec<u8>, width: u64, height: u64) -> Result<(), NoMemory>
     ensures { OnOk result (out.new.items ≡ out.old.items ++ picture_start width height) }
 {
-    push_start(out, Tag::Svg)?;
-    push_namespace(out)?;
-    push_number_attribute(out, Key::Width, width)?;
-    push_number_attribute(out, Key::Height, height)?;
-    push_inside(out)
+    push_start(
+        out,
+        Tag::Svg,
+        &[
+            Attribute::Bytes(Key::Xmlns, NAMESPACE.as_bytes()),
+            Attribute::Number(Key::Width, width),
+            Attribute::Number(Key::Height, height),
+        ],
+    )
 }
 
 /// Puts the start of elements that are moved to the right.
+#[tactic(auto, unfolding(crate::specs::Elements::moved_start))]
 pub fn push_moved_start(out: &mut Vec<u8>, x: u64) -> Result<(), NoMemory>
     ensures { OnOk result (out.new.items ≡ out.old.items ++ moved_start x) }
 {
-    push_start(out, Tag::G)?;
-    push_move(out, x, 0)?;
-    push_inside(out)
+    push_start(out, Tag::G, &[Attribute::Move(x, 0)])
 }
 
 /// Puts the mark of an event.

@@ -7,7 +7,7 @@
 //! - `viewer`, `following`, `acting`, `cells`, `owners`, `tracked`, `differences`: the view of a
 //!   region, and its notes.
 //! - `recording`, `kinds`, `definitions`: the steps of a line, and what a line defines.
-//! - `texts`, `lines`: how notes, steps and lines are written.
+//! - `pieces`, `texts`, `lines`: how notes, steps and lines are written.
 //! - `pages`, `written`: a script that is run, and its page that is written.
 //! - `head`, `body`, `player`: what is the same in each page (`tools/page/join`).
 
@@ -23,6 +23,7 @@ mod lines;
 pub mod notes;
 mod owners;
 mod pages;
+mod pieces;
 mod player;
 mod recording;
 mod texts;

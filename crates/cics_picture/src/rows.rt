@@ -1,11 +1,11 @@
 //! The rows of a picture and the marks in its lanes.
 
-ghost use Rattle.std.specs.Prelude.{◌≡◌, ◌++◌, ◌<◌, ◌≤◌, ◌+◌, ◌*◌, [], length, IfSome, OnOk};
+ghost use Rattle.std.specs.Prelude.{◌≡◌, ◌++◌, ◌<◌, ◌≤◌, ◌+◌, ◌*◌, [], length, OnOk};
 ghost use Rattle.std.specs.Prelude.{IfErr, codes};
 ghost use Rattle.std.specs.List.{fold};
 ghost use Rattle.cics_picture.specs.Lanes.{most_lanes, most_rows, lane_of, lane_x};
-ghost use Rattle.cics_picture.specs.Drawings.{drawn_of, nothing_drawn, arrow_to, beside};
-ghost use Rattle.cics_picture.specs.Drawings.{label_text, side_mark, lane_marks, waited, line_text};
+ghost use Rattle.cics_picture.specs.Drawings.{drawn_of, nothing_drawn, beside};
+ghost use Rattle.cics_picture.specs.Drawings.{label_text, lane_marks, waited, line_text};
 ghost use Rattle.cics_picture.specs.Elements.{stroke, words};
 ghost use Rattle.cics_picture.specs.Events.{class_of};
 ghost use Rattle.cics_picture.specs.Drawings.{row_marks, row_number, told_text, with_row};
@@ -14,31 +14,12 @@ ghost use Rattle.cics_picture.specs.declared.drawing.Undrawn.TheVariants.{TooMan
 
 use crate::bars::{Lane, Standing, lane_at, new_lanes, note_row};
 use crate::drawing::{Drawing, LIMIT, Undrawn};
-use crate::elements::{
-    cut, push_arrow, push_cut_words, push_mark, push_number_words, push_stroke, push_words,
-};
+use crate::elements::{cut, push_arrow, push_cut_words, push_mark, push_stroke, push_words};
 use crate::events::{Kind, Told};
 use crate::lanes::{give_lane, lane_of, lane_x, row_y};
 use cics_names::{Items, Name8, NoMemory, Record};
-use cics_script::spelling::push_bare;
+use cics_script::spelling::Part;
 use std::alloc::Global;
-
-// Puts an arrow to the blocker, if it has a lane.
-fn push_arrow_to(
-    out: &mut Vec<u8>,
-    lane: usize,
-    holder: Option<usize>,
-    y: u64,
-) -> Result<(), NoMemory>
-    requires lane { lane < most_lanes }
-    requires holder { IfSome holder (λ h. h < most_lanes) }
-    ensures { OnOk result (out.new.items ≡ out.old.items ++ arrow_to lane holder y) }
-{
-    match holder {
-        Some(holder) => push_arrow(out, lane, holder, y),
-        None => Ok(()),
-    }
-}
 
 // Puts the label of a task above its lane.
 fn push_label(out: &mut Vec<u8>, lane: usize, task: Option<Name8>) -> Result<(), NoMemory>
@@ -46,14 +27,15 @@ fn push_label(out: &mut Vec<u8>, lane: usize, task: Option<Name8>) -> Result<(),
     ensures { OnOk result (out.new.items
         ≡ out.old.items ++ words (codes "b m") (lane_x lane) 98 (label_text task)) }
 {
-    let mut text = Vec::new(*out.allocator());
-    if let Some(label) = task {
-        push_bare(&mut text, &label.bytes())?;
+    let place = (lane_x(lane), 98);
+    match task {
+        Some(label) => push_words(out, "b m".as_bytes(), place, &[Part::Bare(&label.bytes())]),
+        None => push_words(out, "b m".as_bytes(), place, &[]),
     }
-    push_words(out, "b m".as_bytes(), (lane_x(lane), 98), &text)
 }
 
-// Puts what an event has beside its mark: an attached task its heading, a wait its arrow.
+// Puts what an event has beside its mark: an attached task its heading, a wait its arrow to the
+// blocker, if that has a lane.
 fn push_beside(
     out: &mut Vec<u8>,
     tasks: &[Name8],
@@ -67,7 +49,10 @@ fn push_beside(
 {
     match told.kind {
         Kind::Attached => push_label(out, place.0, told.task),
-        Kind::Waiting => push_arrow_to(out, place.0, lane_of(tasks, told.blocker), place.1),
+        Kind::Waiting => match lane_of(tasks, told.blocker) {
+            Some(holder) => push_arrow(out, place.0, holder, place.1),
+            None => Ok(()),
+        },
         _ => Ok(()),
     }
 }
@@ -86,18 +71,8 @@ fn push_across(out: &mut Vec<u8>, lanes: usize, y: u64, kind: Kind) -> Result<()
     )
 }
 
-// Puts the mark of an event of no task to the left of the lanes.
-fn push_side_mark(out: &mut Vec<u8>, y: u64, told: &Told) -> Result<(), NoMemory>
-    ensures { OnOk result (out.new.items ≡ out.old.items
-        ++ side_mark y told.now.kind told.now.task) }
-{
-    match told.task {
-        Some(_) => Ok(()),
-        None => push_mark(out, told.kind, 66, y),
-    }
-}
-
-// Puts the marks of an event in the lane of its task, if it has one.
+// Puts the marks of an event in the lane of its task, if it has one. An event of no task has its
+// mark to the left of the lanes.
 fn push_lane_marks(out: &mut Vec<u8>, tasks: &[Name8], y: u64, told: &Told) -> Result<(), NoMemory>
     requires { length tasks.now ≤ most_lanes }
     ensures { OnOk result (out.new.items ≡ out.old.items
@@ -108,7 +83,8 @@ fn push_lane_marks(out: &mut Vec<u8>, tasks: &[Name8], y: u64, told: &Told) -> R
             push_beside(out, tasks, (lane, y), told)?;
             push_mark(out, told.kind, lane_x(lane), y)
         }
-        None => push_side_mark(out, y, told),
+        None if told.task.is_some() => Ok(()),
+        None => push_mark(out, told.kind, 66, y),
     }
 }
 
@@ -131,7 +107,7 @@ fn push_row_number(out: &mut Vec<u8>, y: u64, number: u64) -> Result<(), NoMemor
     if number == 0 {
         return Ok(());
     }
-    push_number_words(out, "d e".as_bytes(), (52, y), number)
+    push_words(out, "d e".as_bytes(), (52, y), &[Part::Number(number)])
 }
 
 // Returns the line with which the task of a lane last waited. If it never waited, that is the line
@@ -172,11 +148,12 @@ fn push_told_text(out: &mut Vec<u8>, y: u64, told: &Told) -> Result<(), NoMemory
 {
     let note = told.note.bytes();
     let (front, dots) = cut(told.text.bytes(), 70 - note.len().min(36));
-    let mut text = Vec::new(*out.allocator());
-    text.extend_from_slice(front)?;
-    text.extend_from_slice(dots)?;
-    text.extend_from_slice(note)?;
-    push_words(out, told.kind.class().as_bytes(), (744, y), &text)
+    push_words(
+        out,
+        told.kind.class().as_bytes(),
+        (744, y),
+        &[Part::Bytes(front), Part::Bytes(dots), Part::Bytes(note)],
+    )
 }
 
 impl Drawing {

@@ -9,14 +9,14 @@ ghost use Rattle.cics_picture.specs.Lanes.{most_lanes};
 ghost use Rattle.cics_picture.specs.Drawings.{drawn_of, Printed, Row, drawn, finished, turn_signs};
 ghost use Rattle.cics_picture.specs.Spans.{Lives, bar_from_to, acts_at, rows_behind, HasPart};
 ghost use Rattle.cics_picture.specs.Arrows.{TellsWait, DrawsArrow};
-ghost use Rattle.cics_picture.specs.Sheets.{style_text, bands, lane_lines, headings, ground};
+ghost use Rattle.cics_picture.specs.Sheets.{style_text, bands, lane_lines, ground};
 ghost use Rattle.cics_picture.specs.Sheets.{heading};
-ghost use Rattle.cics_picture.specs.Sheets.{legend_item, answers_legend, ways_legend, ends_legend};
-ghost use Rattle.cics_picture.specs.Sheets.{region_legend, sign_item, units_legend};
+ghost use Rattle.cics_picture.specs.Sheets.{meaning_text, answers_legend, ways_legend};
+ghost use Rattle.cics_picture.specs.Sheets.{ends_legend, region_legend, units_legend};
 ghost use Rattle.cics_picture.specs.Sheets.{width_of, height_of, moved_texts, whole_sheet, sheet};
 ghost use Rattle.cics_picture.specs.Bars.{is_bar_of, lane_at};
 ghost use Rattle.cics_picture.specs.declared.bars.Standing.{Standing};
-ghost use Rattle.std.specs.List.{list_any};
+ghost use Rattle.std.specs.List.{flat_map, list_any};
 
 use crate::bars::{Look, push_bars};
 use crate::drawing::Drawing;
@@ -29,6 +29,17 @@ use crate::lanes::lane_x;
 use crate::style::STYLE;
 use crate::xml::{Tag, push_end};
 use cics_names::NoMemory;
+use cics_script::spelling::Part;
+
+// What a mark or a sign of the legend means. The number is the distance from the left, as a `u16`:
+// some pixels can be added.
+#[derive(Clone, Copy)]
+enum Meaning<'a> {
+    // A kind of event, and its words.
+    Mark(u16, Kind, &'a str),
+    // A class, a path, and words.
+    Sign(u16, &'a str, &'a str, &'a str),
+}
 
 /// Every picture is well formed: it is read back as a document, whatever the lines and texts are.
 pub fn sheets_are_documents()
@@ -106,74 +117,57 @@ fn push_lane_lines(out: &mut Vec<u8>, height: u64, lanes: usize) -> Result<(), N
     Ok(())
 }
 
-// Puts the headings of the columns of texts.
-#[tactic(auto, unfolding(crate::specs::Sheets::headings))]
-fn push_headings(out: &mut Vec<u8>) -> Result<(), NoMemory>
-    ensures { OnOk result (out.new.items ≡ out.old.items ++ headings) }
+// Puts what a mark or a sign means.
+#[tactic(auto, unfolding(crate::specs::Sheets::legend_item, crate::specs::Sheets::sign_item))]
+fn push_meaning(out: &mut Vec<u8>, meaning: &Meaning<'_>) -> Result<(), NoMemory>
+    ensures { OnOk result (out.new.items ≡ out.old.items ++ meaning_text meaning.now) }
 {
-    push_words(out, "d s".as_bytes(), (78, 98), "script".as_bytes())?;
-    push_words(out, "d s".as_bytes(), (744, 98), "journal".as_bytes())
+    match meaning {
+        Meaning::Mark(x, kind, words) => {
+            let x = u64::from(*x);
+            push_mark(out, *kind, x, 52)?;
+            push_words(out, "d s".as_bytes(), (x + 14, 56), &[Part::Str(words)])
+        }
+        Meaning::Sign(x, class, path, words) => {
+            let x = u64::from(*x);
+            push_shape(out, class.as_bytes(), path.as_bytes(), (x, 74))?;
+            push_words(out, "d s".as_bytes(), (x + 16, 78), &[Part::Str(words)])
+        }
+    }
 }
 
-// Puts what a mark means.
-#[tactic(auto, unfolding(crate::specs::Sheets::legend_item))]
-fn push_legend_item(out: &mut Vec<u8>, x: u64, kind: Kind, text: &str) -> Result<(), NoMemory>
-    requires { x < 1100 }
-    ensures { OnOk result (out.new.items ≡ out.old.items ++ legend_item x kind text.now) }
-{
-    push_mark(out, kind, x, 52)?;
-    push_words(out, "d s".as_bytes(), (x + 14, 56), text.as_bytes())
-}
-
-// Puts what the marks of answers mean.
-#[tactic(auto, unfolding(crate::specs::Sheets::answers_legend))]
-fn push_answers_legend(out: &mut Vec<u8>) -> Result<(), NoMemory>
-    ensures { OnOk result (out.new.items ≡ out.old.items ++ answers_legend) }
-{
-    push_legend_item(out, 24, Kind::Attached, "attached")?;
-    push_legend_item(out, 114, Kind::Normal, "answered")?;
-    push_legend_item(out, 204, Kind::Condition, "another condition")?;
-    push_legend_item(out, 354, Kind::Refused, "refused")
-}
-
-// Puts what the marks of waits mean.
-#[tactic(auto, unfolding(crate::specs::Sheets::ways_legend))]
-fn push_ways_legend(out: &mut Vec<u8>) -> Result<(), NoMemory>
-    ensures { OnOk result (out.new.items ≡ out.old.items ++ ways_legend) }
-{
-    push_legend_item(out, 444, Kind::Waiting, "waits")?;
-    push_legend_item(out, 514, Kind::Woken, "goes on")
-}
-
-// Puts what the marks of ends mean.
-#[tactic(auto, unfolding(crate::specs::Sheets::ends_legend))]
-fn push_ends_legend(out: &mut Vec<u8>) -> Result<(), NoMemory>
-    ensures { OnOk result (out.new.items ≡ out.old.items ++ ends_legend) }
-{
-    push_legend_item(out, 604, Kind::Committed, "syncpoint")?;
-    push_legend_item(out, 704, Kind::BackedOut, "rollback")?;
-    push_legend_item(out, 804, Kind::Ended, "ended")?;
-    push_legend_item(out, 884, Kind::Abended, "abended")
-}
-
-// Puts what the lines across the lanes mean.
-#[tactic(auto, unfolding(crate::specs::Sheets::region_legend))]
-fn push_region_legend(out: &mut Vec<u8>) -> Result<(), NoMemory>
-    ensures { OnOk result (out.new.items ≡ out.old.items ++ region_legend) }
-{
-    push_legend_item(out, 974, Kind::Clock, "clock")?;
-    push_legend_item(out, 1054, Kind::Down, "shutdown or fault")
-}
-
-// Puts what a bar, a ring or a diamond means, of a class and a path.
-#[tactic(auto, unfolding(crate::specs::Sheets::sign_item))]
-fn push_sign_item(out: &mut Vec<u8>, x: u64, sign: (&str, &str), text: &str) -> Result<(), NoMemory>
-    requires { x < 1000 }
+fn push_meanings(out: &mut Vec<u8>, meanings: &[Meaning<'_>]) -> Result<(), NoMemory>
     ensures { OnOk result (out.new.items
-        ≡ out.old.items ++ sign_item x sign.entry.0.now sign.entry.1.now text.now) }
+        ≡ out.old.items ++ flat_map meaning_text meanings.now) }
 {
-    push_shape(out, sign.0.as_bytes(), sign.1.as_bytes(), (x, 74))?;
-    push_words(out, "d s".as_bytes(), (x + 16, 78), text.as_bytes())
+    for meaning in meanings {
+        push_meaning(out, meaning)?;
+    }
+    Ok(())
+}
+
+// Puts what the marks of events mean.
+fn push_marks_legend(out: &mut Vec<u8>) -> Result<(), NoMemory>
+    ensures { OnOk result (out.new.items ≡ out.old.items
+        ++ (answers_legend ++ (ways_legend ++ (ends_legend ++ region_legend)))) }
+{
+    push_meanings(
+        out,
+        &[
+            Meaning::Mark(24, Kind::Attached, "attached"),
+            Meaning::Mark(114, Kind::Normal, "answered"),
+            Meaning::Mark(204, Kind::Condition, "another condition"),
+            Meaning::Mark(354, Kind::Refused, "refused"),
+            Meaning::Mark(444, Kind::Waiting, "waits"),
+            Meaning::Mark(514, Kind::Woken, "goes on"),
+            Meaning::Mark(604, Kind::Committed, "syncpoint"),
+            Meaning::Mark(704, Kind::BackedOut, "rollback"),
+            Meaning::Mark(804, Kind::Ended, "ended"),
+            Meaning::Mark(884, Kind::Abended, "abended"),
+            Meaning::Mark(974, Kind::Clock, "clock"),
+            Meaning::Mark(1054, Kind::Down, "shutdown or fault"),
+        ],
+    )
 }
 
 // Puts what bars, rings and diamonds mean.
@@ -183,14 +177,18 @@ fn push_units_legend(out: &mut Vec<u8>) -> Result<(), NoMemory>
     let bar = "M-7 -7h14v14h-14z";
     let ring = "M-10 0a10 10 0 1 0 20 0a10 10 0 1 0 -20 0z";
     let diamond = "M0 -10l10 10l-10 10l-10 -10z";
-    push_sign_item(out, 24, ("uf", bar), "unit of work that commits")?;
-    push_sign_item(out, 224, ("uh", bar), "backed out")?;
-    push_sign_item(out, 344, ("uo", bar), "open at the end")?;
-    push_sign_item(out, 484, ("dl", ring), "caught in a deadlock")?;
-    push_sign_item(out, 664, ("st", diamond), "changes what no backout undoes")?;
     let dashed = "M-9 0a9 9 0 1 0 18 0a9 9 0 1 0 -18 0z";
-    push_sign_item(out, 912, ("un", dashed), "reads what isn't committed")?;
-    Ok(())
+    push_meanings(
+        out,
+        &[
+            Meaning::Sign(24, "uf", bar, "unit of work that commits"),
+            Meaning::Sign(224, "uh", bar, "backed out"),
+            Meaning::Sign(344, "uo", bar, "open at the end"),
+            Meaning::Sign(484, "dl", ring, "caught in a deadlock"),
+            Meaning::Sign(664, "st", diamond, "changes what no backout undoes"),
+            Meaning::Sign(912, "un", dashed, "reads what isn't committed"),
+        ],
+    )
 }
 
 // Puts the title, and the legend below it.
@@ -199,10 +197,7 @@ fn push_heading(out: &mut Vec<u8>, title: &[u8]) -> Result<(), NoMemory>
     ensures { OnOk result (out.new.items ≡ out.old.items ++ heading title.now) }
 {
     push_cut_words(out, "h1".as_bytes(), (16, 30), cut(title, 96))?;
-    push_answers_legend(out)?;
-    push_ways_legend(out)?;
-    push_ends_legend(out)?;
-    push_region_legend(out)?;
+    push_marks_legend(out)?;
     push_units_legend(out)
 }
 
@@ -238,12 +233,14 @@ fn push_ground(out: &mut Vec<u8>, drawing: &Drawing, title: &[u8]) -> Result<(),
     push_lane_lines(out, height_of(drawing), drawing.tasks.len())
 }
 
-// Puts the texts of the rows, to the right of the lanes.
+// Puts the texts of the rows under their headings, to the right of the lanes.
+#[tactic(auto, unfolding(crate::specs::Sheets::headings))]
 fn push_moved_texts(out: &mut Vec<u8>, drawing: &Drawing) -> Result<(), NoMemory>
     ensures { OnOk result (out.new.items ≡ out.old.items ++ moved_texts (drawn_of drawing.now)) }
 {
     push_moved_start(out, 60 * (drawing.tasks.len() as u64))?;
-    push_headings(out)?;
+    push_words(out, "d s".as_bytes(), (78, 98), &[Part::Str("script")])?;
+    push_words(out, "d s".as_bytes(), (744, 98), &[Part::Str("journal")])?;
     out.extend_from_slice(&drawing.texts)?;
     push_end(out, Tag::G)
 }

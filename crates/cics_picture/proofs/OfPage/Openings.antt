@@ -1,5 +1,5 @@
 -- What an opening lends is what it was defined with and has loaded.
-use Rattle.std.proofs.Common.{◌≡◌, ℕ, not, length, drop, refl, ap, ◌∙◌}
+use Rattle.std.proofs.Common.{◌≡◌, not, length, refl, ap, ◌∙◌}
 use Rattle.std.specs.Prelude.{Option, None, Some, option_map}
 use Rattle.cics_names.specs.Keyed.{Bytes, Map, value_at}
 use Rattle.cics_ksds.specs.Files.{FileValue}

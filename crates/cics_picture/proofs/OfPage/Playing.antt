@@ -5,7 +5,6 @@ use Rattle.std.proofs.lemmas.List.{map-append, length-map}
 use Rattle.std.specs.Prelude.{is_some}
 use Rattle.std.specs.List.{fold}
 use Rattle.cics_run.specs.Session.Lines.{all_lines}
-use Rattle.cics_run.specs.Stage.Seen.{after_step}
 use Rattle.cics_run.specs.Stage.Stages.{step}
 use Rattle.cics_run.specs.Session.Running.{Played, play, has_fault, next, stepped, start, is_faulty}
 use Rattle.cics_run.specs.Session.Standing.{IsNew, Keeps, next_step}
@@ -19,7 +18,7 @@ use Rattle.cics_picture.specs.declared.page.lines.Sheet.{Sheet}
 use Rattle.cics_picture.specs.declared.page.notes.Note.{Note}
 use Rattle.cics_picture.specs.declared.page.recording.Step.{Step}
 use Rattle.cics_picture.specs.declared.page.recording.Pager.{Pager}
-use Rattle.cics_picture.specs.Page.Recording.{told_by, told_in, page_sight, steps_of}
+use Rattle.cics_picture.specs.Page.Recording.{told_by, told_in}
 use Rattle.cics_picture.specs.Page.Lines.{PageLine, page_line, line_text, lines_text}
 use Rattle.cics_picture.specs.Page.Sheets.{most_steps, most_bytes, HasLine}
 use Rattle.cics_picture.specs.Page.Pages.{PlainLine, plain, plain_line, defined_if, plain_from, plain_lines, all_steps, next_plain, PutsLine, WouldBeTooLong, HasLines, HasTooManySteps, HasTooLongLines}

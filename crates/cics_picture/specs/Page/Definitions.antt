@@ -1,5 +1,5 @@
 -- What a line has defined or loaded, as a note.
-use Rattle.std.specs.Prelude.{ℕ, Bool, not, if◌then◌else◌, Option, Some, None, Result, Ok, Err, List, length}
+use Rattle.std.specs.Prelude.{ℕ, not, if◌then◌else◌, Option, Some, None, Result, Ok, Err, List, length}
 use Rattle.cics_names.specs.Keyed.{Bytes, value_at}
 use Rattle.cics_ksds.specs.Files.{key_of, fits_file}
 use Rattle.cics_ksds.specs.declared.definition.FileDef.{FileDef}

@@ -73,7 +73,3 @@ number_of key n = attribute key (decimal n)
 -- the attribute that moves an element to a point
 abbrev pub moved_to : ℕ → ℕ → Attribute
 moved_to x y = attribute Transform (codes "translate(" ++ (decimal x ++ (codes " " ++ (decimal y ++ codes ")"))))
-
--- the text of that attribute
-abbrev pub move_text : ℕ → ℕ → List ℕ
-move_text x y = codes " transform=\"translate(" ++ (text_of (decimal x) ++ (codes " " ++ (text_of (decimal y) ++ codes ")\"")))

@@ -8,7 +8,7 @@ ghost use Rattle.cics_picture.specs.Draw.Notes.{character, record_note, outcome_
 use crate::elements::cut;
 use cics_dispatch::{Event, Outcome};
 use cics_names::{NoMemory, Record, from_ebcdic};
-use cics_script::spelling::push_str;
+use cics_script::spelling::{Part, push_parts};
 use std::alloc::Global;
 
 fn has_characters(bytes: &[u8]) -> bool
@@ -51,10 +51,15 @@ fn push_record_note(out: &mut Vec<u8>, content: &Option<Record>) -> Result<(), N
     let mut text = Vec::new(*out.allocator());
     push_characters(&mut text, bytes)?;
     let (front, dots) = cut(&text, 32);
-    push_str(out, " |")?;
-    out.extend_from_slice(front)?;
-    out.extend_from_slice(dots)?;
-    push_str(out, "|")
+    push_parts(
+        out,
+        &[
+            Part::Str(" |"),
+            Part::Bytes(front),
+            Part::Bytes(dots),
+            Part::Str("|"),
+        ],
+    )
 }
 
 fn push_outcome_note(out: &mut Vec<u8>, outcome: &Outcome) -> Result<(), NoMemory>

@@ -10,8 +10,8 @@ pub const HEAD: &str = "\
 <meta charset=\"utf-8\">
 <meta name=\"viewport\" content=\"width=device-width, initial-scale=1\">
 <meta http-equiv=\"Content-Security-Policy\" content=\"default-src 'none'; style-src \
-'sha256-e3+6ARsgJwmAqsbL18WWovS5iQBgdkjKFKVWmoSpbfY='; script-src \
-'sha256-fvywYR4Def3Lxfys9G58GTbjk/aoTMxrpyMgRkRAqss='; base-uri 'none'; form-action 'none'\">
+'sha256-mBep1qwvrp10HiVW43+CndMENTcB+aVPItenTDo73+Q='; script-src \
+'sha256-StD8hacPmG/4UWHCydnrb9JTnMmM8pYdfL6fv62YsRE='; base-uri 'none'; form-action 'none'\">
 <style>
 :root{--bg:#fff;--ink:#1b1f24;--dim:#57606a;--rule:#d0d7de;--band:#f3f5f8;--unit:#1565a9;--open:#d\
 becfb;--roll:#875400;
@@ -25,8 +25,8 @@ e:#3a424b;--band:#161b22;
 html{color-scheme:light dark;-webkit-text-size-adjust:100%}
 body{margin:0 auto;padding:0 16px 48px;max-width:1000px;background:var(--bg);color:var(--ink);
 font:14px/1.45 system-ui,\"Segoe UI\",Helvetica,Arial,\"DejaVu Sans\",sans-serif}
-code,samp,pre,li::before,del,ins,p b,p i,h2{font:12.5px/1.5 ui-monospace,SFMono-Regular,Menlo,Cons\
-olas,\"DejaVu Sans Mono\",monospace}
+code,samp,pre,.box small,li::before,del,ins,p b,p i,h2{font:12.5px/1.5 \
+ui-monospace,SFMono-Regular,Menlo,Consolas,\"DejaVu Sans Mono\",monospace}
 code,samp,pre,del,ins,p b,p i{white-space:pre-wrap;overflow-wrap:anywhere}
 a{color:var(--unit)}
 h1{font-size:18px;line-height:1.3;margin:14px 0 10px}
@@ -148,7 +148,8 @@ writing-mode:vertical-rl;transform:translateX(-50%) rotate(180deg)}
 .box li.new{background:var(--now);box-shadow:inset 3px 0 var(--unit)}
 .box li.back{box-shadow:inset 3px 0 var(--wake)}
 .box li>div{min-width:0}
-.box code{max-height:7.5em;overflow:auto}
+.box code,.box small{max-height:7.5em;overflow:auto}
+.box small{display:block;color:var(--dim);white-space:pre-wrap;overflow-wrap:anywhere}
 .box code.no{text-decoration:line-through}
 .box .no,.box .key{color:var(--dim)}
 .was{color:var(--dim);font-size:12px;display:flex;flex-wrap:wrap;align-items:baseline;gap:0 6px}
@@ -218,7 +219,7 @@ code,samp,pre,li::before,del,ins,p b,p i,h2{font-size:8.5pt}
 #heads{display:block;position:relative}
 p{font-size:8.5pt}
 .quiet .still{display:flex}
-.box ul,.box code,.was del,.clip{max-height:none}
+.box ul,.box code,.box small,.was del,.clip{max-height:none}
 .lane,.tag,.box h2,.say,.box li{print-color-adjust:exact;-webkit-print-color-adjust:exact}
 }
 </style>

@@ -2,7 +2,7 @@
 
 ghost use Rattle.std.specs.Prelude.{◌≡◌, ◌++◌, ◌+◌, ◌<◌, ◌≤◌, [], List, ℕ, length, IfErr, OnOk};
 ghost use Rattle.cics_picture.specs.Draw.Standings.{outcomes_at};
-ghost use Rattle.cics_picture.specs.Page.Lines.{page_line, div, rest, step_text, steps_text};
+ghost use Rattle.cics_picture.specs.Page.Lines.{page_line, rest, step_text, steps_text};
 ghost use Rattle.cics_picture.specs.Page.Lines.{quiet_text, inside_text};
 ghost use Rattle.cics_picture.specs.Page.Sheets.{HasLine, most_steps, most_bytes};
 ghost use Rattle.cics_picture.specs.declared.page.lines.Unwritten.TheVariants.{TooLong};
@@ -12,13 +12,14 @@ use crate::draw::outcomes_at;
 use crate::elements::push_spoken;
 use crate::page::kinds::{kind_class, woken_class};
 use crate::page::notes::Note;
+use crate::page::pieces::{Piece, push_pieces};
 use crate::page::recording::Step;
 use crate::page::texts::{push_note, push_notes};
-use crate::xml::{Tag, push_digits};
+use crate::xml::Tag;
 use cics_history::UnitState;
 use cics_names::NoMemory;
 use cics_run::stage::Stage;
-use cics_script::spelling::push_str;
+use cics_script::spelling::{Part, push_parts, push_str};
 use std::alloc::Global;
 
 /// How many steps a page has at most.
@@ -58,24 +59,17 @@ pub struct Sheet {
     pub last: Stage,
 }
 
-// Puts the start of the step with this number.
-fn push_div(out: &mut Vec<u8>, number: u64, step: &Step) -> Result<(), NoMemory>
-    ensures { OnOk result (out.new.items ≡ out.old.items ++ div number step.now) }
-{
-    push_str(out, "<div id=\"s")?;
-    push_digits(out, number)?;
-    push_str(out, "\" class=\"")?;
-    push_str(out, woken_class(step.is_woken))?;
-    push_str(out, kind_class(step.kind))?;
-    push_str(out, "\">")
-}
-
 // Puts what a step tells.
 fn push_rest(out: &mut Vec<u8>, outcomes: &[UnitState], step: &Step) -> Result<(), NoMemory>
     ensures { OnOk result (out.new.items ≡ out.old.items ++ rest outcomes.now step.now) }
 {
-    push_spoken(out, Tag::Samp, step.text.bytes())?;
-    push_str(out, "\n")?;
+    push_pieces(
+        out,
+        &[
+            Piece::Element(Tag::Samp, Part::Bytes(step.text.bytes())),
+            Piece::Markup("\n"),
+        ],
+    )?;
     push_notes(out, outcomes, step.notes.as_slice())?;
     push_str(out, "</div>")
 }
@@ -101,12 +95,11 @@ impl Sheet {
         ensures steps { self.new.steps ≡ self.old.steps }
         ensures last { self.new.last ≡ self.old.last }
     {
-        self.text.extend_from_slice(code)?;
-        push_str(&mut self.text, "\n")?;
-        if let Some(note) = defined {
-            push_note(&mut self.text, outcomes_at(&self.last), note)?;
+        push_parts(&mut self.text, &[Part::Bytes(code), Part::Str("\n")])?;
+        match defined {
+            Some(note) => push_note(&mut self.text, outcomes_at(&self.last), note),
+            None => Ok(()),
         }
-        Ok(())
     }
 
     // Puts a step, with the text of the line that it is the first of, or nothing.
@@ -117,9 +110,19 @@ impl Sheet {
         ensures steps { OnOk result (self.new.steps ≡ self.old.steps + 1) }
         ensures last { self.new.last ≡ self.old.last }
     {
-        push_div(&mut self.text, self.steps + 1, step)?;
-        self.text.extend_from_slice(code)?;
-        push_str(&mut self.text, "\n")?;
+        push_parts(
+            &mut self.text,
+            &[
+                Part::Str("<div id=\"s"),
+                Part::Number(self.steps + 1),
+                Part::Str("\" class=\""),
+                Part::Str(woken_class(step.is_woken)),
+                Part::Str(kind_class(step.kind)),
+                Part::Str("\">"),
+                Part::Bytes(code),
+                Part::Str("\n"),
+            ],
+        )?;
         push_rest(&mut self.text, outcomes_at(&self.last), step)?;
         self.steps += 1;
         Ok(())

@@ -53,15 +53,6 @@ pub enum Wanted {
     BothEnds(Name4),
 }
 
-/// How a unit of work ends.
-#[derive(Clone, Copy, PartialEq, Eq)]
-pub enum Fate {
-    Committed,
-    BackedOut,
-    /// It is open at the end of the run.
-    Open,
-}
-
 /// What a line defined or loaded, or what an event changed. A task goes by its label, a unit by its
 /// number.
 #[derive(Drop)]

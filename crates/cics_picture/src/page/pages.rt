@@ -7,7 +7,6 @@ ghost use Rattle.cics_run.specs.Session.Running.{is_faulty, play};
 ghost use Rattle.cics_run.specs.Session.Standing.{IsNew};
 ghost use Rattle.cics_run.specs.Stage.Stages.{listing_at};
 ghost use Rattle.cics_picture.specs.Draw.Pictures.{RunsLine, KeepsLast};
-ghost use Rattle.cics_picture.specs.Elements.{cut};
 ghost use Rattle.cics_picture.specs.Page.Lines.{head, tail, front_text, listing_text, back_text};
 ghost use Rattle.cics_picture.specs.Page.Pages.{IsPage, HasDocuments, PutsPage, HasTooManySteps};
 ghost use Rattle.cics_picture.specs.Page.Pages.{HasTooLongLines, HasLines, PutsLine, next_plain};
@@ -25,6 +24,7 @@ use crate::page::definitions::defined_at;
 use crate::page::head::HEAD;
 use crate::page::lines::{Sheet, Unwritten};
 use crate::page::notes::Note;
+use crate::page::pieces::{Piece, push_pieces};
 use crate::page::player::PLAYER;
 use crate::page::recording::Pager;
 use crate::xml::Tag;
@@ -33,7 +33,7 @@ use cics_run::listing::push_listing;
 use cics_run::session::Session;
 use cics_run::stage::Stage;
 use cics_run::whole::{Nobody, next_line};
-use cics_script::spelling::push_str;
+use cics_script::spelling::{Part, push_parts, push_str};
 use std::alloc::Global;
 
 /// Each page of a script begins and ends with the same bytes. Between them its title and its
@@ -149,10 +149,9 @@ fn push_listed(out: &mut Vec<u8>, stage: &mut Stage) -> Result<(), NoMemory>
 {
     stage.open()?;
     match stage {
-        Stage::Running(region) => push_listing(out, &region.listing()?)?,
+        Stage::Running(region) => push_listing(out, &region.listing()?),
         Stage::Opening(_) => unreachable!(),
     }
-    Ok(())
 }
 
 // Puts the listing, without its last LF.
@@ -179,27 +178,23 @@ fn push_tail(out: &mut Vec<u8>) -> Result<(), NoMemory>
     push_str(out, PLAYER)
 }
 
-// Returns a title, cut if it is too long.
-fn cut_title(alloc: Global, title: &[u8]) -> Result<Vec<u8>, NoMemory>
-    ensures { IfOk result (λ text. text.items ≡ cut 96 title.now) }
-{
-    let (front, behind) = cut(title, 96);
-    let mut text = Vec::new(alloc);
-    text.extend_from_slice(front)?;
-    text.extend_from_slice(behind)?;
-    Ok(text)
-}
-
 // Puts the head, the title and the start of the lines.
 fn push_front(out: &mut Vec<u8>, title: &[u8]) -> Result<(), NoMemory>
     ensures { OnOk result (out.new.items ≡ out.old.items ++ front_text title.now) }
 {
-    let text = cut_title(*out.allocator(), title)?;
+    let (front, dots) = cut(title, 96);
+    let mut text = Vec::new(*out.allocator());
+    push_parts(&mut text, &[Part::Bytes(front), Part::Bytes(dots)])?;
     push_head(out)?;
-    push_spoken(out, Tag::Title, &text)?;
-    push_str(out, "\n</head>\n<body>\n")?;
-    push_spoken(out, Tag::H1, &text)?;
-    push_str(out, "\n<ol>\n")
+    push_pieces(
+        out,
+        &[
+            Piece::Element(Tag::Title, Part::Bytes(&text)),
+            Piece::Markup("\n</head>\n<body>\n"),
+            Piece::Element(Tag::H1, Part::Bytes(&text)),
+            Piece::Markup("\n<ol>\n"),
+        ],
+    )
 }
 
 // Puts the lines, the listing if there is no fault, and the player.
@@ -212,8 +207,7 @@ fn push_back(
     ensures { OnOk result (out.new.items
         ≡ out.old.items ++ (lines.now ++ back_text (listing_unless is_faulty stage.old))) }
 {
-    out.extend_from_slice(lines)?;
-    push_str(out, "</ol>\n")?;
+    push_parts(out, &[Part::Bytes(lines), Part::Str("</ol>\n")])?;
     if !is_faulty {
         push_listing_text(out, stage)?;
     }

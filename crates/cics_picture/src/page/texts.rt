@@ -1,82 +1,46 @@
 //! Notes as elements.
 
-ghost use Rattle.std.specs.Prelude.{◌≡◌, ◌++◌, OnOk};
+ghost use Rattle.std.specs.Prelude.{◌≡◌, ◌++◌, OnOk, codes};
 ghost use Rattle.cics_history.specs.Headline.{outcome_of};
-ghost use Rattle.cics_picture.specs.Page.Texts.{name_element, bytes_element, number_element};
-ghost use Rattle.cics_picture.specs.Page.Texts.{key_text, numbered_text, definition_text};
-ghost use Rattle.cics_picture.specs.Page.Texts.{held_class, held_words, held_text, resource_text};
-ghost use Rattle.cics_picture.specs.Page.Texts.{count_text, holds_text, releases_text, asked_text};
-ghost use Rattle.cics_picture.specs.Page.Texts.{wanted_text, limit_text, begins_text, ends_text};
-ghost use Rattle.cics_picture.specs.Page.Texts.{set_start, set_end, cell_text, change_text};
-ghost use Rattle.cics_picture.specs.Page.Texts.{set_text, cursor_text, waits_text, circle_text};
-ghost use Rattle.cics_picture.specs.Page.Texts.{deadlock_text, told_text, note_text, notes_text};
+ghost use Rattle.cics_script.specs.Parts.{part_text};
+ghost use Rattle.cics_picture.specs.declared.xml.names.Tag.TheVariants.{B};
+ghost use Rattle.cics_picture.specs.Elements.{spoken};
+ghost use Rattle.cics_picture.specs.Page.Texts.{name_element, definition_text, held_class};
+ghost use Rattle.cics_picture.specs.Page.Texts.{held_words, held_text, resource_text, holds_text};
+ghost use Rattle.cics_picture.specs.Page.Texts.{releases_text, wanted_text, limit_text};
+ghost use Rattle.cics_picture.specs.Page.Texts.{begins_text, ends_text, set_start, set_end};
+ghost use Rattle.cics_picture.specs.Page.Texts.{cell_text, change_text, set_text, cursor_text};
+ghost use Rattle.cics_picture.specs.Page.Texts.{waits_text, circle_text, deadlock_text, told_text};
+ghost use Rattle.cics_picture.specs.Page.Texts.{note_text, notes_text};
 
-use crate::elements::push_spoken;
 use crate::page::notes::{Cell, Change, Held, Note, Wanted};
-use crate::xml::{Tag, push_end, push_inside, push_number, push_start, push_text};
+use crate::page::pieces::{Piece, push_piece, push_pieces};
+use crate::xml::Tag;
 use cics_history::UnitState;
-use cics_names::{Name8, NoMemory, Record};
+use cics_names::{Name8, NoMemory};
 use cics_run::listing::{recoverable_title, recovery_title};
-use cics_script::spelling::{self, push_bare, push_str};
-
-// Puts the name of a file or a queue.
-fn push_name(out: &mut Vec<u8>, name: &[u8]) -> Result<(), NoMemory>
-    ensures { OnOk result (out.new.items ≡ out.old.items ++ name_element name.now) }
-{
-    let mut text = Vec::new(*out.allocator());
-    spelling::push_name(&mut text, name)?;
-    push_spoken(out, Tag::I, &text)
-}
-
-// Puts a key, a value or a record.
-fn push_bytes(out: &mut Vec<u8>, tag: Tag, bytes: &Record) -> Result<(), NoMemory>
-    ensures { OnOk result (out.new.items ≡ out.old.items ++ bytes_element tag bytes.now) }
-{
-    let mut text = Vec::new(*out.allocator());
-    spelling::push_text(&mut text, bytes.bytes())?;
-    push_spoken(out, tag, &text)
-}
-
-// Puts a number.
-#[tactic(auto, using(crate::proofs::Chains::filled), unfolding(crate::specs::Page::Texts::number_element))]
-fn push_number_element(out: &mut Vec<u8>, tag: Tag, number: u64) -> Result<(), NoMemory>
-    ensures { OnOk result (out.new.items ≡ out.old.items ++ number_element tag number) }
-{
-    push_start(out, tag)?;
-    push_inside(out)?;
-    push_number(out, number)?;
-    push_end(out, tag)?;
-    Ok(())
-}
-
-// Puts a key of a file.
-fn push_key(out: &mut Vec<u8>, key: &Record, file: &Name8) -> Result<(), NoMemory>
-    ensures { OnOk result (out.new.items ≡ out.old.items ++ key_text key.now file.now) }
-{
-    push_bytes(out, Tag::B, key)?;
-    push_str(out, " of ")?;
-    push_name(out, &file.bytes())
-}
-
-// Puts the number of an item or a record of a queue.
-fn push_numbered(out: &mut Vec<u8>, number: u64, queue: &[u8]) -> Result<(), NoMemory>
-    ensures { OnOk result (out.new.items ≡ out.old.items ++ numbered_text number queue.now) }
-{
-    push_number_element(out, Tag::B, number)?;
-    push_str(out, " of ")?;
-    push_name(out, queue)
-}
+use cics_script::spelling::{Part, push_parts, push_str};
 
 // Puts a definition.
-fn push_definition(out: &mut Vec<u8>, start: &str, name: &[u8], title: &str) -> Result<(), NoMemory>
+fn push_definition<'a>(
+    out: &mut Vec<u8>,
+    start: &'a str,
+    name: &'a [u8],
+    title: &'a str,
+) -> Result<(), NoMemory>
     ensures { OnOk result (out.new.items
         ≡ out.old.items ++ definition_text start.now name.now title.now) }
 {
-    push_str(out, start)?;
-    push_name(out, name)?;
-    push_str(out, " ")?;
-    push_spoken(out, Tag::B, title.as_bytes())?;
-    push_str(out, "</p>")
+    push_pieces(
+        out,
+        &[
+            Piece::Markup(start),
+            Piece::Element(Tag::I, Part::Name(name)),
+            Piece::Markup(" "),
+            Piece::Element(Tag::B, Part::Str(title)),
+            Piece::Markup("</p>"),
+        ],
+    )
 }
 
 // Returns the class of what is held, and the words in front of it.
@@ -105,10 +69,20 @@ fn push_held(out: &mut Vec<u8>, held: &Held) -> Result<(), NoMemory>
     ensures { OnOk result (out.new.items ≡ out.old.items ++ held_text held.now) }
 {
     match held {
-        Held::Keys { file, bytes, .. } => push_key(out, bytes, file),
-        Held::Queue(queue) => push_name(out, &queue.bytes()),
-        Held::End { queue, .. } => push_name(out, &queue.bytes()),
-        Held::Value(value) => push_bytes(out, Tag::B, value),
+        Held::Keys { file, bytes, .. } => push_pieces(
+            out,
+            &[
+                Piece::Element(Tag::B, Part::Text(bytes.bytes())),
+                Piece::Markup(" of "),
+                Piece::Element(Tag::I, Part::Name(&file.bytes())),
+            ],
+        ),
+        Held::Queue(queue) => push_piece(out, &Piece::Element(Tag::I, Part::Name(&queue.bytes()))),
+        Held::End { queue, .. } => push_piece(
+            out,
+            &Piece::Element(Tag::I, Part::Name(&queue.bytes())),
+        ),
+        Held::Value(value) => push_piece(out, &Piece::Element(Tag::B, Part::Text(value.bytes()))),
     }
 }
 
@@ -119,32 +93,34 @@ fn push_resource(out: &mut Vec<u8>, front: &str, verb: &str, held: &Held) -> Res
         ≡ out.old.items ++ resource_text front.now verb.now held.now) }
 {
     let (class, words) = held_words(held);
-    push_str(out, front)?;
-    push_str(out, class)?;
-    push_str(out, verb)?;
-    push_str(out, words)?;
+    push_parts(
+        out,
+        &[
+            Part::Str(front),
+            Part::Str(class),
+            Part::Str(verb),
+            Part::Str(words),
+        ],
+    )?;
     push_held(out, held)
 }
 
-// Puts how often a value was enqueued and not dequeued. Of anything else it puts nothing.
-fn push_count(out: &mut Vec<u8>, held: &Held, count: u64) -> Result<(), NoMemory>
-    ensures { OnOk result (out.new.items ≡ out.old.items ++ count_text held.now count) }
-{
-    match held {
-        Held::Value(_) => {
-            push_str(out, " &#215;")?;
-            push_number_element(out, Tag::I, count)
-        }
-        _ => Ok(()),
-    }
-}
-
+// Puts what a unit holds, and of a value how often it was enqueued and not dequeued.
 fn push_holds(out: &mut Vec<u8>, held: &Held, count: u64) -> Result<(), NoMemory>
     ensures { OnOk result (out.new.items ≡ out.old.items ++ holds_text held.now count) }
 {
     push_resource(out, "<p class=\"own ", "\">holds ", held)?;
-    push_count(out, held, count)?;
-    push_str(out, "</p>")
+    match held {
+        Held::Value(_) => push_pieces(
+            out,
+            &[
+                Piece::Markup(" &#215;"),
+                Piece::Element(Tag::I, Part::Number(count)),
+                Piece::Markup("</p>"),
+            ],
+        ),
+        _ => push_str(out, "</p>"),
+    }
 }
 
 fn push_releases(out: &mut Vec<u8>, held: &Held) -> Result<(), NoMemory>
@@ -154,58 +130,50 @@ fn push_releases(out: &mut Vec<u8>, held: &Held) -> Result<(), NoMemory>
     push_str(out, "</p>")
 }
 
-// Puts the start of the note of a wait for this. A reading end is wanted for a record.
-fn push_asked(out: &mut Vec<u8>, held: &Held) -> Result<(), NoMemory>
-    ensures { OnOk result (out.new.items ≡ out.old.items ++ asked_text held.now) }
-{
-    match held {
-        Held::End {
-            queue,
-            is_writing: false,
-        } => push_queue(
-            out,
-            "<p class=\"ask rd\">wants a record of ",
-            &queue.bytes(),
-        ),
-        _ => push_resource(out, "<p class=\"ask ", "\">wants ", held),
-    }
-}
-
-// Puts a queue, behind words.
-fn push_queue(out: &mut Vec<u8>, words: &str, queue: &[u8]) -> Result<(), NoMemory>
-    ensures { OnOk result (out.new.items
-        ≡ out.old.items ++ (words.now ++ name_element queue.now)) }
-{
-    push_str(out, words)?;
-    push_name(out, queue)
-}
-
-// Puts the start of the note of a wait.
+// Puts the start of the note of a wait. A reading end is wanted for a record.
 fn push_wanted(out: &mut Vec<u8>, wanted: &Wanted) -> Result<(), NoMemory>
     ensures { OnOk result (out.new.items ≡ out.old.items ++ wanted_text wanted.now) }
 {
     match wanted {
-        Wanted::One(held) => push_asked(out, held),
-        Wanted::BothEnds(queue) => {
-            push_queue(
-                out,
-                "<p class=\"ask td\">wants both ends of ",
-                &queue.bytes(),
-            )
-        }
+        Wanted::One(
+            Held::End {
+                queue,
+                is_writing: false,
+            },
+        ) => push_pieces(
+            out,
+            &[
+                Piece::Markup("<p class=\"ask rd\">wants a record of "),
+                Piece::Element(Tag::I, Part::Name(&queue.bytes())),
+            ],
+        ),
+        Wanted::One(held) => push_resource(out, "<p class=\"ask ", "\">wants ", held),
+        Wanted::BothEnds(queue) => push_pieces(
+            out,
+            &[
+                Piece::Markup("<p class=\"ask td\">wants both ends of "),
+                Piece::Element(Tag::I, Part::Name(&queue.bytes())),
+            ],
+        ),
     }
 }
 
-// Puts how long a task waits at most, if there is a limit.
+// Puts how long a task waits at most, if there is a limit, and the end of the note.
 fn push_limit(out: &mut Vec<u8>, seconds: u64) -> Result<(), NoMemory>
-    ensures { OnOk result (out.new.items ≡ out.old.items ++ limit_text seconds) }
+    ensures { OnOk result (out.new.items
+        ≡ out.old.items ++ (limit_text seconds ++ codes "</p>")) }
 {
     if seconds == 0 {
-        return Ok(());
+        return push_str(out, "</p>");
     }
-    push_str(out, ", for ")?;
-    push_number(out, seconds)?;
-    push_str(out, " seconds at most")
+    push_pieces(
+        out,
+        &[
+            Piece::Markup(", for "),
+            Piece::Text(Part::Number(seconds)),
+            Piece::Markup(" seconds at most</p>"),
+        ],
+    )
 }
 
 fn begins_text(outcome: UnitState) -> &'static str
@@ -219,14 +187,17 @@ fn begins_text(outcome: UnitState) -> &'static str
 }
 
 // Puts the note of a unit that ends.
-fn push_ends(out: &mut Vec<u8>, start: &str, label: &Name8) -> Result<(), NoMemory>
+fn push_ends<'a>(out: &mut Vec<u8>, start: &'a str, label: &'a [u8]) -> Result<(), NoMemory>
     ensures { OnOk result (out.new.items ≡ out.old.items ++ ends_text start.now label.now) }
 {
-    let mut text = Vec::new(*out.allocator());
-    push_bare(&mut text, &label.bytes())?;
-    push_str(out, start)?;
-    push_spoken(out, Tag::B, &text)?;
-    push_str(out, "</p>")
+    push_pieces(
+        out,
+        &[
+            Piece::Markup(start),
+            Piece::Element(Tag::B, Part::Bare(label)),
+            Piece::Markup("</p>"),
+        ],
+    )
 }
 
 fn set_start(cell: &Cell, stays: bool) -> &'static str
@@ -248,65 +219,119 @@ fn set_end(stays: bool) -> &'static str
     if stays { ", which stays</p>" } else { "</p>" }
 }
 
-fn push_cell(out: &mut Vec<u8>, cell: &Cell) -> Result<(), NoMemory>
-    ensures { OnOk result (out.new.items ≡ out.old.items ++ cell_text cell.now) }
+// Puts the start of a note, what a file or a queue has, its name, and a colon.
+fn push_owned<'a>(
+    out: &mut Vec<u8>,
+    start: &'a str,
+    part: Part<'a>,
+    name: &'a [u8],
+) -> Result<(), NoMemory>
+    ensures { OnOk result (out.new.items
+        ≡ out.old.items ++ (start.now ++ ((spoken B (part_text part.entry)
+        ++ (codes " of " ++ name_element name.now)) ++ codes ": "))) }
+{
+    push_pieces(
+        out,
+        &[
+            Piece::Markup(start),
+            Piece::Element(Tag::B, part),
+            Piece::Markup(" of "),
+            Piece::Element(Tag::I, Part::Name(name)),
+            Piece::Markup(": "),
+        ],
+    )
+}
+
+// Puts the start of a note, a cell, and a colon.
+#[tactic(auto, using(crate::proofs::OfXml::Numbers::number_element_read))]
+fn push_cell(out: &mut Vec<u8>, start: &str, cell: &Cell) -> Result<(), NoMemory>
+    ensures { OnOk result (out.new.items
+        ≡ out.old.items ++ (start.now ++ (cell_text cell.now ++ codes ": "))) }
 {
     match cell {
-        Cell::Record(file, key) => push_key(out, key, file),
-        Cell::Item(queue, number) => push_numbered(out, *number, &queue.bytes()),
-        Cell::TdRecord(queue, number) => push_numbered(out, *number, &queue.bytes()),
+        Cell::Record(file, key) => {
+            push_owned(out, start, Part::Text(key.bytes()), &file.bytes())
+        }
+        Cell::Item(queue, number) => {
+            push_owned(out, start, Part::Number(*number), &queue.bytes())
+        }
+        Cell::TdRecord(queue, number) => {
+            push_owned(out, start, Part::Number(*number), &queue.bytes())
+        }
     }
 }
 
-// Puts how the text of a cell changed.
-fn push_change(out: &mut Vec<u8>, change: &Change) -> Result<(), NoMemory>
-    ensures { OnOk result (out.new.items ≡ out.old.items ++ change_text change.now) }
+// Puts how the text of a cell changed, and the end of the note.
+fn push_change<'a>(out: &mut Vec<u8>, change: &'a Change, end: &'a str) -> Result<(), NoMemory>
+    ensures { OnOk result (out.new.items
+        ≡ out.old.items ++ (change_text change.now ++ end.now)) }
 {
     match change {
-        Change::Added(after) => {
-            push_str(out, "added ")?;
-            push_bytes(out, Tag::Ins, after)
-        }
-        Change::Removed(before) => {
-            push_str(out, "removed ")?;
-            push_bytes(out, Tag::Del, before)
-        }
-        Change::Becomes(before, after) => {
-            push_bytes(out, Tag::Del, before)?;
-            push_str(out, " becomes ")?;
-            push_bytes(out, Tag::Ins, after)
-        }
+        Change::Added(after) => push_pieces(
+            out,
+            &[
+                Piece::Markup("added "),
+                Piece::Element(Tag::Ins, Part::Text(after.bytes())),
+                Piece::Markup(end),
+            ],
+        ),
+        Change::Removed(before) => push_pieces(
+            out,
+            &[
+                Piece::Markup("removed "),
+                Piece::Element(Tag::Del, Part::Text(before.bytes())),
+                Piece::Markup(end),
+            ],
+        ),
+        Change::Becomes(before, after) => push_pieces(
+            out,
+            &[
+                Piece::Element(Tag::Del, Part::Text(before.bytes())),
+                Piece::Markup(" becomes "),
+                Piece::Element(Tag::Ins, Part::Text(after.bytes())),
+                Piece::Markup(end),
+            ],
+        ),
     }
 }
 
 fn push_set(out: &mut Vec<u8>, cell: &Cell, change: &Change, stays: bool) -> Result<(), NoMemory>
     ensures { OnOk result (out.new.items ≡ out.old.items ++ set_text cell.now change.now stays) }
 {
-    push_str(out, set_start(cell, stays))?;
-    push_cell(out, cell)?;
-    push_str(out, ": ")?;
-    push_change(out, change)?;
-    push_str(out, set_end(stays))
+    push_cell(out, set_start(cell, stays), cell)?;
+    push_change(out, change, set_end(stays))
 }
 
+#[tactic(auto, using(crate::proofs::OfXml::Numbers::number_element_read))]
 fn push_cursor(out: &mut Vec<u8>, queue: &Name8, before: u64, after: u64) -> Result<(), NoMemory>
     ensures { OnOk result (out.new.items ≡ out.old.items ++ cursor_text queue.now before after) }
 {
-    push_queue(out, "<p class=\"cur\">cursor of ", &queue.bytes())?;
-    push_str(out, ": ")?;
-    push_number_element(out, Tag::Del, before)?;
-    push_str(out, " becomes ")?;
-    push_number_element(out, Tag::Ins, after)?;
-    push_str(out, "</p>")
+    push_pieces(
+        out,
+        &[
+            Piece::Markup("<p class=\"cur\">cursor of "),
+            Piece::Element(Tag::I, Part::Name(&queue.bytes())),
+            Piece::Markup(": "),
+            Piece::Element(Tag::Del, Part::Number(before)),
+            Piece::Markup(" becomes "),
+            Piece::Element(Tag::Ins, Part::Number(after)),
+            Piece::Markup("</p>"),
+        ],
+    )
 }
 
 // Puts a task, and the task for which it waits.
 fn push_waits(out: &mut Vec<u8>, label: &Name8, next: &Name8) -> Result<(), NoMemory>
     ensures { OnOk result (out.new.items ≡ out.old.items ++ waits_text label.now next.now) }
 {
-    push_bare(out, &label.bytes())?;
-    push_str(out, " waits for ")?;
-    push_bare(out, &next.bytes())
+    push_parts(
+        out,
+        &[
+            Part::Bare(&label.bytes()),
+            Part::Str(" waits for "),
+            Part::Bare(&next.bytes()),
+        ],
+    )
 }
 
 // Puts a circle of tasks, of which each waits for the next one, and the last for the first.
@@ -332,9 +357,14 @@ fn push_deadlock(out: &mut Vec<u8>, labels: &[Name8]) -> Result<(), NoMemory>
 {
     let mut text = Vec::new(*out.allocator());
     push_circle(&mut text, labels)?;
-    push_str(out, "<p class=\"ring\">deadlock: ")?;
-    push_text(out, &text)?;
-    push_str(out, "</p>")
+    push_pieces(
+        out,
+        &[
+            Piece::Markup("<p class=\"ring\">deadlock: "),
+            Piece::Text(Part::Bytes(&text)),
+            Piece::Markup("</p>"),
+        ],
+    )
 }
 
 // Returns how a unit ended; one that hasn't ended is open.
@@ -369,14 +399,21 @@ fn push_told(out: &mut Vec<u8>, outcomes: &[UnitState], note: &Note) -> Result<(
         ),
         Note::Wants { wanted, seconds } => {
             push_wanted(out, wanted)?;
-            push_limit(out, *seconds)?;
-            push_str(out, "</p>")
+            push_limit(out, *seconds)
         }
         Note::Begins { unit } => push_str(out, begins_text(outcome_of(outcomes, *unit))),
         Note::Holds { held, count } => push_holds(out, held, *count),
         Note::Releases(held) => push_releases(out, held),
-        Note::Commits(label) => push_ends(out, "<p class=\"com\">commits the unit of ", label),
-        Note::BacksOut(label) => push_ends(out, "<p class=\"bak\">backs out the unit of ", label),
+        Note::Commits(label) => push_ends(
+            out,
+            "<p class=\"com\">commits the unit of ",
+            &label.bytes(),
+        ),
+        Note::BacksOut(label) => push_ends(
+            out,
+            "<p class=\"bak\">backs out the unit of ",
+            &label.bytes(),
+        ),
         Note::Set {
             cell,
             change,

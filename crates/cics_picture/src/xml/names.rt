@@ -4,7 +4,7 @@ ghost use Rattle.std.specs.Prelude.{◌≡◌};
 ghost use Rattle.cics_picture.specs.Xml.Names.{tag_name, key_name};
 
 /// An element of SVG or of HTML.
-#[derive(Clone, Copy, PartialEq, Eq)]
+#[derive(Clone, Copy)]
 pub enum Tag {
     Svg,
     Title,
@@ -59,7 +59,7 @@ impl Tag {
 }
 
 /// An attribute of such an element.
-#[derive(Clone, Copy, PartialEq, Eq)]
+#[derive(Clone, Copy)]
 pub enum Key {
     Class,
     D,

@@ -1,24 +1,35 @@
-//! The pieces of a document, each put at the end of a text.
+//! Elements and texts, each put at the end of a text.
 
-ghost use Rattle.std.specs.Prelude.{◌≡◌, ◌++◌, map, false, Some, OnOk, codes};
-ghost use Rattle.std.specs.Fmt.{decimal};
-ghost use Rattle.cics_picture.specs.Xml.Names.{tag_name};
-ghost use Rattle.cics_picture.specs.Xml.Characters.{character_text, shown, shown_text, text_of};
+ghost use Rattle.std.specs.Prelude.{◌≡◌, ◌++◌, map, false, Some, OnOk};
+ghost use Rattle.std.specs.List.{flat_map};
+ghost use Rattle.cics_script.specs.Parts.{part_text};
+ghost use Rattle.cics_picture.specs.Xml.Attributes.{attribute_of};
+ghost use Rattle.cics_picture.specs.Xml.Characters.{character_text, shown, shown_text};
 ghost use Rattle.cics_picture.specs.Xml.Characters.{is_plain, is_special};
-ghost use Rattle.cics_picture.specs.Xml.Documents.{Document, document_text, attribute, attribute_text};
-ghost use Rattle.cics_picture.specs.Xml.Documents.{end_text, said, number_of, numeral};
-ghost use Rattle.cics_picture.specs.Xml.Documents.{moved_to, move_text};
+ghost use Rattle.cics_picture.specs.Xml.Documents.{Document, document_text, attribute_text};
+ghost use Rattle.cics_picture.specs.Xml.Documents.{start_text, end_text, element, said};
 ghost use Rattle.cics_picture.specs.Xml.Reading.{document_of};
 
 use crate::xml::names::{Key, Tag};
 use cics_names::NoMemory;
-use cics_script::spelling::{self, push_str};
+use cics_script::spelling::{Part, push_parts, push_str};
 
 /// The text of every document is read back as that document. Each of its elements is closed, and no
 /// text or value ends before its end.
 pub fn documents_read_back()
     ensures { (d : Document) → document_of (document_text d) ≡ Some d }
 {}
+
+/// An attribute of an element.
+#[derive(Clone, Copy)]
+pub enum Attribute<'a> {
+    /// Its value is these bytes.
+    Bytes(Key, &'a [u8]),
+    /// Its value is a number.
+    Number(Key, u64),
+    /// It moves the element to this place.
+    Move(u64, u64),
+}
 
 fn is_special(byte: u8) -> bool
     ensures { result ≡ is_special byte }
@@ -78,75 +89,60 @@ pub fn push_text(out: &mut Vec<u8>, bytes: &[u8]) -> Result<(), NoMemory>
     push_shown(out, bytes)
 }
 
-/// Puts the start of a start tag: attributes may follow, then [`push_inside`].
-pub fn push_start(out: &mut Vec<u8>, tag: Tag) -> Result<(), NoMemory>
-    ensures { OnOk result (out.new.items ≡ out.old.items ++ (codes "<" ++ tag_name tag)) }
-{
-    push_str(out, "<")?;
-    push_str(out, tag.name())
-}
-
-/// Puts an attribute whose value is these bytes.
-pub fn push_attribute(out: &mut Vec<u8>, key: Key, value: &[u8]) -> Result<(), NoMemory>
-    ensures { OnOk result
-        (out.new.items ≡ out.old.items ++ attribute_text (attribute key (map shown value.now))) }
-{
-    push_str(out, " ")?;
-    push_str(out, key.name())?;
-    push_str(out, "=\"")?;
-    push_shown(out, value)?;
-    push_str(out, "\"")
-}
-
-/// Puts a number, as a part of a value.
 #[tactic(auto, using(crate::proofs::OfXml::Numbers::decimal_text))]
-pub fn push_digits(out: &mut Vec<u8>, number: u64) -> Result<(), NoMemory>
-    ensures { OnOk result (out.new.items ≡ out.old.items ++ text_of (decimal number)) }
+fn push_attribute(out: &mut Vec<u8>, attribute: &Attribute<'_>) -> Result<(), NoMemory>
+    ensures { OnOk result
+        (out.new.items ≡ out.old.items ++ attribute_text (attribute_of attribute.now)) }
 {
-    spelling::push_number(out, number)
+    match attribute {
+        Attribute::Bytes(key, value) => {
+            push_parts(
+                out,
+                &[Part::Str(" "), Part::Str(key.name()), Part::Str("=\"")],
+            )?;
+            push_shown(out, value)?;
+            push_str(out, "\"")
+        }
+        Attribute::Number(key, value) => push_parts(
+            out,
+            &[
+                Part::Str(" "),
+                Part::Str(key.name()),
+                Part::Str("=\""),
+                Part::Number(*value),
+                Part::Str("\""),
+            ],
+        ),
+        Attribute::Move(x, y) => push_parts(
+            out,
+            &[
+                Part::Str(" transform=\"translate("),
+                Part::Number(*x),
+                Part::Str(" "),
+                Part::Number(*y),
+                Part::Str(")\""),
+            ],
+        ),
+    }
 }
 
-/// Puts a number as the characters of a text.
-pub fn push_number(out: &mut Vec<u8>, number: u64) -> Result<(), NoMemory>
-    ensures { OnOk result (out.new.items ≡ out.old.items ++ document_text (numeral number)) }
+fn push_attributes(out: &mut Vec<u8>, attributes: &[Attribute<'_>]) -> Result<(), NoMemory>
+    ensures { OnOk result (out.new.items
+        ≡ out.old.items ++ flat_map attribute_text (map attribute_of attributes.now)) }
 {
-    push_digits(out, number)
-}
-
-/// Puts an attribute whose value is a number.
-pub fn push_number_attribute(out: &mut Vec<u8>, key: Key, value: u64) -> Result<(), NoMemory>
-    ensures { OnOk result (out.new.items ≡ out.old.items ++ attribute_text (number_of key value)) }
-{
-    push_str(out, " ")?;
-    push_str(out, key.name())?;
-    push_str(out, "=\"")?;
-    push_digits(out, value)?;
-    push_str(out, "\"")
-}
-
-// Puts the text of that attribute.
-fn push_move_text(out: &mut Vec<u8>, x: u64, y: u64) -> Result<(), NoMemory>
-    ensures { OnOk result (out.new.items ≡ out.old.items ++ move_text x y) }
-{
-    push_str(out, " transform=\"translate(")?;
-    push_digits(out, x)?;
-    push_str(out, " ")?;
-    push_digits(out, y)?;
-    push_str(out, ")\"")?;
+    for attribute in attributes {
+        push_attribute(out, attribute)?;
+    }
     Ok(())
 }
 
-/// Puts the attribute that moves an element to this place.
-pub fn push_move(out: &mut Vec<u8>, x: u64, y: u64) -> Result<(), NoMemory>
-    ensures { OnOk result (out.new.items ≡ out.old.items ++ attribute_text (moved_to x y)) }
+/// Puts a start tag with its attributes.
+pub fn push_start(out: &mut Vec<u8>, tag: Tag, attributes: &[Attribute<'_>]) -> Result<(), NoMemory>
+    ensures { OnOk result (out.new.items
+        ≡ out.old.items ++ start_text tag (map attribute_of attributes.now)) }
 {
-    push_move_text(out, x, y)
-}
-
-/// Ends a start tag: what is inside the element follows.
-pub fn push_inside(out: &mut Vec<u8>) -> Result<(), NoMemory>
-    ensures { OnOk result (out.new.items ≡ out.old.items ++ codes ">") }
-{
+    push_parts(out, &[Part::Str("<"), Part::Str(tag.name())])?;
+    push_attributes(out, attributes)?;
     push_str(out, ">")
 }
 
@@ -154,7 +150,38 @@ pub fn push_inside(out: &mut Vec<u8>) -> Result<(), NoMemory>
 pub fn push_end(out: &mut Vec<u8>, tag: Tag) -> Result<(), NoMemory>
     ensures { OnOk result (out.new.items ≡ out.old.items ++ end_text tag) }
 {
-    push_str(out, "</")?;
-    push_str(out, tag.name())?;
-    push_str(out, ">")
+    push_parts(
+        out,
+        &[Part::Str("</"), Part::Str(tag.name()), Part::Str(">")],
+    )
+}
+
+/// Puts an element that has these attributes, and a text alone.
+pub fn push_element(
+    out: &mut Vec<u8>,
+    tag: Tag,
+    attributes: &[Attribute<'_>],
+    bytes: &[u8],
+) -> Result<(), NoMemory>
+    ensures { OnOk result (out.new.items ≡ out.old.items
+        ++ document_text (element tag (map attribute_of attributes.now) (said bytes.now))) }
+{
+    push_start(out, tag, attributes)?;
+    push_text(out, bytes)?;
+    push_end(out, tag)
+}
+
+/// Puts an element that has these attributes, and a text of parts.
+pub fn push_parted(
+    out: &mut Vec<u8>,
+    tag: Tag,
+    attributes: &[Attribute<'_>],
+    parts: &[Part<'_>],
+) -> Result<(), NoMemory>
+    ensures { OnOk result (out.new.items ≡ out.old.items ++ document_text
+        (element tag (map attribute_of attributes.now) (said (flat_map part_text parts.now)))) }
+{
+    let mut text = Vec::new(*out.allocator());
+    push_parts(&mut text, parts)?;
+    push_element(out, tag, attributes, &text)
 }

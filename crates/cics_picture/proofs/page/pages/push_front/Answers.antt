@@ -1,4 +1,5 @@
-use Rattle.std.proofs.Common.{◌≡◌, ℕ, List, ◌++◌, ap, refl, ◌∙◌, append_assoc}
+use Rattle.std.proofs.Common.{◌≡◌, [], ◌++◌, ap, ◌∙◌, append_assoc}
+use Rattle.std.proofs.lemmas.List.{append-nil}
 use Rattle.cics_picture.specs.declared.xml.names.Tag.TheVariants as tag
 use Rattle.cics_picture.specs.Elements.{spoken, cut}
 use Rattle.cics_picture.specs.Page.Lines.{head, between}
@@ -6,17 +7,17 @@ use Rattle.cics_picture.proofs.Chains.{onto}
 use Rattle.cics_picture.proofs.page.pages.push_front.Goals as goal
 use lib.Chars.{codes}
 
-five : (o a b c d e : List ℕ) → ((((o ++ a) ++ b) ++ c) ++ d) ++ e ≡ o ++ (a ++ (b ++ (c ++ (d ++ e))))
-five o a b c d e = simp (append_assoc) refl
-
 pub returns : goal.returns
 returns c =
     let o = c.args.out.now.items in
-    let text = cut 96 c.args.title.now in
-    let first : c.deref.result.now ≡ text = c.deref.ensures.value ∙ c.in_ok-text.ensures in
-    let second : c.deref-2.result.now ≡ text = c.deref-2.ensures.value ∙ c.in_ok-text.ensures in
-    let e1 = c.in_ok-push_spoken.ensures ∙ ap (λ t. t ++ spoken tag.Title c.deref.result.now) c.in_ok-push_head.ensures ∙ ap (λ x. (o ++ head) ++ spoken tag.Title x) first in
-    let e2 = c.in_ok-push_str.ensures ∙ ap (λ t. t ++ between) e1 in
-    let front = ((o ++ head) ++ spoken tag.Title text) ++ between in
-    let e3 = c.in_ok-push_spoken-2.ensures ∙ ap (λ t. t ++ spoken tag.H1 c.deref-2.result.now) e2 ∙ ap (λ x. front ++ spoken tag.H1 x) second in
-    onto c.push_str-2.result c.push_str-2.new.out.items _ _ (ap (λ t. t ++ codes "\n<ol>\n") e3 ∙ five o head (spoken tag.Title text) between (spoken tag.H1 text) (codes "\n<ol>\n")) c.push_str-2.ensures
+    let front = c.cut.result.0.now in
+    let dots = c.cut.result.1.now in
+    let end = codes "\n<ol>\n" in
+    let text : c.push_parts.new.out.items ≡ cut 96 c.args.title.now =
+    c.in_ok-push_parts.ensures ∙ ap (λ t. t ++ (front ++ (dots ++ []))) c.new-text.ensures.items ∙ ap (λ t. front ++ t) (append-nil dots) ∙ c.cut.ensures in
+    let first = c.deref.ensures.value ∙ text in
+    let second = c.deref-2.ensures.value ∙ text in
+    let behind = spoken tag.Title c.deref.result.now ++ (between ++ (spoken tag.H1 c.deref-2.result.now ++ end)) in
+    onto c.push_pieces.result c.push_pieces.new.out.items _ _
+    (ap (λ t. t ++ behind) c.in_ok-push_head.ensures ∙ append_assoc o head behind
+    ∙ (λ i. o ++ (head ++ (spoken tag.Title (first i) ++ (between ++ (spoken tag.H1 (second i) ++ end)))))) c.push_pieces.ensures
