@@ -10,7 +10,7 @@ use cics_history::UnitId;
 use cics_names::{Condition, Name8, NoMemory, Record, Verb};
 use cics_run::stage::journal::push_outcome;
 use cics_script::Line;
-use cics_script::spelling::{push_number, push_str};
+use cics_script::spelling::{Part, push_parts, push_str};
 use cics_units::{Answer, Done, Enqueued, Listing, Op, Opening, Submitted, Units, plain_replay};
 use std::alloc::Global;
 
@@ -42,22 +42,15 @@ fn queue_op(verb: &Verb) -> Result<Option<Op>, NoMemory> {
         Verb::WriteqTs {
             queue,
             from,
-            item: None,
+            item,
             ..
-        } => Op::TsWrite {
-            queue: *queue,
-            from: from.copy()?,
-        },
-        Verb::WriteqTs {
-            queue,
-            from,
-            item: Some(item),
-            ..
-        } => Op::TsRewrite {
-            queue: *queue,
-            item: *item,
-            from: from.copy()?,
-        },
+        } => {
+            let (queue, from) = (*queue, from.copy()?);
+            match *item {
+                Some(item) => Op::TsRewrite { queue, item, from },
+                None => Op::TsWrite { queue, from },
+            }
+        }
         Verb::DeleteqTs { queue } => Op::TsDelete { queue: *queue },
         Verb::WriteqTd { queue, from, .. } => Op::TdWrite {
             queue: *queue,
@@ -102,21 +95,17 @@ fn op_of(alloc: Global, verb: &Verb) -> Result<Option<Op>, NoMemory> {
         }
         Verb::Delete {
             file,
-            ridfld: Some(prefix),
-            generic: true,
-            ..
-        } => Op::DeleteGeneric {
-            file: *file,
-            prefix: prefix.copy()?,
-        },
-        Verb::Delete {
-            file,
             ridfld: Some(key),
+            generic,
             ..
-        } => Op::Delete {
-            file: *file,
-            key: key.copy()?,
-        },
+        } => {
+            let (file, key) = (*file, key.copy()?);
+            if *generic {
+                Op::DeleteGeneric { file, prefix: key }
+            } else {
+                Op::Delete { file, key }
+            }
+        }
         _ => return queue_op(verb),
     };
     Ok(Some(op))
@@ -258,8 +247,7 @@ fn push_intervals(out: &mut Vec<u8>, units: &Units) -> Result<(), NoMemory> {
             count = count.saturating_add(file.interval_count());
         }
     }
-    push_number(out, count)?;
-    push_str(out, " intervals\n")
+    push_parts(out, &[Part::Number(count), Part::Str(" intervals\n")])
 }
 
 impl Tried for Units {

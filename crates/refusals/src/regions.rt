@@ -7,7 +7,7 @@ use cics_dispatch::{Event as RegionEvent, Region, Request};
 use cics_names::{Name8, NoMemory};
 use cics_run::stage::journal::push_event;
 use cics_script::Line;
-use cics_script::spelling::push_name;
+use cics_script::spelling::{Part, push_parts};
 use cics_units::{Listing, Opening};
 use std::alloc::Global;
 
@@ -38,8 +38,10 @@ fn happen_by_line(region: &mut Region, line: Line, out: &mut Vec<u8>) -> Result<
 fn push_blockers(out: &mut Vec<u8>, region: &Region, listing: &Listing) -> Result<(), NoMemory> {
     for (label, _) in listing.tasks.as_slice() {
         if let Some(blocker) = region.blocker(label) {
-            push_name(out, &label.bytes())?;
-            push_name(out, &blocker.bytes())?;
+            push_parts(
+                out,
+                &[Part::Name(&label.bytes()), Part::Name(&blocker.bytes())],
+            )?;
         }
     }
     Ok(())

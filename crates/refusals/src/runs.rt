@@ -5,7 +5,7 @@ use crate::memory::{Requests, switch, was_refused};
 use crate::openings::start;
 use crate::scripts::Step;
 use cics_names::{Name8, NoMemory};
-use cics_script::spelling::{push_bare, push_str};
+use cics_script::spelling::{Part, push_parts, push_str};
 use cics_script::{LineFault, read_line};
 use cics_units::Opening;
 use std::alloc::{AllocError, Global};
@@ -316,8 +316,10 @@ impl<'a> Run<'a> {
         text: &mut String,
     ) -> Result<(), Stop> {
         let mut line = Vec::new(self.alloc);
-        push_bare(&mut line, &label.bytes())?;
-        push_str(&mut line, " EXEC CICS ")?;
+        push_parts(
+            &mut line,
+            &[Part::Bare(&label.bytes()), Part::Str(" EXEC CICS ")],
+        )?;
         push_str(&mut line, command)?;
         if let Ok(line) = std::str::from_utf8(&line) {
             self.come_out(target, line, "", text)?;

@@ -3,7 +3,7 @@
 use cics_history::UnitId;
 use cics_names::NoMemory;
 use cics_run::listing::push_listing;
-use cics_script::spelling::{push_number, push_str, push_text};
+use cics_script::spelling::{Part, push_parts, push_str, push_text};
 use cics_units::{Entry, Listing, OpRef, UnitState, Units};
 
 /// Appends a listing. It takes the result of the call: so the caller drops no listing.
@@ -18,8 +18,7 @@ pub(crate) fn push_listed(
 fn push_op(out: &mut Vec<u8>, op: &OpRef<'_>) -> Result<(), NoMemory> {
     match op {
         OpRef::Write(_, key, from) | OpRef::Rewrite(_, key, from) => {
-            push_text(out, key)?;
-            push_text(out, from)
+            push_parts(out, &[Part::Text(key), Part::Text(from)])
         }
         OpRef::Delete(_, text)
         | OpRef::DeleteGeneric(_, text)
@@ -34,9 +33,12 @@ fn push_op(out: &mut Vec<u8>, op: &OpRef<'_>) -> Result<(), NoMemory> {
 // Puts an executed command at the end: what it names, its unit, and its answer.
 fn push_entry(out: &mut Vec<u8>, entry: &Entry) -> Result<(), NoMemory> {
     push_op(out, &entry.op())?;
-    push_number(out, entry.unit().number())?;
-    push_str(out, entry.condition().name())?;
-    push_number(out, entry.number().unwrap_or(0))?;
+    let parts = [
+        Part::Number(entry.unit().number()),
+        Part::Str(entry.condition().name()),
+        Part::Number(entry.number().unwrap_or(0)),
+    ];
+    push_parts(out, &parts)?;
     match entry.content() {
         Some(content) => push_text(out, content.bytes()),
         None => Ok(()),
@@ -52,8 +54,8 @@ pub(crate) fn push_units(
 ) -> Result<(), NoMemory> {
     push_listing(out, listing)?;
     for (queue, _, _) in listing.ts.as_slice() {
-        push_number(out, u64::from(units.next_place(queue)))?;
-        push_str(out, " ")?;
+        let place = u64::from(units.next_place(queue));
+        push_parts(out, &[Part::Number(place), Part::Str(" ")])?;
     }
     for entry in units.trace() {
         push_entry(out, entry)?;
