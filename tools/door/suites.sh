@@ -1,4 +1,5 @@
-# How tools/door/run tries bin/cicsrun-test.
+# How tools/door/run tries bin/cicsrun-test, and what bin/test says of a program that prints
+# something else.
 
 # A folder of scripts: nothing is recorded, all is recorded, a journal and a status differ, and what
 # is no run is never recorded.
@@ -120,4 +121,55 @@ END
     wants 2 '' 'cicsrun-test: no script NAME.cics is in none'
     try 'the help of bin/cicsrun-test' "$suite" --help
     wants 0 "$(sed -n '2,/^set/s/^# \{0,1\}//p' "$root/bin/cicsrun-test")" ''
+}
+
+# Three scripts, of which one has no listing, with what bin/test needs, and with a program that has
+# another word in its listing.
+make_copy() {
+    mkdir -p -- "$copy/bin" "$copy/tools" "$copy/crates/cicsrun/out" || exit 1
+    cp -- "$root/bin/test" "$copy/bin" || exit 1
+    cp -R -- "$root/tools/parts.sh" "$root/tools/scripts" "$copy/tools" || exit 1
+    for each in $names; do
+        mkdir -p -- "$copy/scripts/${each%/*}" || exit 1
+        cp -- "$root/scripts/$each".* "$copy/scripts/${each%/*}" || exit 1
+    done
+    cp -R -- "$copy/scripts" "$room/scripts" || exit 1
+    cat > "$copy/crates/cicsrun/out/cicsrun" << END
+#!/bin/sh
+'$(readlink -f -- "$program")' "\$@" > "\$0.\$\$"
+status=\$?
+sed 's/^LISTING\$/LISTED/' "\$0.\$\$" && rm -- "\$0.\$\$"
+exit "\$status"
+END
+    chmod +x -- "$copy/crates/cicsrun/out/cicsrun" || exit 1
+}
+
+# Fails unless bin/test passes on three scripts, and first writes this text.
+wants_passed() {
+    [ "$status" = 0 ] && [ ! -s "$room/said" ] &&
+        [ "$(sed 's/ok, [0-9]* runs/ok/' "$room/out")" = "${1}test: ok of 3 scripts" ] ||
+        differs "status $status, it wrote: $(cat -- "$room/out" "$room/said")"
+}
+
+# bin/test names each script whose listing differs. --accept writes that word beside them, and
+# nothing else.
+acceptance() {
+    copy="$room/a copy"
+    names='told/handled queues/ts-shared lines/definition-too-late'
+    make_copy
+    try 'bin/test, and a word of the listing differs' "$copy/bin/test" --built $names
+    named=$(sed -n 's/^test: \(scripts[^ ]*\).*/\1/p' "$room/said" | sort -u | tr '\n' ' ')
+    [ "$status $named" = '1 scripts/queues/ts-shared scripts/told/handled ' ] ||
+        differs "status $status, it named $named"
+    try 'bin/test --accept' "$copy/bin/test" --built --accept $names
+    wants_passed 'test: 2 files written: look at git diff
+'
+    try 'bin/test behind --accept' "$copy/bin/test" --built $names
+    wants_passed ''
+    [ "$(diff -r "$room/scripts" "$copy/scripts" | grep -v '^diff \|^[0-9]*c[0-9]*$')" = '< LISTING
+---
+> LISTED
+< LISTING
+---
+> LISTED' ] || differs "the scripts differ: $(diff -r "$room/scripts" "$copy/scripts")"
 }

@@ -237,7 +237,7 @@ is_asked() {
 
 # All runs, or those of the scripts of these names.
 make_cases() {
-    for script in "$root"/scripts/*/*.cics "$root"/scripts/told/typed/*.cics \
+    for script in "$root"/scripts/*/*.cics "$root"/scripts/told/*/*.cics \
         "$root"/examples/*.cics; do
         ! is_asked "$script" "$@" || add_script "$script"
     done

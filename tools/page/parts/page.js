@@ -17,6 +17,10 @@ const runs = [['a', 129, 9], ['j', 145, 9], ['s', 162, 8], ['A', 193, 9], ['J', 
 for (const [first, code, n] of runs)
   for (let i = 0; i < n; i++) codes[String.fromCharCode(first.charCodeAt(0) + i)] = (code + i).toString(16).toUpperCase();
 const hex = t => t[0] === 'X' ? t.slice(2, -1) : Array.from(t.slice(1, -1).replace(/''/g, "'"), c => codes[c]).join('');
+// Beside a text in digits its characters, as in a picture: a dot for each byte that has none.
+const characters = {};
+for (const c in codes) characters[codes[c]] = c;
+const beside = t => t && t[0] === 'X' ? make('small', '', '|' + hex(t).replace(/../g, x => characters[x] || '.') + '|') : '';
 const compare = (a, b) => a < b ? -1 : a > b ? 1 : 0;
 
 // ---- reading: boxes (files, queues, the values of enqueues) with their cells, units, events
@@ -186,7 +190,7 @@ const [bar, look, say, tasks, slider, where] = ['bar', 'look', 'say', 'tasks', '
 const link = n => { const a = make('a', '', 'line ' + event[n].line); a.href = '#s' + n; return a; };
 const tag = (cls, ...inside) => make('span', 'tag ' + cls, ...inside);
 const past = n => tag('past', event[n].label, ', ', link(n));
-const was = (words, old, n) => make('div', 'was', words, make('del', '', old), n ? past(n) : '');
+const was = (words, old, n) => make('div', 'was', words, make('del', '', old), beside(old), n ? past(n) : '');
 let waits = [];
 
 const showCell = c => {
@@ -196,7 +200,8 @@ const showCell = c => {
   c.el.hidden = v === undefined && old === undefined && !h && !waiting.length;
   if (c.el.hidden) return;
   c.el.className = (undone ? 'new back' : at && event[at].touches.has(c) ? 'new' : '') + (c.still ? ' still' : '');
-  left.append(v !== undefined ? make('code', '', v) : make('code', old === undefined ? 'key' : 'no', old === undefined ? c.key : old));
+  const shown = [v, old, c.key].find(t => t !== undefined);
+  left.append(make('code', v !== undefined ? '' : old === undefined ? 'key' : 'no', shown), beside(shown));
   if (v !== undefined && o && o.was !== undefined && !(m && m.was === o.was)) left.append(was('was', o.was));
   if (v !== undefined && m && m.was !== undefined) left.append(was('before ' + owner(m), m.was, m.wrote));
   const added = m && m.was === undefined ? ' added' : '', removed = v === undefined ? ' removed' : '', did = added + (added && removed && ' and') + removed;
