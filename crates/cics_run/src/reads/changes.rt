@@ -6,7 +6,7 @@ ghost use Rattle.cics_run.specs.Reads.Changes.{items_to, records_under, deletes_
 ghost use Rattle.cics_run.specs.Reads.Changes.{changed, done_by, act_at};
 
 use crate::reads::steps::{Act, Cell, Change};
-use cics_history::{OpRef};
+use cics_history::OpRef;
 use cics_names::{Condition, Items, Name8, NoMemory, Record, Verb};
 use cics_units::{Opening, Units};
 use std::alloc::Global;
