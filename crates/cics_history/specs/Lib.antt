@@ -21,3 +21,4 @@ pub mod Records
 pub mod Borrowed
 pub mod Packed
 pub mod Stamps
+pub mod Words

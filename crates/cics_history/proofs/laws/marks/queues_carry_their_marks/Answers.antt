@@ -1,5 +1,5 @@
 use Rattle.cics_history.proofs.MarkedParts.{queue_of-shown, first_of-seen, marks_of-written, marks_of-read, marks_of-deleted, marks_of-reader, marks_of-writer}
-use Rattle.cics_history.proofs.laws.queues_carry_their_marks.Goals as goal
+use Rattle.cics_history.proofs.laws.marks.queues_carry_their_marks.Goals as goal
 
 pub returns : goal.returns
 returns c = record {

@@ -1,5 +1,5 @@
 use Rattle.cics_history.proofs.CarriedImages.{carried_written, carried_read, carried_deleted, carried_ready, carried_undone, carried_marked}
-use Rattle.cics_history.proofs.laws.queues_give_the_images_of_their_marks.Goals as goal
+use Rattle.cics_history.proofs.laws.marks.queues_give_the_images_of_their_marks.Goals as goal
 
 pub returns : goal.returns
 returns c = record {

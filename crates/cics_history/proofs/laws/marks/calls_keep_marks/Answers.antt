@@ -1,5 +1,5 @@
 use Rattle.cics_history.proofs.InPlace.{initial_units-AreMarksOf, execution-AreMarksOf, commit-AreMarksOf, back_out-AreMarksOf, enqueue-AreMarksOf, dequeue-AreMarksOf, unlock-AreMarksOf, ts_reading-AreMarksOf, shows_of, committed_in_place, sees_where_shown}
-use Rattle.cics_history.proofs.laws.calls_keep_marks.Goals as goal
+use Rattle.cics_history.proofs.laws.marks.calls_keep_marks.Goals as goal
 
 pub returns : goal.returns
 returns c = record {
