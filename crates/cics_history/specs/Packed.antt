@@ -3,16 +3,16 @@
 use Rattle.std.specs.Prelude.{◌≡◌, ℕ, ◌+◌, ◌≤◌, Option, None, Some, IfSome, length, take, drop}
 use Rattle.std.specs.Bool.{then_some}
 use Rattle.cics_names.specs.Keyed.{Bytes}
-use Rattle.cics_history.specs.declared.packing.Form.{Form}
-use Rattle.cics_history.specs.declared.packing.Form.TheVariants.{Packed, Apart}
-use Rattle.cics_history.specs.declared.packing.Kind.{Kind}
-use Rattle.cics_history.specs.declared.packing.Kind.TheVariants as kind
+use Rattle.cics_history.specs.declared.packing.EntryForm.{EntryForm}
+use Rattle.cics_history.specs.declared.packing.EntryForm.TheVariants.{Packed, Apart}
+use Rattle.cics_history.specs.declared.packing.OpKind.{OpKind}
+use Rattle.cics_history.specs.declared.packing.OpKind.TheVariants as kind
 use Rattle.cics_history.specs.declared.ops.Answer.{Answer}
 use Rattle.cics_history.specs.declared.ops.Op.{Op}
 use Rattle.cics_history.specs.declared.ops.Op.TheVariants.{Write, Rewrite, Delete, DeleteGeneric, ReadUpdate, TsWrite, TsRewrite, TsDelete, TdWrite, TdRead, TdDelete}
 
 -- the command of a kind, with this key in its record, this text, and this number
-abbrev pub op_of : Kind → (key text : Bytes) → ℕ → Op
+abbrev pub op_of : OpKind → (key text : Bytes) → ℕ → Op
 op_of (kind.Write f) key text n = Write f key text
 op_of (kind.Rewrite f) key text n = Rewrite f key text
 op_of (kind.Delete f) key text n = Delete f text
@@ -26,13 +26,13 @@ op_of (kind.TdRead q) key text n = TdRead q
 op_of (kind.TdDelete q) key text n = TdDelete q
 
 -- the command of an entry
-abbrev pub op_in : Form → Op
+abbrev pub op_in : EntryForm → Op
 op_in (Packed kind condition is_given is_numbered key_length number text) =
     op_of kind (take key_length (drop number text)) text number
 op_in (Apart apart) = apart.value.op
 
 -- the answer of an entry
-abbrev pub answer_in : Form → Answer
+abbrev pub answer_in : EntryForm → Answer
 answer_in (Packed kind condition is_given is_numbered key_length number text) = record {
   condition = condition;
   content = then_some is_given text;

@@ -9,7 +9,7 @@ ghost use Rattle.cics_history.specs.Records.{is_file_op, file_of, key_of};
 ghost use Rattle.cics_history.specs.Packed.{IsPackable, IsTold, op_of};
 
 use crate::borrowed::OpRef;
-use crate::packing::{Apart, Form, Kind, number_of, or_empty, part_of};
+use crate::packing::{Apart, EntryForm, OpKind, number_of, or_empty, part_of};
 use crate::resources::UnitId;
 use cics_names::{Condition, Name4, Name8, NoMemory, Record};
 use std::alloc::Global;
@@ -185,30 +185,30 @@ impl Op {
         alloc: Global,
         content: Option<Record>,
         number: u64,
-    ) -> (Kind, u8, Record)
+    ) -> (OpKind, u8, Record)
         requires { IsTold self content number }
         ensures op { op_of result.0 (take result.1 (drop number result.2)) result.2 number ≡ self }
         ensures content { IfSome content (λ given. result.2 ≡ given) }
     {
         match self {
-            Op::Write { file, key, from } => (Kind::Write(file), key.len() as u8, from),
-            Op::Rewrite { file, key, from } => (Kind::Rewrite(file), key.len() as u8, from),
-            Op::Delete { file, key } => (Kind::Delete(file), 0, key),
-            Op::DeleteGeneric { file, prefix } => (Kind::DeleteGeneric(file), 0, prefix),
+            Op::Write { file, key, from } => (OpKind::Write(file), key.len() as u8, from),
+            Op::Rewrite { file, key, from } => (OpKind::Rewrite(file), key.len() as u8, from),
+            Op::Delete { file, key } => (OpKind::Delete(file), 0, key),
+            Op::DeleteGeneric { file, prefix } => (OpKind::DeleteGeneric(file), 0, prefix),
             Op::ReadUpdate { file, key } => {
                 let count = key.len() as u8;
-                (Kind::ReadUpdate(file), count, content.unwrap_or(key))
+                (OpKind::ReadUpdate(file), count, content.unwrap_or(key))
             }
-            Op::TsWrite { queue, from } => (Kind::TsWrite(queue), 0, from),
+            Op::TsWrite { queue, from } => (OpKind::TsWrite(queue), 0, from),
             Op::TsRewrite {
                 queue,
                 item: _item,
                 from,
-            } => (Kind::TsRewrite(queue), 0, from),
-            Op::TsDelete { queue } => (Kind::TsDelete(queue), 0, or_empty(alloc, content)),
-            Op::TdWrite { queue, from } => (Kind::TdWrite(queue), 0, from),
-            Op::TdRead { queue } => (Kind::TdRead(queue), 0, or_empty(alloc, content)),
-            Op::TdDelete { queue } => (Kind::TdDelete(queue), 0, or_empty(alloc, content)),
+            } => (OpKind::TsRewrite(queue), 0, from),
+            Op::TsDelete { queue } => (OpKind::TsDelete(queue), 0, or_empty(alloc, content)),
+            Op::TdWrite { queue, from } => (OpKind::TdWrite(queue), 0, from),
+            Op::TdRead { queue } => (OpKind::TdRead(queue), 0, or_empty(alloc, content)),
+            Op::TdDelete { queue } => (OpKind::TdDelete(queue), 0, or_empty(alloc, content)),
         }
     }
 }
@@ -249,7 +249,7 @@ impl Answer {
 #[derive(Drop)]
 pub struct Entry {
     unit: UnitId,
-    form: Form,
+    form: EntryForm,
 }
 
 impl Model for Entry {
@@ -280,12 +280,12 @@ impl Entry {
             IsOk result }
     {
         let Some(number) = number_of(&op, &answer) else {
-            let form = Form::Apart(Box::new(alloc, Apart { op, answer })?);
+            let form = EntryForm::Apart(Box::new(alloc, Apart { op, answer })?);
             return Ok(Entry { unit, form });
         };
         let (is_given, is_numbered) = (answer.content.is_some(), answer.number.is_some());
         let (kind, key_length, text) = op.packed(alloc, answer.content, number);
-        let form = Form::Packed {
+        let form = EntryForm::Packed {
             kind,
             condition: answer.condition,
             is_given,
@@ -309,7 +309,7 @@ impl Entry {
         ensures { as_op result ≡ self.now.op }
     {
         match &self.form {
-            Form::Packed {
+            EntryForm::Packed {
                 kind,
                 key_length,
                 number,
@@ -319,7 +319,7 @@ impl Entry {
                 let text = text.bytes();
                 kind.op(part_of(text, *number, *key_length), text, *number)
             }
-            Form::Apart(apart) => OpRef::of(&apart.op),
+            EntryForm::Apart(apart) => OpRef::of(&apart.op),
         }
     }
 
@@ -328,8 +328,8 @@ impl Entry {
         ensures { result ≡ self.now.answer.condition }
     {
         match &self.form {
-            Form::Packed { condition, .. } => *condition,
-            Form::Apart(apart) => apart.answer.condition,
+            EntryForm::Packed { condition, .. } => *condition,
+            EntryForm::Apart(apart) => apart.answer.condition,
         }
     }
 
@@ -338,8 +338,8 @@ impl Entry {
         ensures { option_copied result ≡ self.now.answer.content }
     {
         match &self.form {
-            Form::Packed { is_given, text, .. } => is_given.then_some(text),
-            Form::Apart(apart) => apart.answer.content.as_ref(),
+            EntryForm::Packed { is_given, text, .. } => is_given.then_some(text),
+            EntryForm::Apart(apart) => apart.answer.content.as_ref(),
         }
     }
 
@@ -348,12 +348,12 @@ impl Entry {
         ensures { result ≡ self.now.answer.number }
     {
         match &self.form {
-            Form::Packed {
+            EntryForm::Packed {
                 is_numbered,
                 number,
                 ..
             } => is_numbered.then_some(*number),
-            Form::Apart(apart) => apart.answer.number,
+            EntryForm::Apart(apart) => apart.answer.number,
         }
     }
 }

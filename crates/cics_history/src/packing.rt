@@ -12,7 +12,7 @@ use std::alloc::Global;
 
 // What kind of command an entry has, with the file or queue that it names.
 #[derive(Clone, Copy)]
-pub(crate) enum Kind {
+pub(crate) enum OpKind {
     Write(Name8),
     Rewrite(Name8),
     Delete(Name8),
@@ -26,23 +26,23 @@ pub(crate) enum Kind {
     TdDelete(Name4),
 }
 
-impl Kind {
+impl OpKind {
     // Returns the command of this kind that has this key in its record, this text and this number.
     pub(crate) fn op<'a>(&self, key: &'a [u8], text: &'a [u8], number: u64) -> OpRef<'a>
         ensures { as_op result ≡ op_of self.now key.now text.now number }
     {
         match *self {
-            Kind::Write(file) => OpRef::Write(file, key, text),
-            Kind::Rewrite(file) => OpRef::Rewrite(file, key, text),
-            Kind::Delete(file) => OpRef::Delete(file, text),
-            Kind::DeleteGeneric(file) => OpRef::DeleteGeneric(file, text),
-            Kind::ReadUpdate(file) => OpRef::ReadUpdate(file, key),
-            Kind::TsWrite(queue) => OpRef::TsWrite(queue, text),
-            Kind::TsRewrite(queue) => OpRef::TsRewrite(queue, number, text),
-            Kind::TsDelete(queue) => OpRef::TsDelete(queue),
-            Kind::TdWrite(queue) => OpRef::TdWrite(queue, text),
-            Kind::TdRead(queue) => OpRef::TdRead(queue),
-            Kind::TdDelete(queue) => OpRef::TdDelete(queue),
+            OpKind::Write(file) => OpRef::Write(file, key, text),
+            OpKind::Rewrite(file) => OpRef::Rewrite(file, key, text),
+            OpKind::Delete(file) => OpRef::Delete(file, text),
+            OpKind::DeleteGeneric(file) => OpRef::DeleteGeneric(file, text),
+            OpKind::ReadUpdate(file) => OpRef::ReadUpdate(file, key),
+            OpKind::TsWrite(queue) => OpRef::TsWrite(queue, text),
+            OpKind::TsRewrite(queue) => OpRef::TsRewrite(queue, number, text),
+            OpKind::TsDelete(queue) => OpRef::TsDelete(queue),
+            OpKind::TdWrite(queue) => OpRef::TdWrite(queue, text),
+            OpKind::TdRead(queue) => OpRef::TdRead(queue),
+            OpKind::TdDelete(queue) => OpRef::TdDelete(queue),
         }
     }
 }
@@ -57,10 +57,10 @@ pub(crate) struct Apart {
 // A command and its answer. The fields of `Packed` are its own, and not those of a struct: so an
 // entry has no room for a second tag.
 #[derive(Drop)]
-pub(crate) enum Form {
+pub(crate) enum EntryForm {
     // What a region executes: one text, and a key that lies in a record isn't kept beside it.
     Packed {
-        kind: Kind,
+        kind: OpKind,
         condition: Condition,
         // Whether the text is the record of the answer.
         is_given: bool,
