@@ -16,8 +16,8 @@ use Rattle.cics_enqueue.specs.declared.enqueues.Holding.{Holding}
 use Rattle.cics_history.specs.declared.resources.Resource.{Resource}
 use Rattle.cics_history.specs.declared.resources.Resource.TheVariants.{FileKey, FilePrefix}
 use Rattle.cics_enqueue.specs.Borrowed.{named}
-use Rattle.cics_enqueue.specs.declared.borrowed.Kind.{Kind}
-use Rattle.cics_enqueue.specs.declared.borrowed.Kind.TheVariants.{FileKey as KeyAt, FilePrefix as PrefixAt, TsQueue as TsQueueOf, TdRead as ReadingEndOf, TdWrite as WritingEndOf, User as UserAt}
+use Rattle.cics_enqueue.specs.declared.borrowed.ResourceKind.{ResourceKind}
+use Rattle.cics_enqueue.specs.declared.borrowed.ResourceKind.TheVariants.{FileKey as KeyAt, FilePrefix as PrefixAt, TsQueue as TsQueueOf, TdRead as ReadingEndOf, TdWrite as WritingEndOf, User as UserAt}
 use Rattle.cics_enqueue.specs.Kept.{Entries, Owned, IsKept, owns, is_units, AreKeys, table_of, seen, bytes_and_unit, first_entry, is_others_under, others_unit, first_cover, lesser_shown}
 use Rattle.cics_history.specs.Resources.{bytes_of}
 use Rattle.cics_history.specs.Holding.{is_other}
@@ -277,7 +277,7 @@ lesser_of-two a b k p h o is_a is_b = (λ i. option_map second_of (lesser_shown 
     step false = refl
 
 -- what is no record and no prefix conflicts with itself alone
-pub holder_over-plain : (k : Kind) (asker : Option ℕ) (t : Table) → ((f : Bytes) (b : Bor Bytes) → k ≡ KeyAt f b → ⊥) → ((f : Bytes) (b : Bor Bytes) → k ≡ PrefixAt f b → ⊥) → holder_over (named k) asker t ≡ other_than asker (holder_of (named k) t)
+pub holder_over-plain : (k : ResourceKind) (asker : Option ℕ) (t : Table) → ((f : Bytes) (b : Bor Bytes) → k ≡ KeyAt f b → ⊥) → ((f : Bytes) (b : Bor Bytes) → k ≡ PrefixAt f b → ⊥) → holder_over (named k) asker t ≡ other_than asker (holder_of (named k) t)
 holder_over-plain (KeyAt f b) asker t no_key no_prefix = absurd (no_key f b refl)
 holder_over-plain (PrefixAt f b) asker t no_key no_prefix = absurd (no_prefix f b refl)
 holder_over-plain (TsQueueOf q) asker t no_key no_prefix = refl

@@ -12,7 +12,7 @@ use std::marker::Model;
 
 // The kinds of resources, each with a borrow of its bytes.
 #[derive(Clone, Copy)]
-pub(crate) enum Kind<'a> {
+pub(crate) enum ResourceKind<'a> {
     FileKey(Name8, &'a [u8]),
     TsQueue(Name8),
     TdRead(Name4),
@@ -25,7 +25,7 @@ pub(crate) enum Kind<'a> {
 /// `Resource` has room for 255 bytes. Contracts see it as the resource.
 #[derive(Drop)]
 pub struct ResourceRef<'a> {
-    pub(crate) kind: Kind<'a>,
+    pub(crate) kind: ResourceKind<'a>,
 }
 
 impl<'a> Model for ResourceRef<'a> {
@@ -47,7 +47,7 @@ impl<'a> ResourceRef<'a> {
         ensures { result ≡ FileKey file (bytes_of key.now) }
     {
         ResourceRef {
-            kind: Kind::FileKey(file, key),
+            kind: ResourceKind::FileKey(file, key),
         }
     }
 
@@ -58,7 +58,7 @@ impl<'a> ResourceRef<'a> {
         ensures { result ≡ FilePrefix file (bytes_of bytes.now) }
     {
         ResourceRef {
-            kind: Kind::FilePrefix(file, bytes),
+            kind: ResourceKind::FilePrefix(file, bytes),
         }
     }
 
@@ -68,7 +68,7 @@ impl<'a> ResourceRef<'a> {
         ensures { result ≡ User (bytes_of bytes.now) }
     {
         ResourceRef {
-            kind: Kind::User(bytes),
+            kind: ResourceKind::User(bytes),
         }
     }
 
@@ -77,7 +77,7 @@ impl<'a> ResourceRef<'a> {
         ensures { result ≡ TsQueue queue }
     {
         ResourceRef {
-            kind: Kind::TsQueue(queue),
+            kind: ResourceKind::TsQueue(queue),
         }
     }
 
@@ -86,7 +86,7 @@ impl<'a> ResourceRef<'a> {
         ensures { result ≡ TdRead queue }
     {
         ResourceRef {
-            kind: Kind::TdRead(queue),
+            kind: ResourceKind::TdRead(queue),
         }
     }
 
@@ -95,7 +95,7 @@ impl<'a> ResourceRef<'a> {
         ensures { result ≡ TdWrite queue }
     {
         ResourceRef {
-            kind: Kind::TdWrite(queue),
+            kind: ResourceKind::TdWrite(queue),
         }
     }
 
@@ -104,12 +104,15 @@ impl<'a> ResourceRef<'a> {
         ensures { result ≡ resource.now }
     {
         let kind = match resource {
-            Resource::FileKey(file, key) => Kind::FileKey(*file, key.as_slice()),
-            Resource::TsQueue(queue) => Kind::TsQueue(*queue),
-            Resource::TdRead(queue) => Kind::TdRead(*queue),
-            Resource::TdWrite(queue) => Kind::TdWrite(*queue),
-            Resource::User(value) => Kind::User(value.as_slice()),
-            Resource::FilePrefix(file, prefix) => Kind::FilePrefix(*file, prefix.as_slice()),
+            Resource::FileKey(file, key) => ResourceKind::FileKey(*file, key.as_slice()),
+            Resource::TsQueue(queue) => ResourceKind::TsQueue(*queue),
+            Resource::TdRead(queue) => ResourceKind::TdRead(*queue),
+            Resource::TdWrite(queue) => ResourceKind::TdWrite(*queue),
+            Resource::User(value) => ResourceKind::User(value.as_slice()),
+            Resource::FilePrefix(file, prefix) => ResourceKind::FilePrefix(
+                *file,
+                prefix.as_slice(),
+            ),
         };
         ResourceRef { kind }
     }

@@ -10,9 +10,9 @@ ghost use Rattle.cics_names.specs.Keyed.{is_same};
 ghost use Rattle.cics_enqueue.specs.Table.{resource_key};
 ghost use Rattle.cics_enqueue.specs.Values.{value_in};
 
-use crate::borrowed::{Kind, ResourceRef};
+use crate::borrowed::{ResourceKind, ResourceRef};
 use crate::enqueues::Holding;
-use crate::{Key, MOST};
+use crate::{Key, MOST_KEY_BYTES};
 use arrayvec::ArrayVec;
 use cics_names::{Name4, Name8, NoMemory};
 use std::collections::BTreeMap;
@@ -45,7 +45,7 @@ pub(crate) fn value_in(key: &[u8]) -> Option<&[u8]>
 // Adds bytes at the end of a table key that has room for them.
 //
 // It is filled in place: to return it would move all its bytes each time.
-fn put(key: &mut ArrayVec<u8, MOST>, bytes: &[u8])
+fn put(key: &mut ArrayVec<u8, MOST_KEY_BYTES>, bytes: &[u8])
     requires room { length key.old.items + length bytes.now ≤ 265 }
     ensures { key.new.items ≡ key.old.items ++ bytes.now }
 {
@@ -56,7 +56,7 @@ fn put(key: &mut ArrayVec<u8, MOST>, bytes: &[u8])
 }
 
 // Fills an empty table key with that of a record of a file or a prefix of keys, by the kind.
-fn put_file(key: &mut ArrayVec<u8, MOST>, kind: u8, file: &Name8, bytes: &[u8])
+fn put_file(key: &mut ArrayVec<u8, MOST_KEY_BYTES>, kind: u8, file: &Name8, bytes: &[u8])
     requires empty { key.old.items ≡ [] }
     requires most { length bytes.now ≤ 255 }
     ensures { key.new.items ≡ kind ∷ length file.now ∷ (file.now ++ bytes.now) }
@@ -67,7 +67,7 @@ fn put_file(key: &mut ArrayVec<u8, MOST>, kind: u8, file: &Name8, bytes: &[u8])
 }
 
 // Returns the table key of a record of a file or a prefix of keys, by the kind.
-pub(crate) fn file_bytes(kind: u8, file: Name8, bytes: &[u8]) -> ArrayVec<u8, MOST>
+pub(crate) fn file_bytes(kind: u8, file: Name8, bytes: &[u8]) -> ArrayVec<u8, MOST_KEY_BYTES>
     requires most { length bytes.now ≤ 255 }
     ensures value { result.items ≡ kind ∷ length file ∷ (file ++ bytes.now) }
     ensures len { length result.items ≡ length bytes.now + 10 }
@@ -96,26 +96,26 @@ fn td_bytes(kind: u8, queue: &Name4) -> [u8; 5]
 }
 
 // Fills an empty table key with that of a resource.
-fn put_resource(key: &mut ArrayVec<u8, MOST>, resource: &ResourceRef<'_>)
+fn put_resource(key: &mut ArrayVec<u8, MOST_KEY_BYTES>, resource: &ResourceRef<'_>)
     requires empty { key.old.items ≡ [] }
     ensures { key.new.items ≡ resource_key resource.now }
 {
     match &resource.kind {
-        Kind::FileKey(file, bytes) => put_file(key, KEY, file, bytes),
-        Kind::TsQueue(queue) => put(key, &ts_bytes(queue)),
-        Kind::TdRead(queue) => put(key, &td_bytes(TD_READ, queue)),
-        Kind::TdWrite(queue) => put(key, &td_bytes(TD_WRITE, queue)),
-        Kind::User(value) => {
+        ResourceKind::FileKey(file, bytes) => put_file(key, KEY, file, bytes),
+        ResourceKind::TsQueue(queue) => put(key, &ts_bytes(queue)),
+        ResourceKind::TdRead(queue) => put(key, &td_bytes(TD_READ, queue)),
+        ResourceKind::TdWrite(queue) => put(key, &td_bytes(TD_WRITE, queue)),
+        ResourceKind::User(value) => {
             put(key, &[VALUE]);
             put(key, value);
         }
-        Kind::FilePrefix(file, bytes) => put_file(key, PREFIX, file, bytes),
+        ResourceKind::FilePrefix(file, bytes) => put_file(key, PREFIX, file, bytes),
     }
 }
 
 // Returns the table key of a resource. It takes no memory, and is used if memory for a `Key` is
 // refused.
-pub(crate) fn compact(resource: &ResourceRef<'_>) -> ArrayVec<u8, MOST>
+pub(crate) fn compact(resource: &ResourceRef<'_>) -> ArrayVec<u8, MOST_KEY_BYTES>
     ensures { result.items ≡ resource_key resource.now }
 {
     let mut key = ArrayVec::new();
@@ -155,12 +155,12 @@ pub(crate) fn set_resource(key: &mut Key, resource: &ResourceRef<'_>) -> Result<
     ensures set { OnOk result (key.new ≡ resource_key resource.now) }
 {
     match &resource.kind {
-        Kind::FileKey(file, bytes) => set_file(key, KEY, file, bytes),
-        Kind::TsQueue(queue) => key.set(&ts_bytes(queue), &[]),
-        Kind::TdRead(queue) => key.set(&td_bytes(TD_READ, queue), &[]),
-        Kind::TdWrite(queue) => key.set(&td_bytes(TD_WRITE, queue), &[]),
-        Kind::User(value) => set_value(key, value),
-        Kind::FilePrefix(file, bytes) => set_file(key, PREFIX, file, bytes),
+        ResourceKind::FileKey(file, bytes) => set_file(key, KEY, file, bytes),
+        ResourceKind::TsQueue(queue) => key.set(&ts_bytes(queue), &[]),
+        ResourceKind::TdRead(queue) => key.set(&td_bytes(TD_READ, queue), &[]),
+        ResourceKind::TdWrite(queue) => key.set(&td_bytes(TD_WRITE, queue), &[]),
+        ResourceKind::User(value) => set_value(key, value),
+        ResourceKind::FilePrefix(file, bytes) => set_file(key, PREFIX, file, bytes),
     }
 }
 

@@ -11,7 +11,7 @@ ghost use Rattle.cics_enqueue.specs.Table.{held_with_prefix, other_than, IsFreeB
 ghost use Rattle.cics_enqueue.specs.Values.{values_of, value_stamp};
 
 use crate::Key;
-use crate::borrowed::{Kind, ResourceRef};
+use crate::borrowed::{ResourceKind, ResourceRef};
 use crate::compact::{held, value_in};
 use crate::conflicts::{Search, has_prefixes, is_another};
 use crate::owned::{self, Owned};
@@ -177,8 +177,8 @@ impl Enqueues {
             return None;
         }
         match &resource.kind {
-            Kind::FilePrefix(file, prefix) => self.held_with_prefix(*file, prefix, but_not),
-            Kind::FileKey(file, key) => self.holder_of_key(*file, key, &but_not),
+            ResourceKind::FilePrefix(file, prefix) => self.held_with_prefix(*file, prefix, but_not),
+            ResourceKind::FileKey(file, key) => self.holder_of_key(*file, key, &but_not),
             _ => self.other_of(resource, &but_not),
         }
     }

@@ -11,7 +11,7 @@ use std::cmp::Ordering;
 use std::marker::Model;
 
 /// The most bytes of a table key: two, a file's name of eight and a key of 255.
-pub const MOST: usize = 265;
+pub const MOST_KEY_BYTES: usize = 265;
 
 // The most bytes of a key that its head has.
 const SHORT: usize = 23;
@@ -96,7 +96,7 @@ fn refill(bytes: &mut Vec<u8>, front: &[u8], rest: &[u8]) -> Result<(), NoMemory
     ensures err { OnErr result (bytes.new.items ≡ []) }
 {
     bytes.clear();
-    bytes.reserve(MOST)?;
+    bytes.reserve(MOST_KEY_BYTES)?;
     if front.len() + rest.len() > SHORT {
         let _ = bytes.extend_from_slice(front);
         let _ = bytes.extend_from_slice(rest);

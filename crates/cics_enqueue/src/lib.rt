@@ -29,4 +29,4 @@ mod under;
 pub use borrowed::ResourceRef;
 pub use cics_history::{Resource, UnitId};
 pub use enqueues::{Enqueues, TakeFault};
-pub use keys::{Key, MOST};
+pub use keys::{Key, MOST_KEY_BYTES};
