@@ -27,14 +27,12 @@ ghost use Rattle.cics_dispatch.specs.Machine.Machine.{is_waiting};
 ghost use Rattle.cics_dispatch.specs.Machine.Machine.{unit_closed, state_after};
 ghost use Rattle.cics_dispatch.specs.Machine.Checks.{reason_of};
 ghost use Rattle.cics_history.specs.Execution.{IsOpenUnit, IsOpenOrNone};
-ghost use Rattle.cics_history.specs.Headline.{IsHeadline};
-ghost use Rattle.cics_history.specs.Serial.{IsSerializable};
 ghost use Rattle.cics_history.specs.Records.{key_of};
 ghost use Rattle.cics_dispatch.specs.Machine.Steps.{answered, attached, busy_of, key_read, op_of};
 ghost use Rattle.cics_dispatch.specs.Machine.Steps.{suspended};
 ghost use Rattle.cics_dispatch.specs.Machine.Waking.{clock_set};
 ghost use Rattle.cics_history.specs.State.{file_recoverable};
-ghost use Rattle.cics_dispatch.specs.Machine.Regions.{IsRegionKept};
+ghost use Rattle.cics_dispatch.specs.Machine.Regions.{ArePromised, IsRegionKept};
 ghost use Rattle.cics_dispatch.specs.Machine.Settled.{is_keeping};
 ghost use Rattle.cics_dispatch.specs.Machine.Blockers.{unit_of};
 ghost use Rattle.cics_dispatch.specs.Machine.Answers.{IsStep, attach_may_want};
@@ -98,11 +96,9 @@ fn busy_condition(verb: &Verb) -> Option<Condition>
 // Ends a unit, if there is one.
 fn end_unit(units: &mut Units, unit: Option<UnitId>, ending: Ending)
     requires is_open { IsOpenOrNone units.old.state unit }
-    requires headline { IsHeadline units.old }
-    requires serializable { IsSerializable units.old }
+    requires promised { ArePromised units.old }
     ensures state { units.new.state ≡ units_after units.old.state unit (state_after ending) }
-    ensures headline { IsHeadline units.new }
-    ensures serializable { IsSerializable units.new }
+    ensures promised { ArePromised units.new }
 {
     let Some(unit) = unit else {
         return;

@@ -36,7 +36,7 @@ use std::marker::Model;
 /// The tasks of a region, their waiting commands, and the files, queues and units that they share.
 ///
 /// Each call that changes a region is one step of its machine: it returns the step's outcome, and
-/// leaves its state. After each call two clauses hold:
+/// leaves its state. After each of them two clauses hold, which `promises` gives at any time:
 ///
 /// - `headline`: files and queues equal a replay of the surviving entries. Those are the executed
 ///   updating commands without those of backed-out units on recoverable files and queues. The
@@ -232,8 +232,6 @@ impl Region {
     /// and no task has waited too long. May be conservatively false. Cost: O(1).
     pub fn is_at_rest(&self) -> bool
         ensures rest { OnTrue result (IsAtRest self.now.machine) }
-        ensures headline { IsHeadlineRegion self.now }
-        ensures serializable { IsSerializableRegion self.now }
     {
         self.is_settled && self.is_in_time
     }
@@ -416,8 +414,6 @@ impl Region {
     pub fn units(&self) -> &Units
         ensures units { result.now
             ≡ record { state = self.now.machine.units; store = self.now.store } }
-        ensures headline { IsHeadlineRegion self.now }
-        ensures serializable { IsSerializableRegion self.now }
     {
         self.dispatcher.units()
     }
@@ -433,8 +429,6 @@ impl Region {
         ensures listing { IfOk result (λ listing. listing ≡ region_listing self.now) }
         ensures replayed { IfOk result (λ listing.
             without_tasks listing ≡ replayed_listing self.now) }
-        ensures headline { IsHeadlineRegion self.now }
-        ensures serializable { IsSerializableRegion self.now }
     {
         self.dispatcher.listing()
     }
@@ -448,8 +442,6 @@ impl Region {
     /// Cost: O(log n) for each record loaded and each command executed, for n records in its file.
     pub fn replayed(&self) -> Result<Listing, NoMemory>
         ensures replayed { IfOk result (λ listing. listing ≡ replayed_listing self.now) }
-        ensures headline { IsHeadlineRegion self.now }
-        ensures serializable { IsSerializableRegion self.now }
     {
         self.dispatcher.replayed()
     }

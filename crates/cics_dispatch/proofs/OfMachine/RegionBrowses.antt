@@ -8,8 +8,6 @@ use Rattle.cics_names.specs.declared.conditions.Condition.TheVariants.{Normal, N
 use Rattle.cics_browse.specs.Positions.{Position, finds_start, start_at, reset_condition, after_reset}
 use Rattle.cics_browse.specs.declared.browses.Browsed.{Browsed}
 use Rattle.cics_history.specs.State.{UnitsValue}
-use Rattle.cics_history.specs.Headline.{IsHeadline}
-use Rattle.cics_history.specs.Serial.{IsSerializable}
 use Rattle.cics_dispatch.specs.Machine.Browses.{read_on, after_read_on}
 use Rattle.cics_dispatch.specs.Machine.BrowseLoans.{moved, IsMoved}
 use Rattle.cics_dispatch.specs.Machine.TasksLoans.{with_browses_of, with_browses_at}
@@ -17,7 +15,7 @@ use Rattle.cics_dispatch.specs.Machine.Machine.{Machine, Task, Suspended, Region
 use Rattle.cics_dispatch.specs.Machine.Replies.{plain, cut}
 use Rattle.cics_dispatch.specs.Machine.Steps.{Stepped, answered, unlocked, started, reset, browsed, browse_reply, with_browse, browse_ended}
 use Rattle.cics_dispatch.specs.Machine.Calls.{IsStepOf, reading_on}
-use Rattle.cics_dispatch.specs.Machine.Regions.{region_of, IsRegionKept}
+use Rattle.cics_dispatch.specs.Machine.Regions.{region_of, IsRegionKept, ArePromised}
 use Rattle.cics_dispatch.specs.declared.machine.browses.Direction.{Direction}
 use Rattle.cics_dispatch.specs.declared.machine.outcomes.Outcome.{Outcome}
 use Rattle.cics_dispatch.specs.declared.machine.outcomes.Reply.{Reply}
@@ -51,11 +49,11 @@ module _ {units : UnitsValue} {tasks : List Task} {waiting : List Suspended} {cl
   machine = (region_of units tasks waiting clock is_down).machine
 
   -- UNLOCK
-  pub unlocked_kept : (after : UnitsValue) (f : Bytes) → is_waiting waiting t.label ≡ false → with_units machine after.state ≡ unlocked machine t.unit f → IsHeadline after → IsSerializable after →
+  pub unlocked_kept : (after : UnitsValue) (f : Bytes) → is_waiting waiting t.label ≡ false → with_units machine after.state ≡ unlocked machine t.unit f → ArePromised after →
       IsRegionKept (region_of after tasks waiting clock is_down)
-  unlocked_kept after f awake is headline serializable =
+  unlocked_kept after f awake is promised =
       kept_as (region_of after tasks waiting clock is_down) (unlocked machine t.unit f) is
-      (kept_unlocked machine at t kept.tasks there awake f) (owned_unlocked machine t.unit f kept.owned) (record { headline = headline }) (record { serializable = serializable })
+      (kept_unlocked machine at t kept.tasks there awake f) (owned_unlocked machine t.unit f kept.owned) (record { headline = promised.0 }) (record { serializable = promised.1 })
 
   pub unlock_answered : (after : UnitsValue) (f : Bytes) (resp : Bool) (r : Reply) → with_units machine after.state ≡ unlocked machine t.unit f → r ≡ plain Normal →
       answered (region_of after tasks waiting clock is_down).machine t resp r ≡ answered (unlocked machine t.unit f) t resp (plain Normal)

@@ -14,7 +14,7 @@ use Rattle.cics_history.specs.declared.ops.Enqueued.TheVariants.{Taken, CountFul
 use Rattle.cics_dispatch.specs.Machine.Machine.{Machine, Task, Suspended, replaced, is_waiting, with_units, with_task, with_unit}
 use Rattle.cics_dispatch.specs.Machine.Replies.{plain}
 use Rattle.cics_dispatch.specs.Machine.Steps.{by_op, other_command, answered, made_to_wait, busy_of, enqueued, dequeued, units_dequeued}
-use Rattle.cics_dispatch.specs.Machine.Regions.{region_of, IsRegionKept}
+use Rattle.cics_dispatch.specs.Machine.Regions.{region_of, IsRegionKept, ArePromised}
 use Rattle.cics_dispatch.specs.Machine.Tasks.{HasNoOwner}
 use Rattle.cics_names.specs.declared.commands.Command.{Command}
 use Rattle.cics_names.specs.declared.commands.Verb.{Verb}
@@ -40,10 +40,10 @@ module _ {units : UnitsValue} {tasks : List Task} {waiting : List Suspended} {cl
   machine = (region_of units tasks waiting clock is_down).machine
 
   -- the tasks stay, and each open unit is its task's
-  pub dequeued_kept : is_waiting waiting t.label ≡ false → IsHeadline after → IsSerializable after → IsRegionKept (region_of after tasks waiting clock is_down)
-  dequeued_kept awake headline serializable =
+  pub dequeued_kept : is_waiting waiting t.label ≡ false → ArePromised after → IsRegionKept (region_of after tasks waiting clock is_down)
+  dequeued_kept awake promised =
       kept_as (region_of after tasks waiting clock is_down) (dequeued machine t.unit value) (λ i. with_units machine (state i))
-      (kept_dequeued machine at t kept.tasks there awake value) (owned_dequeued machine t.unit value kept.owned) (record { headline = headline }) (record { serializable = serializable })
+      (kept_dequeued machine at t kept.tasks there awake value) (owned_dequeued machine t.unit value kept.owned) (record { headline = promised.0 }) (record { serializable = promised.1 })
 
   -- the task is told that it is done
   pub dequeue_answered : (resp : Bool) (r : Reply) → r ≡ plain Normal →

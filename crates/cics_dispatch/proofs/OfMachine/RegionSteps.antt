@@ -21,7 +21,7 @@ use Rattle.cics_dispatch.specs.Machine.Machine.{Machine, Task, Suspended, Region
 use Rattle.cics_dispatch.specs.Machine.Answers.{IsHeadlineRegion, IsSerializableRegion}
 use Rattle.cics_dispatch.specs.Machine.KeptTasks.{AreTasksKept}
 use Rattle.cics_dispatch.specs.Machine.OwnedUnits.{AreUnitsOwned}
-use Rattle.cics_dispatch.specs.Machine.Regions.{region_of, IsRegionKept}
+use Rattle.cics_dispatch.specs.Machine.Regions.{region_of, IsRegionKept, ArePromised}
 use Rattle.cics_dispatch.specs.Machine.Tasks.{own_label, IsOwn, HasNoOwner}
 use Rattle.cics_dispatch.specs.Machine.Steps.{Stepped, executed, by_op, answered, reply_of}
 use Rattle.cics_dispatch.specs.Machine.Calls.{OfTask, IsAwake, HasBrowse, HasReady, IsStepOf, IsStepOrRefused, IsAttempt, going_on, waiting_for}
@@ -57,18 +57,18 @@ module _ {units : UnitsValue} {tasks : List Task} {waiting : List Suspended} {cl
   -- the unit of a task ends
   pub closed_kept : (after : UnitsValue) (ts : List Task) (at : ℕ) (t : Task) (outcome : UnitState) (has_ended : Bool) → slice_get tasks at ≡ Some t → is_waiting waiting t.label ≡ false →
       is_open outcome ≡ false → after.state ≡ units_after units.state t.unit outcome → ts ≡ replaced tasks (record t { unit = None; browses = []; has_ended = has_ended }) →
-      IsHeadline after → IsSerializable after → IsRegionKept (region_of after ts waiting clock is_down)
-  closed_kept after ts at t outcome has_ended there awake shut state is headline serializable =
+      ArePromised after → IsRegionKept (region_of after ts waiting clock is_down)
+  closed_kept after ts at t outcome has_ended there awake shut state is promised =
       kept_as (region_of after ts waiting clock is_down) (unit_closed machine t outcome has_ended) (λ i. record { units = state i; tasks = is i; waiting = waiting; clock = clock; is_down = is_down })
-      (kept_closed machine at t kept.tasks there awake outcome has_ended) (owned_closed machine t at there kept.tasks.labels kept.owned outcome has_ended shut) (record { headline = headline }) (record { serializable = serializable })
+      (kept_closed machine at t kept.tasks there awake outcome has_ended) (owned_closed machine t at there kept.tasks.labels kept.owned outcome has_ended shut) (record { headline = promised.0 }) (record { serializable = promised.1 })
 
   -- a task is abended
   pub abended_kept : (after : UnitsValue) (ts : List Task) (ws : List Suspended) (at : ℕ) (t : Task) → slice_get tasks at ≡ Some t →
       after.state ≡ units_after units.state t.unit BackedOut → ts ≡ replaced tasks (record t { unit = None; browses = []; has_ended = true }) → ws ≡ not_waiting waiting t.label →
-      IsHeadline after → IsSerializable after → IsRegionKept (region_of after ts ws clock is_down)
-  abended_kept after ts ws at t there state is gone headline serializable =
+      ArePromised after → IsRegionKept (region_of after ts ws clock is_down)
+  abended_kept after ts ws at t there state is gone promised =
       kept_as (region_of after ts ws clock is_down) (abended machine t) (λ i. record { units = state i; tasks = is i; waiting = gone i; clock = clock; is_down = is_down })
-      (kept_abended machine at t kept.tasks there) (owned_abended machine t at there kept.tasks.labels kept.owned) (record { headline = headline }) (record { serializable = serializable })
+      (kept_abended machine at t kept.tasks there) (owned_abended machine t at there kept.tasks.labels kept.owned) (record { headline = promised.0 }) (record { serializable = promised.1 })
 
 -- a task that stands at its place stays if it is put in its own place
 pub replaced_same : (ts : List Task) (at : ℕ) (t : Task) → IsOwn own_label ts → slice_get ts at ≡ Some t → replaced ts t ≡ ts

@@ -5,13 +5,12 @@ ghost use Rattle.cics_names.specs.Commands.{length_of};
 ghost use Rattle.cics_names.specs.Keyed.{value_at};
 ghost use Rattle.cics_names.specs.declared.conditions.Condition.TheVariants.{Normal};
 ghost use Rattle.cics_history.specs.Execution.{IsOpenOrNone};
-ghost use Rattle.cics_history.specs.Headline.{IsHeadline};
-ghost use Rattle.cics_history.specs.Serial.{IsSerializable};
 ghost use Rattle.cics_dispatch.specs.Machine.Machine.{Machine, definition_of, with_units};
 ghost use Rattle.cics_dispatch.specs.Machine.Replies.{plain};
 ghost use Rattle.cics_dispatch.specs.Machine.Steps.{answered, unlocked, started, reset, browse_ended};
 ghost use Rattle.cics_dispatch.specs.Machine.Calls.{IsAwake, HasBrowse, IsStepOf};
 ghost use Rattle.cics_dispatch.specs.Machine.Calls.{IsStepOrRefused, reading, reading_on};
+ghost use Rattle.cics_dispatch.specs.Machine.Regions.{ArePromised};
 
 use crate::dispatcher::Dispatcher;
 use crate::machine::{
@@ -25,12 +24,10 @@ use cics_units::Units;
 // Ends a unit's update read of a file, if there is a unit.
 fn unlock_file(units: &mut Units, unit: Option<UnitId>, name: &Name8)
     requires is_open { IsOpenOrNone units.old.state unit }
-    requires headline { IsHeadline units.old }
-    requires serializable { IsSerializable units.old }
+    requires promised { ArePromised units.old }
     ensures state { (m : Machine) → with_units m units.new.state
         ≡ unlocked (with_units m units.old.state) unit name.now }
-    ensures headline { IsHeadline units.new }
-    ensures serializable { IsSerializable units.new }
+    ensures promised { ArePromised units.new }
 {
     let Some(unit) = unit else {
         return;

@@ -3,12 +3,11 @@
 ghost use Rattle.std.specs.Prelude.{◌≡◌, ◌<◌, ◌≤◌, None, length};
 ghost use Rattle.cics_names.specs.declared.conditions.Condition.TheVariants.{Normal};
 ghost use Rattle.cics_history.specs.Execution.{IsOpenOrNone};
-ghost use Rattle.cics_history.specs.Headline.{IsHeadline};
-ghost use Rattle.cics_history.specs.Serial.{IsSerializable};
 ghost use Rattle.cics_dispatch.specs.Machine.Replies.{plain};
 ghost use Rattle.cics_dispatch.specs.Machine.Steps.{answered, dequeued, units_dequeued};
 ghost use Rattle.cics_dispatch.specs.Machine.Calls.{IsAwake, HasReady, IsStepOf, IsStepOrRefused};
 ghost use Rattle.cics_dispatch.specs.Machine.Calls.{IsAttempt, going_on};
+ghost use Rattle.cics_dispatch.specs.Machine.Regions.{ArePromised};
 
 use crate::dispatcher::Dispatcher;
 use crate::machine::{Attempt, Outcome, plain_reply};
@@ -20,11 +19,9 @@ use cics_units::{Enqueued, Units};
 fn free_value(units: &mut Units, unit: Option<UnitId>, value: &[u8])
     requires is_open { IsOpenOrNone units.old.state unit }
     requires most { length value.now ≤ 255 }
-    requires headline { IsHeadline units.old }
-    requires serializable { IsSerializable units.old }
+    requires promised { ArePromised units.old }
     ensures state { units.new.state ≡ units_dequeued units.old.state unit value.now }
-    ensures headline { IsHeadline units.new }
-    ensures serializable { IsSerializable units.new }
+    ensures promised { ArePromised units.new }
 {
     let Some(unit) = unit else {
         return;

@@ -108,6 +108,7 @@ fn doomed_if(region: &Region, label: &Name8) -> Result<Items<Cell>, NoMemory>
     ensures { IfOk result (λ cells. cells
         ≡ doomed_if region.now.machine (waiting_command region.now.machine label.now)) }
 {
+    region.promises();
     match region.waiting_command(label) {
         Some(command) => doomed_by(region.units(), &command.verb),
         None => Ok(Items::new(region.units().opening().allocator())),

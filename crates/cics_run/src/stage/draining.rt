@@ -77,6 +77,7 @@ fn drain<O: Observer>(region: &mut Region, number: u64, observer: &mut O) -> Res
 {
     // After most lines no turn is left, and that is known.
     if region.is_at_rest() {
+        region.promises();
         return Ok(());
     }
     take_turns(region, number, observer)

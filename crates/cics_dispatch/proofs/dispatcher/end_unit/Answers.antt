@@ -7,12 +7,6 @@ use Rattle.cics_dispatch.proofs.dispatcher.end_unit.Goals as goal
 pub returns-in_default-clause-state : goal.returns-in_default-clause-state
 returns-in_default-clause-state c = ap (λ unit. units_after c.args.units.now.state unit (state_after c.args.ending)) (sym c.in_default.is)
 
-pub returns-in_default-clause-headline : goal.returns-in_default-clause-headline
-returns-in_default-clause-headline c = c.requires.headline
-
-pub returns-in_default-clause-serializable : goal.returns-in_default-clause-serializable
-returns-in_default-clause-serializable c = c.requires.serializable
-
 pub commit-requires : goal.commit-requires
 commit-requires c = record { is_open = subst (IsOpenOrNone c.args.units.now.state) c.in-Some.is c.requires.is_open }
 

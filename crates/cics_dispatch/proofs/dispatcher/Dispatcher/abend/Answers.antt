@@ -20,7 +20,7 @@ invariant_of-self c =
     let t = c.get.result.now in
     abended_kept c.self.invariant c.end_unit.new.units c.close_unit-unit.new.self c.remove.new.self c.args.at t c.get.ensures
     (c.end_unit.ensures.state ∙ ap (λ o. units_after u.units.state o BackedOut) (c.close_unit-unit.ensures.unit t c.get.ensures))
-    (c.close_unit-unit.ensures.task t c.get.ensures) (c.remove.ensures ∙ ap (not_waiting u.waits) c.label-label.ensures) c.end_unit.ensures.headline c.end_unit.ensures.serializable
+    (c.close_unit-unit.ensures.task t c.get.ensures) (c.remove.ensures ∙ ap (not_waiting u.waits) c.label-label.ensures) c.end_unit.ensures.promised
 
 pub returns-clause-kept : goal.returns-clause-kept
 returns-clause-kept c = λ was.
@@ -28,7 +28,7 @@ returns-clause-kept c = λ was.
     let t = c.get.result.now in
     abended_kept c.self.invariant c.end_unit.new.units c.close_unit-unit.new.self c.remove.new.self c.args.at t c.get.ensures
     (c.end_unit.ensures.state ∙ ap (λ o. units_after u.units.state o BackedOut) (c.close_unit-unit.ensures.unit t c.get.ensures))
-    (c.close_unit-unit.ensures.task t c.get.ensures) (c.remove.ensures ∙ ap (not_waiting u.waits) c.label-label.ensures) c.end_unit.ensures.headline c.end_unit.ensures.serializable
+    (c.close_unit-unit.ensures.task t c.get.ensures) (c.remove.ensures ∙ ap (not_waiting u.waits) c.label-label.ensures) c.end_unit.ensures.promised
 
 pub returns-clause-machine : goal.returns-clause-machine
 returns-clause-machine c =

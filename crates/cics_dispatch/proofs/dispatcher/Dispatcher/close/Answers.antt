@@ -21,7 +21,7 @@ invariant_of-self c =
     closed_kept c.self.invariant c.end_unit.new.units c.close_unit-unit.new.self c.args.at t (state_after c.args.ending) c.args.has_ended there
     (seen_awake c.args.at c.self.view_is c.requires.awake t there)
     (end_shut c.args.ending) (c.end_unit.ensures.state ∙ ap (λ o. units_after u.units.state o (state_after c.args.ending)) (c.close_unit-unit.ensures.unit t there))
-    (c.close_unit-unit.ensures.task t there) c.end_unit.ensures.headline c.end_unit.ensures.serializable)
+    (c.close_unit-unit.ensures.task t there) c.end_unit.ensures.promised)
 
 pub returns-clause-kept : goal.returns-clause-kept
 returns-clause-kept c = λ was.
@@ -30,7 +30,7 @@ returns-clause-kept c = λ was.
     closed_kept c.self.invariant c.end_unit.new.units c.close_unit-unit.new.self c.args.at t (state_after c.args.ending) c.args.has_ended there
     (seen_awake c.args.at c.self.view_is c.requires.awake t there)
     (end_shut c.args.ending) (c.end_unit.ensures.state ∙ ap (λ o. units_after u.units.state o (state_after c.args.ending)) (c.close_unit-unit.ensures.unit t there))
-    (c.close_unit-unit.ensures.task t there) c.end_unit.ensures.headline c.end_unit.ensures.serializable)
+    (c.close_unit-unit.ensures.task t there) c.end_unit.ensures.promised)
 
 pub returns-clause-machine : goal.returns-clause-machine
 returns-clause-machine c =

@@ -16,7 +16,7 @@ invariant_of-self c =
     let there = c.get.ensures in
     dequeued_kept c.self.invariant c.args.at t there c.args.value.now c.free_value.new.units
     (c.free_value.ensures.state ∙ ap (λ o. units_dequeued u.units.state o c.args.value.now) c.unit-unit.ensures)
-    (seen_awake c.args.at c.self.view_is c.requires.awake t there) c.free_value.ensures.headline c.free_value.ensures.serializable
+    (seen_awake c.args.at c.self.view_is c.requires.awake t there) c.free_value.ensures.promised
 
 pub returns : goal.returns
 returns c =
@@ -28,7 +28,7 @@ returns c =
     record {
       step = seen_step c.args.at (λ m s. answered (dequeued m s.unit value) s c.args.resp (plain Normal)) c.self.view_is
           (then_told c.args.at t t c.args.resp c.plain_reply.result _ there there
-          (dequeued_kept c.self.invariant c.args.at t there value c.free_value.new.units state (seen_awake c.args.at c.self.view_is c.requires.awake t there) c.free_value.ensures.headline c.free_value.ensures.serializable)
+          (dequeued_kept c.self.invariant c.args.at t there value c.free_value.new.units state (seen_awake c.args.at c.self.view_is c.requires.awake t there) c.free_value.ensures.promised)
           (dequeue_answered c.self.invariant c.args.at t there value c.free_value.new.units state c.args.resp c.plain_reply.result c.plain_reply.ensures) c.answer.ensures.step);
     }
 

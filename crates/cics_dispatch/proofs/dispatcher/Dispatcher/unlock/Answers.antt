@@ -16,7 +16,7 @@ invariant_of-self c =
     let t = c.get.result.now in
     let there = c.get.ensures in
     unlocked_kept c.self.invariant c.args.at t there c.unlock_file.new.units c.args.name.now (seen_awake c.args.at c.self.view_is c.requires.awake t there)
-    (c.unlock_file.ensures.state m ∙ ap (λ o. unlocked m o c.args.name.now) c.unit-unit.ensures) c.unlock_file.ensures.headline c.unlock_file.ensures.serializable
+    (c.unlock_file.ensures.state m ∙ ap (λ o. unlocked m o c.args.name.now) c.unit-unit.ensures) c.unlock_file.ensures.promised
 
 pub returns : goal.returns
 returns c =
@@ -29,7 +29,7 @@ returns c =
     record {
       step = seen_step c.args.at (λ m s. answered (unlocked m s.unit name) s c.args.resp (plain Normal)) c.self.view_is
           (then_told c.args.at t t c.args.resp c.plain_reply.result _ there there
-          (unlocked_kept c.self.invariant c.args.at t there c.unlock_file.new.units name (seen_awake c.args.at c.self.view_is c.requires.awake t there) state c.unlock_file.ensures.headline c.unlock_file.ensures.serializable)
+          (unlocked_kept c.self.invariant c.args.at t there c.unlock_file.new.units name (seen_awake c.args.at c.self.view_is c.requires.awake t there) state c.unlock_file.ensures.promised)
           (unlock_answered c.self.invariant c.args.at t there c.unlock_file.new.units name c.args.resp c.plain_reply.result state c.plain_reply.ensures) c.answer.ensures.step);
     }
 

@@ -8,11 +8,13 @@ if_true : (b : Bool) (P : Type 0) → (b ≡ true → P) → OnTrue b P
 if_true true P follows = follows refl
 if_true false P follows = tt
 
-pub returns-then-self-clause-rest : goal.returns-then-self-clause-rest
-returns-then-self-clause-rest c =
+pub returns-then-self : goal.returns-then-self
+returns-then-self c =
     let u = c.self.inside in
     let m = u.dispatcher.machine in
-    if_true u.is_in_time (IsAtRest c.args.self.now.machine) (λ in_time. subst (λ v. IsAtRest v.machine) c.self.view_is (
-      ap (λ s. s.outcome) (woken_settled m u.notes u.is_settled u.is_in_time c.self.invariant.0.tasks c.self.invariant.1 c.if-self.true),
-      ap (λ s. s.outcome) (expired_in_time m u.notes u.is_settled u.is_in_time c.self.invariant.1 in_time),
-    ))
+    record {
+      rest = if_true u.is_in_time (IsAtRest c.args.self.now.machine) (λ in_time. subst (λ v. IsAtRest v.machine) c.self.view_is (
+        ap (λ s. s.outcome) (woken_settled m u.notes u.is_settled u.is_in_time c.self.invariant.0.tasks c.self.invariant.1 c.if-self.true),
+        ap (λ s. s.outcome) (expired_in_time m u.notes u.is_settled u.is_in_time c.self.invariant.1 in_time),
+      ));
+    }
