@@ -17,32 +17,19 @@ mod stamping;
 mod waking;
 
 ghost use Rattle.std.specs.Prelude.{◌≡◌, ◌<◌, ◌≤◌, true, false, Option, Some, None, length, IfOk};
-ghost use Rattle.std.specs.Prelude.{slice_get};
-ghost use Rattle.std.specs.Prelude.{IfErr, IfSome, IfNone, Result, Ok, Err};
+ghost use Rattle.std.specs.Prelude.{slice_get, IfErr, IfSome, IfNone, Result, Ok, Err};
 ghost use Rattle.std.specs.Option.{option_copied};
-ghost use Rattle.cics_dispatch.specs.Machine.Events.{task_ended};
-ghost use Rattle.cics_dispatch.specs.Machine.Machine.{units_after, definition_of};
-ghost use Rattle.cics_dispatch.specs.Machine.Machine.{RegionValue, initial_region, task_at, abended};
-ghost use Rattle.cics_dispatch.specs.Machine.Machine.{is_waiting};
-ghost use Rattle.cics_dispatch.specs.Machine.Machine.{unit_closed, state_after};
-ghost use Rattle.cics_dispatch.specs.Machine.Checks.{reason_of};
-ghost use Rattle.cics_history.specs.Execution.{IsOpenUnit, IsOpenOrNone};
-ghost use Rattle.cics_history.specs.Records.{key_of};
-ghost use Rattle.cics_dispatch.specs.Machine.Steps.{answered, attached, busy_of, key_read, op_of};
-ghost use Rattle.cics_dispatch.specs.Machine.Steps.{suspended};
-ghost use Rattle.cics_dispatch.specs.Machine.Waking.{clock_set};
-ghost use Rattle.cics_history.specs.State.{file_recoverable};
-ghost use Rattle.cics_dispatch.specs.Machine.Regions.{ArePromised, IsRegionKept};
-ghost use Rattle.cics_dispatch.specs.Machine.Settled.{is_keeping};
-ghost use Rattle.cics_dispatch.specs.Machine.Blockers.{unit_of};
-ghost use Rattle.cics_dispatch.specs.Machine.Answers.{IsStep, attach_may_want};
-ghost use Rattle.cics_names.specs.Commands.{file_named};
-ghost use Rattle.cics_dispatch.specs.Machine.Calls.{OfTask, IsAwake, HasReady, MayPerform};
-ghost use Rattle.cics_dispatch.specs.Machine.Calls.{KeepsRegion, IsStepOf};
-ghost use Rattle.cics_dispatch.specs.Machine.Calls.{IsStepOrRefused, IsAttempt, going_on, waiting_for};
-ghost use Rattle.cics_dispatch.specs.Machine.Emptied.{whole, AreToldAlike};
 ghost use Rattle.cics_names.specs.declared.commands.Verb.{Verb as VerbValue};
-ghost use Rattle.cics_history.specs.Openings.{is_key};
+ghost use Rattle.cics_dispatch.specs.Words.{task_ended, units_after, definition_of, RegionValue};
+ghost use Rattle.cics_dispatch.specs.Words.{initial_region, task_at, abended, is_waiting};
+ghost use Rattle.cics_dispatch.specs.Words.{unit_closed, state_after, reason_of, IsOpenUnit};
+ghost use Rattle.cics_dispatch.specs.Words.{IsOpenOrNone, key_of, answered, attached, busy_of};
+ghost use Rattle.cics_dispatch.specs.Words.{key_read, op_of, suspended, clock_set};
+ghost use Rattle.cics_dispatch.specs.Words.{file_recoverable, ArePromised, IsRegionKept};
+ghost use Rattle.cics_dispatch.specs.Words.{is_keeping, unit_of, IsStep, attach_may_want};
+ghost use Rattle.cics_dispatch.specs.Words.{file_named, OfTask, IsAwake, HasReady, MayPerform};
+ghost use Rattle.cics_dispatch.specs.Words.{KeepsRegion, IsStepOf, IsStepOrRefused, IsAttempt};
+ghost use Rattle.cics_dispatch.specs.Words.{going_on, waiting_for, whole, AreToldAlike, is_key};
 
 use crate::machine::{
     Attempt, Ending, Outcome, Reason, Refused, Reply, Tasks, Waits, file_reason, plain_reply,

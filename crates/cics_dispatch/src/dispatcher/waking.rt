@@ -1,29 +1,18 @@
 //! Waiting commands: which one resumes, and which task has waited too long.
 
-ghost use Rattle.std.specs.Prelude.{◌≡◌, ◌<◌, ◌≤◌, [], All, Some, None, true, false, length};
-ghost use Rattle.std.specs.Prelude.{◌+◌, slice_get, is_ok, IfOk, OnOk, OnErr, IfSome, IfNone};
-ghost use Rattle.cics_history.specs.Execution.{IsOpenUnit};
-ghost use Rattle.cics_history.specs.Records.{key_of};
-ghost use Rattle.cics_history.specs.Isolation.{IsSound};
-ghost use Rattle.cics_dispatch.specs.Machine.Machine.{task_at, timed_out, is_waiting};
-ghost use Rattle.cics_dispatch.specs.Machine.KeptTasks.{IsWaitKept, AreTasksKept};
-ghost use Rattle.cics_dispatch.specs.Machine.Waking.{expired, woken, woken_first, first_free, first_late};
-ghost use Rattle.cics_dispatch.specs.Machine.Waking.{is_late, awaited_by};
-ghost use Rattle.cics_dispatch.specs.Machine.Steps.{with_outcome};
-ghost use Rattle.cics_dispatch.specs.Machine.Notes.{OfWait, IsFound, IsOnlyUse, IsOnlyNeed};
-ghost use Rattle.cics_dispatch.specs.Machine.Notes.{AreNotedNow, IsFirstFree, IsFirstFreeOf};
-ghost use Rattle.cics_dispatch.specs.Notes.Notes.{IsFirstOpen};
-ghost use Rattle.cics_dispatch.specs.Machine.Notes.{MayClose, UseOf, IsLooked, IsFreeAt, AreSettled};
-ghost use Rattle.cics_dispatch.specs.Notes.Notes.{count};
-ghost use Rattle.cics_dispatch.specs.Machine.Notes.{IsUse, OwnerIsElsewhere};
-ghost use Rattle.cics_dispatch.specs.Notes.Notes.{IsPlaceOf};
-ghost use Rattle.cics_dispatch.specs.Machine.Deadlines.{deadline_of};
-ghost use Rattle.cics_dispatch.specs.Machine.Machine.{Task as TaskValue};
-ghost use Rattle.cics_dispatch.specs.Machine.Settled.{reads_queue, IsBlocked};
-ghost use Rattle.cics_dispatch.specs.Machine.Waits.{AreApart};
-ghost use Rattle.cics_dispatch.specs.Machine.Calls.{OfTask, IsAwake, HasReady, KeepsRegion};
-ghost use Rattle.cics_dispatch.specs.Machine.Calls.{IsStepOrRefused};
-ghost use Rattle.cics_dispatch.specs.Machine.Calls.{IsAttempt, going_on};
+ghost use Rattle.std.specs.Prelude.{◌≡◌, ◌<◌, ◌≤◌, [], All, Some, None, true, false, length, ◌+◌};
+ghost use Rattle.std.specs.Prelude.{slice_get, is_ok, IfOk, OnOk, OnErr, IfSome, IfNone};
+ghost use Rattle.cics_dispatch.specs.Words.{IsOpenUnit, key_of, IsSound, task_at, timed_out};
+ghost use Rattle.cics_dispatch.specs.Words.{is_waiting, Task as TaskValue, IsWaitKept};
+ghost use Rattle.cics_dispatch.specs.Words.{AreTasksKept, expired, woken, woken_first, first_free};
+ghost use Rattle.cics_dispatch.specs.Words.{first_late, is_late, awaited_by, with_outcome, OfWait};
+ghost use Rattle.cics_dispatch.specs.Words.{IsFound, IsOnlyUse, IsOnlyNeed, AreNotedNow};
+ghost use Rattle.cics_dispatch.specs.Words.{IsFirstFree, IsFirstFreeOf, MayClose, UseOf, IsLooked};
+ghost use Rattle.cics_dispatch.specs.Words.{IsFreeAt, AreSettled, IsUse, OwnerIsElsewhere};
+ghost use Rattle.cics_dispatch.specs.Words.{IsFirstOpen, count, IsPlaceOf, deadline_of};
+ghost use Rattle.cics_dispatch.specs.Words.{reads_queue, IsBlocked, AreApart, OfTask, IsAwake};
+ghost use Rattle.cics_dispatch.specs.Words.{HasReady, KeepsRegion, IsStepOrRefused, IsAttempt};
+ghost use Rattle.cics_dispatch.specs.Words.{going_on};
 
 use crate::dispatcher::Dispatcher;
 use crate::machine::{Attempt, Expired, Free, Late, Look, Outcome, Suspended, Waits, Woken};
