@@ -32,7 +32,7 @@ ghost use Rattle.cics_dispatch.specs.Words.{KeepsRegion, IsStepOf, IsStepOrRefus
 ghost use Rattle.cics_dispatch.specs.Words.{going_on, waiting_for, whole, AreToldAlike, is_key};
 
 use crate::machine::{
-    Attempt, Ending, Outcome, Reason, Refused, Reply, Tasks, Waits, file_reason, plain_reply,
+    Attempt, Outcome, Reason, Refused, Reply, Tasks, UnitEnding, Waits, file_reason, plain_reply,
     refill, reply_of_answer,
 };
 use cics_history::UnitId;
@@ -81,7 +81,7 @@ fn busy_condition(verb: &Verb) -> Option<Condition>
 }
 
 // Ends a unit, if there is one.
-fn end_unit(units: &mut Units, unit: Option<UnitId>, ending: Ending)
+fn end_unit(units: &mut Units, unit: Option<UnitId>, ending: UnitEnding)
     requires is_open { IsOpenOrNone units.old.state unit }
     requires promised { ArePromised units.old }
     ensures state { units.new.state ≡ units_after units.old.state unit (state_after ending) }
@@ -91,8 +91,8 @@ fn end_unit(units: &mut Units, unit: Option<UnitId>, ending: Ending)
         return;
     };
     match ending {
-        Ending::Commit => units.commit(unit),
-        Ending::Backout => units.back_out(unit),
+        UnitEnding::Commit => units.commit(unit),
+        UnitEnding::Backout => units.back_out(unit),
     }
 }
 
@@ -278,7 +278,7 @@ impl Dispatcher {
     }
 
     // Ends the unit of the task at an index and its browses, and if `has_ended` the task too.
-    fn close(&mut self, at: usize, ending: Ending, has_ended: bool)
+    fn close(&mut self, at: usize, ending: UnitEnding, has_ended: bool)
         requires within { at < length self.old.machine.tasks }
         requires awake { IsAwake self.old.machine at }
         ensures machine { OfTask self.old.machine.tasks at
@@ -299,7 +299,7 @@ impl Dispatcher {
     {
         let label = self.tasks.get(at).label();
         let unit = self.tasks.close_unit(at, true);
-        end_unit(&mut self.units, unit, Ending::Backout);
+        end_unit(&mut self.units, unit, UnitEnding::Backout);
         self.waits.remove(&label);
     }
 

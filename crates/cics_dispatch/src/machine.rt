@@ -25,11 +25,11 @@ mod tasks;
 mod updates;
 mod waits;
 
-pub use browses::{Browses, Direction, Start, read_on};
+pub use browses::{BrowseStart, Browses, Direction, read_on};
 pub use checks::{file_reason, item_reason, value_reason};
 pub use events::{Event, Request, Subject};
-pub use findings::{Free, Late, Look};
-pub use outcomes::{Attempt, Ending, Expired, Number, Outcome, Refused, Reply, Woken};
+pub use findings::{Free, Late, WaitLook};
+pub use outcomes::{Attempt, Expired, Number, Outcome, Refused, Reply, UnitEnding, Woken};
 pub use reads::{plain_reply, read_plain};
 pub use reasons::Reason;
 pub use replies::{reply_of_answer, reply_of_browsed, reply_of_item};

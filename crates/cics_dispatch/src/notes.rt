@@ -8,4 +8,4 @@
 mod firsts;
 mod notes;
 
-pub use notes::{Note, Notes};
+pub use notes::{Notes, WaitNote};

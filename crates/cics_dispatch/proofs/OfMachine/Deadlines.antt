@@ -7,7 +7,7 @@ use Rattle.std.proofs.lemmas.List.Elements.{All-head, All-tail}
 use Rattle.std.proofs.Math.Nat.{min-le_left, le-min}
 use Rattle.cics_names.specs.Keyed.{Bytes, is_same}
 use Rattle.cics_names.specs.KeyedLaws.{is_same-self, is_same-eq}
-use Rattle.cics_dispatch.specs.declared.notes.notes.Note.{Note}
+use Rattle.cics_dispatch.specs.declared.notes.notes.WaitNote.{WaitNote}
 use Rattle.cics_dispatch.specs.Machine.Machine.{Machine, Task, Suspended, task_at, is_waiting, not_waiting}
 use Rattle.cics_dispatch.specs.Machine.Waits.{AreApart}
 use Rattle.cics_dispatch.specs.Machine.Waking.{is_late, first_late}
@@ -45,8 +45,8 @@ late_by_key m w t clock =
 -- ---- The first task that has waited too long
 
 -- the note of a place is that of the first task that has waited too long
-pub record IsLateAt (m : Machine) (ns : List (Option Note)) (ws : List Suspended) (at : ℕ) : Type 0 where
-  pub note : Note
+pub record IsLateAt (m : Machine) (ns : List (Option WaitNote)) (ws : List Suspended) (at : ℕ) : Type 0 where
+  pub note : WaitNote
   pub there : slice_get ns at ≡ Some (Some note)
   pub wait : Suspended
   pub own : note.label ≡ wait.label
@@ -65,21 +65,21 @@ late_waits m t (w ∷ ws) is =
     ] is
 
 -- no note is of a label, nor one more
-none_more : (label : Bytes) (o : Option Note) (ns : List (Option Note)) → ((n : Note) → o ≡ Some n → n.label ≡ label → ⊥) → HasNone label ns → HasNone label (o ∷ ns)
+none_more : (label : Bytes) (o : Option WaitNote) (ns : List (Option WaitNote)) → ((n : WaitNote) → o ≡ Some n → n.label ≡ label → ⊥) → HasNone label ns → HasNone label (o ∷ ns)
 none_more label o ns here rest zero n there own = let same : o ≡ Some n = cc in here n same own
 none_more label o ns here rest (suc i) n there own = rest i n there own
 
 module _ (m : Machine) (clock : m.clock ≤ never) where
   -- a command's task has waited too long if its key is below the clock, and only then
-  late_due : (n : Note) (w : Suspended) (k : ℕ) → IsDue m.tasks n w k → is_late m w (task_at m.tasks w.label) ≡ nat_lt k m.clock
+  late_due : (n : WaitNote) (w : Suspended) (k : ℕ) → IsDue m.tasks n w k → is_late m w (task_at m.tasks w.label) ≡ nat_lt k m.clock
   late_due n w k due = ap (is_late m w) due.of_task ∙ late_by_key m w due.task clock ∙ ap (λ d. nat_lt d m.clock) (sym due.deadline)
 
   -- a command whose key isn't below the clock is passed
-  passed : (n : Note) (w : Suspended) (ws : List Suspended) (k : ℕ) → IsDue m.tasks n w k → m.clock ≤ k → first_late m (w ∷ ws) ≡ first_late m ws
+  passed : (n : WaitNote) (w : Suspended) (ws : List Suspended) (k : ℕ) → IsDue m.tasks n w k → m.clock ≤ k → first_late m (w ∷ ws) ≡ first_late m ws
   passed n w ws k due early = ap (λ b. cond b (task_at m.tasks w.label) (first_late m ws)) (late_due n w k due ∙ le-ltb k m.clock early)
 
   -- the first key below the clock is that of the first task that has waited too long
-  pub late_at : (ns : List (Option Note)) (ws : List Suspended) (ks : List ℕ) (at : ℕ) → AreDue m.tasks ns ws ks → IsFirstBelow ks m.clock at → IsLateAt m ns ws at
+  pub late_at : (ns : List (Option WaitNote)) (ws : List Suspended) (ks : List ℕ) (at : ℕ) → AreDue m.tasks ns ws ks → IsFirstBelow ks m.clock at → IsLateAt m ns ws at
   late_at [] ws [] at are first = absurd (nothing first.there)
     where
       nothing : None ≡ Some first.key → ⊥
@@ -110,7 +110,7 @@ module _ (m : Machine) (clock : m.clock ≤ never) where
 
   -- if no key is below the clock the first task that has waited too long is one whose command has
   -- no note yet
-  pub none_late_noted : (ns : List (Option Note)) (ws : List Suspended) (ks : List ℕ) → AreDue m.tasks ns ws ks → All (λ k. m.clock ≤ k) ks → first_late m ws ≡ first_late m (drop (count ns) ws)
+  pub none_late_noted : (ns : List (Option WaitNote)) (ws : List Suspended) (ks : List ℕ) → AreDue m.tasks ns ws ks → All (λ k. m.clock ≤ k) ks → first_late m ws ≡ first_late m (drop (count ns) ws)
   none_late_noted [] ws [] are early = refl
   none_late_noted [] ws (k ∷ ks) are early = absurd are
   none_late_noted (None ∷ ns) ws [] are early = absurd are
@@ -121,7 +121,7 @@ module _ (m : Machine) (clock : m.clock ≤ never) where
       passed n w ws k are.0 (All-head (λ k. m.clock ≤ k) k ks early) ∙ none_late_noted ns ws ks are.1 (All-tail (λ k. m.clock ≤ k) k ks early)
 
   -- and that one has none
-  pub late_unnoted : (ns : List (Option Note)) (ws : List Suspended) (ks : List ℕ) (t : Task) → AreApart ws → AreDue m.tasks ns ws ks → All (λ k. m.clock ≤ k) ks → first_late m ws ≡ Some t → HasNone t.label ns
+  pub late_unnoted : (ns : List (Option WaitNote)) (ws : List Suspended) (ks : List ℕ) (t : Task) → AreApart ws → AreDue m.tasks ns ws ks → All (λ k. m.clock ≤ k) ks → first_late m ws ≡ Some t → HasNone t.label ns
   late_unnoted [] ws ks t apart are early late = λ i n there own. cc
   late_unnoted (None ∷ ns) ws [] t apart are early late = absurd are
   late_unnoted (None ∷ ns) ws (k ∷ ks) t apart are early late =
@@ -136,7 +136,7 @@ module _ (m : Machine) (clock : m.clock ≤ never) where
       true≢false (sym (late_waits m t ws rest) ∙ ap (is_waiting ws) (sym one) ∙ apart.0)) (late_unnoted ns ws ks t apart.1 are.1 (All-tail (λ k. m.clock ≤ k) k ks early) rest)
 
   -- and if each command has its note no task has waited too long
-  pub none_late_at_all : (ns : List (Option Note)) (ws : List Suspended) (ks : List ℕ) → AreDue m.tasks ns ws ks → All (λ k. m.clock ≤ k) ks → count ns ≡ length ws → first_late m ws ≡ None
+  pub none_late_at_all : (ns : List (Option WaitNote)) (ws : List Suspended) (ks : List ℕ) → AreDue m.tasks ns ws ks → All (λ k. m.clock ≤ k) ks → count ns ≡ length ws → first_late m ws ≡ None
   none_late_at_all ns ws ks are early all = none_late_noted ns ws ks are early ∙ ap (first_late m) (ap (λ i. drop i ws) all ∙ drop_all ws)
     where
       drop_all : (ws : List Suspended) → drop (length ws) ws ≡ []
@@ -146,7 +146,7 @@ module _ (m : Machine) (clock : m.clock ≤ never) where
 -- ---- Other tasks, other waits, other notes
 
 -- the tasks are there yet, as after one more is attached
-pub due_kept : (ts us : List Task) → ((l : Bytes) (t : Task) → task_at ts l ≡ Some t → task_at us l ≡ Some t) → (ns : List (Option Note)) (ws : List Suspended) (ks : List ℕ) →
+pub due_kept : (ts us : List Task) → ((l : Bytes) (t : Task) → task_at ts l ≡ Some t → task_at us l ≡ Some t) → (ns : List (Option WaitNote)) (ws : List Suspended) (ks : List ℕ) →
     AreDue ts ns ws ks → AreDue us ns ws ks
 due_kept ts us there [] ws [] are = tt
 due_kept ts us there [] ws (k ∷ ks) are = absurd are
@@ -159,7 +159,7 @@ due_kept ts us there (Some n ∷ ns) (w ∷ ws) (k ∷ ks) are =
     (record { task = due.task; label = due.label; of_task = there w.label due.task due.of_task; deadline = due.deadline }, due_kept ts us there ns ws ks are.1)
 
 -- after a step of a task of which none of these commands waits
-pub due_others : (ts us : List Task) (label : Bytes) → ((l : Bytes) → label ≢ l → task_at us l ≡ task_at ts l) → (ns : List (Option Note)) (ws : List Suspended) (ks : List ℕ) → is_waiting ws label ≡ false →
+pub due_others : (ts us : List Task) (label : Bytes) → ((l : Bytes) → label ≢ l → task_at us l ≡ task_at ts l) → (ns : List (Option WaitNote)) (ws : List Suspended) (ks : List ℕ) → is_waiting ws label ≡ false →
     AreDue ts ns ws ks → AreDue us ns ws ks
 due_others ts us label same [] ws [] awake are = tt
 due_others ts us label same [] ws (k ∷ ks) awake are = absurd are
@@ -178,7 +178,7 @@ due_others ts us label same (Some n ∷ ns) (w ∷ ws) (k ∷ ks) awake are =
 
 module _ (ts : List Task) where
   -- more commands wait behind
-  pub due_behind : (ns : List (Option Note)) (ws more : List Suspended) (ks : List ℕ) → AreDue ts ns ws ks → AreDue ts ns (ws ++ more) ks
+  pub due_behind : (ns : List (Option WaitNote)) (ws more : List Suspended) (ks : List ℕ) → AreDue ts ns ws ks → AreDue ts ns (ws ++ more) ks
   due_behind [] ws more [] are = tt
   due_behind [] ws more (k ∷ ks) are = absurd are
   due_behind (None ∷ ns) ws more [] are = absurd are
@@ -188,7 +188,7 @@ module _ (ts : List Task) where
   due_behind (Some n ∷ ns) (w ∷ ws) more (k ∷ ks) are = (are.0, due_behind ns ws more ks are.1)
 
   -- the first command behind the noted ones gets its note and its key
-  pub due_push : (ns : List (Option Note)) (ws rest : List Suspended) (ks : List ℕ) (n : Note) (w : Suspended) (k : ℕ) → AreDue ts ns ws ks → drop (count ns) ws ≡ w ∷ rest → IsDue ts n w k →
+  pub due_push : (ns : List (Option WaitNote)) (ws rest : List Suspended) (ks : List ℕ) (n : WaitNote) (w : Suspended) (k : ℕ) → AreDue ts ns ws ks → drop (count ns) ws ≡ w ∷ rest → IsDue ts n w k →
       AreDue ts (ns ++ Some n ∷ []) ws (ks ++ k ∷ [])
   due_push [] [] rest [] n w k are behind due = cc
   due_push [] (v ∷ ws) rest [] n w k are behind due = let same : w ≡ v = cc in (subst (λ x. IsDue ts n x k) same due, tt)
@@ -200,11 +200,11 @@ module _ (ts : List Task) where
   due_push (Some x ∷ ns) (v ∷ ws) rest (j ∷ ks) n w k are behind due = (are.0, due_push ns ws rest ks n w k are.1 behind due)
 
   -- a note that says something else of the same task
-  alike_due : (old new : Note) (w : Suspended) (k : ℕ) → new.label ≡ old.label → IsDue ts old w k → IsDue ts new w k
+  alike_due : (old new : WaitNote) (w : Suspended) (k : ℕ) → new.label ≡ old.label → IsDue ts old w k → IsDue ts new w k
   alike_due old new w k alike due = record { task = due.task; label = alike ∙ due.label; of_task = due.of_task; deadline = due.deadline }
 
   -- the note at a place says something else of the same task
-  pub due_set : (ns : List (Option Note)) (ws : List Suspended) (ks : List ℕ) (at : ℕ) (old new : Note) → slice_get ns at ≡ Some (Some old) → new.label ≡ old.label → AreDue ts ns ws ks →
+  pub due_set : (ns : List (Option WaitNote)) (ws : List Suspended) (ks : List ℕ) (at : ℕ) (old new : WaitNote) → slice_get ns at ≡ Some (Some old) → new.label ≡ old.label → AreDue ts ns ws ks →
       AreDue ts (slice_set ns at (Some new)) ws ks
   due_set [] ws ks at old new there alike are = cc
   due_set (None ∷ ns) ws [] at old new there alike are = absurd are
@@ -218,8 +218,8 @@ module _ (ts : List Task) where
   due_set (Some n ∷ ns) (w ∷ ws) (k ∷ ks) (suc at) old new there alike are = (are.0, due_set ns ws ks at old new there alike are.1)
 
   -- each note says something else of the same task
-  pub due_changed : (f : Option Note → Option Note) (g : Note → Note) → f None ≡ None → ((n : Note) → f (Some n) ≡ Some (g n)) → ((n : Note) → (g n).label ≡ n.label) →
-      (ns : List (Option Note)) (ws : List Suspended) (ks : List ℕ) → AreDue ts ns ws ks → AreDue ts (map f ns) ws ks
+  pub due_changed : (f : Option WaitNote → Option WaitNote) (g : WaitNote → WaitNote) → f None ≡ None → ((n : WaitNote) → f (Some n) ≡ Some (g n)) → ((n : WaitNote) → (g n).label ≡ n.label) →
+      (ns : List (Option WaitNote)) (ws : List Suspended) (ks : List ℕ) → AreDue ts ns ws ks → AreDue ts (map f ns) ws ks
   due_changed f g none some alike [] ws [] are = tt
   due_changed f g none some alike [] ws (k ∷ ks) are = absurd are
   due_changed f g none some alike (None ∷ ns) ws [] are = absurd are
@@ -234,7 +234,7 @@ module _ (ts : List Task) where
   -- ---- One command fewer
 
   -- a noted command waits
-  noted_waits : (ns : List (Option Note)) (ws : List Suspended) (ks : List ℕ) (at : ℕ) (n : Note) → AreDue ts ns ws ks → slice_get ns at ≡ Some (Some n) → is_waiting ws n.label ≡ true
+  noted_waits : (ns : List (Option WaitNote)) (ws : List Suspended) (ks : List ℕ) (at : ℕ) (n : WaitNote) → AreDue ts ns ws ks → slice_get ns at ≡ Some (Some n) → is_waiting ws n.label ≡ true
   noted_waits [] ws ks at n are there = cc
   noted_waits (None ∷ ns) ws [] at n are there = absurd are
   noted_waits (None ∷ ns) ws (k ∷ ks) zero n are there = cc
@@ -257,7 +257,7 @@ module _ (ts : List Task) where
       ] none
 
   -- the noted command of a place waits no more: it has no note, and its place the key of none
-  pub due_without : (ns : List (Option Note)) (ws : List Suspended) (ks : List ℕ) (at : ℕ) (n : Note) → AreApart ws → AreDue ts ns ws ks → slice_get ns at ≡ Some (Some n) →
+  pub due_without : (ns : List (Option WaitNote)) (ws : List Suspended) (ks : List ℕ) (at : ℕ) (n : WaitNote) → AreApart ws → AreDue ts ns ws ks → slice_get ns at ≡ Some (Some n) →
       AreDue ts (slice_set ns at None) (not_waiting ws n.label) (slice_set ks at never)
   due_without [] ws ks at n apart are there = cc
   due_without (None ∷ ns) ws [] at n apart are there = absurd are
@@ -278,7 +278,7 @@ module _ (ts : List Task) where
       (are.0, due_without ns ws ks at n apart.1 are.1 there)
 
   -- a command without a note waits no more
-  pub due_unnoted : (label : Bytes) (ns : List (Option Note)) (ws : List Suspended) (ks : List ℕ) → ((i : ℕ) (n : Note) → slice_get ns i ≡ Some (Some n) → n.label ≡ label → ⊥) →
+  pub due_unnoted : (label : Bytes) (ns : List (Option WaitNote)) (ws : List Suspended) (ks : List ℕ) → ((i : ℕ) (n : WaitNote) → slice_get ns i ≡ Some (Some n) → n.label ≡ label → ⊥) →
       AreDue ts ns ws ks → AreDue ts ns (not_waiting ws label) ks
   due_unnoted label [] ws [] none are = tt
   due_unnoted label [] ws (k ∷ ks) none are = absurd are
@@ -294,7 +294,7 @@ module _ (ts : List Task) where
 -- ---- The notes of a region
 
 -- a note's place has its deadline
-pub due_within : (ts : List Task) (ns : List (Option Note)) (ws : List Suspended) (ks : List ℕ) (at : ℕ) (n : Note) → AreDue ts ns ws ks → slice_get ns at ≡ Some (Some n) → at < length ks
+pub due_within : (ts : List Task) (ns : List (Option WaitNote)) (ws : List Suspended) (ks : List ℕ) (at : ℕ) (n : WaitNote) → AreDue ts ns ws ks → slice_get ns at ≡ Some (Some n) → at < length ks
 due_within ts [] ws ks at n are there = cc
 due_within ts (None ∷ ns) ws [] at n are there = absurd are
 due_within ts (None ∷ ns) ws (k ∷ ks) zero n are there = cc
@@ -305,13 +305,13 @@ due_within ts (Some x ∷ ns) (w ∷ ws) (k ∷ ks) zero n are there = omega ari
 due_within ts (Some x ∷ ns) (w ∷ ws) (k ∷ ks) (suc at) n are there = let rest = due_within ts ns ws ks at n are.1 there in omega (arith, rest)
 
 -- after a step of a task of which none of these commands waits, whatever its unit released
-pub due_given : (m n : Machine) (t : Task) (unit : Option ℕ) → LeavesTasks t.label t.unit m n → (ns : List (Option Note)) (ws : List Suspended) (ks : List ℕ) → is_waiting ws t.label ≡ false →
+pub due_given : (m n : Machine) (t : Task) (unit : Option ℕ) → LeavesTasks t.label t.unit m n → (ns : List (Option WaitNote)) (ws : List Suspended) (ks : List ℕ) → is_waiting ws t.label ≡ false →
     AreDue m.tasks ns ws ks → AreDue n.tasks (map (forgotten unit) ns) ws ks
 due_given m n t unit others ns ws ks awake are =
     due_changed n.tasks (forgotten unit) (given_note unit) refl (λ k. refl) (λ k. refl) ns ws ks (due_others m.tasks n.tasks t.label others.tasks ns ws ks awake are)
 
 -- without the command of a label, whether it has a note or not
-pub due_dropped : (ts : List Task) (label : Bytes) (ns : List (Option Note)) (ws : List Suspended) (ks : List ℕ) (at : Option ℕ) → AreApart ws → IsPlaceOf label ns at → AreDue ts ns ws ks →
+pub due_dropped : (ts : List Task) (label : Bytes) (ns : List (Option WaitNote)) (ws : List Suspended) (ks : List ℕ) (at : Option ℕ) → AreApart ws → IsPlaceOf label ns at → AreDue ts ns ws ks →
     AreDue ts (without ns at) (not_waiting ws label) (without_deadline ks at)
 due_dropped ts label ns ws ks None apart none are = due_unnoted ts label ns ws ks none are
 due_dropped ts label ns ws ks (Some at) apart place are =
@@ -335,7 +335,7 @@ due_new m k rest w key kept behind given = by (task_at m.tasks w.label) refl (fi
 
 -- the task of the label that the note of a place tells has waited too long: it is there, it is the
 -- first, and that is its note
-module _ (m : Machine) (ns : List (Option Note)) (ws : List Suspended) (at : ℕ) (label : Bytes) (is : IsLateAt m ns ws at) (told : (n : Note) → slice_get ns at ≡ Some (Some n) → label ≡ n.label) where
+module _ (m : Machine) (ns : List (Option WaitNote)) (ws : List Suspended) (at : ℕ) (label : Bytes) (is : IsLateAt m ns ws at) (told : (n : WaitNote) → slice_get ns at ≡ Some (Some n) → label ≡ n.label) where
   late_label : label ≡ is.wait.label
   late_label = told is.note is.there ∙ is.own
 

@@ -212,10 +212,10 @@ value_short m x ws label value n nosuspend all found none verb = by (task_at m.t
     by (Some t) is there =
         value_within value n (subst (λ v. IsReady m.units t.unit v None) verb (subst (λ o. IsReady m.units t.unit x.command.verb o) none (kept.ready t is)))
 
--- a command that uses another resource than the line's isn't in it
-pub not_in_line : (m : Machine) (rs : List Resource) (g : ℕ) (label : Bytes) (r : Resource) → OfWait m.waiting label (λ w. IsOnlyNeed r w.command.verb w.op) →
+-- a command that uses another resource than the group's isn't in it
+pub not_in_group : (m : Machine) (rs : List Resource) (g : ℕ) (label : Bytes) (r : Resource) → OfWait m.waiting label (λ w. IsOnlyNeed r w.command.verb w.op) →
     (slice_get rs g ≡ Some r → ⊥) → OfWait m.waiting label (λ w. IsUse m.units.opening rs w g → ⊥)
-not_in_line m rs g label r need other = λ j w at same needed.
+not_in_group m rs g label r need other = λ j w at same needed.
     let needs : needed_by m.units.opening w.command.verb w.op ≡ r ∷ [] = (need j w at same).only m.units.opening (λ x. true) (ap (list_any (λ x. true)) needed.needed) in
     let both : needed.resource ∷ [] ≡ r ∷ [] = sym needed.needed ∙ needs in
     let one : needed.resource ≡ r = cc in
@@ -230,6 +230,6 @@ module _ (m : Machine) (rs : List Resource) (g u : ℕ) (label : Bytes) (owners 
       let same : w.label ≡ label = own ∙ sym (is ∙ label_of-owner m.tasks u i t owners there has) in
       false≢true (sym awake ∙ ap (is_waiting m.waiting) (sym same) ∙ waits_at m.waiting j w at)
 
-  -- no command of its task that waits is in the line
-  pub owner_not_in_line : OfWait m.waiting label (λ w. IsUse m.units.opening rs w g → ⊥) → OwnerIsElsewhere m rs g u
-  owner_not_in_line out = λ i t there has j w at own needed. out j w at (own ∙ sym (is ∙ label_of-owner m.tasks u i t owners there has)) needed
+  -- no command of its task that waits is in the group
+  pub owner_not_in_group : OfWait m.waiting label (λ w. IsUse m.units.opening rs w g → ⊥) → OwnerIsElsewhere m rs g u
+  owner_not_in_group out = λ i t there has j w at own needed. out j w at (own ∙ sym (is ∙ label_of-owner m.tasks u i t owners there has)) needed

@@ -6,7 +6,7 @@ use Rattle.cics_names.specs.Keyed.{Bytes, is_same}
 use Rattle.cics_names.specs.KeyedLaws.{is_same-self, is_same-eq}
 use Rattle.cics_history.specs.declared.resources.Resource.{Resource}
 use Rattle.cics_history.specs.State.{OpeningState}
-use Rattle.cics_dispatch.specs.declared.notes.notes.Note.{Note}
+use Rattle.cics_dispatch.specs.declared.notes.notes.WaitNote.{WaitNote}
 use Rattle.cics_dispatch.specs.Machine.Machine.{Machine, Task, Suspended, task_at, is_waiting, not_waiting}
 use Rattle.cics_dispatch.specs.Notes.Notes.{is_unit}
 use Rattle.cics_history.specs.Events.{is_live, may_act}
@@ -16,7 +16,7 @@ use Rattle.cics_dispatch.specs.Machine.Waits.{AreApart}
 use Rattle.cics_dispatch.specs.Machine.Waking.{may_go_on, first_free}
 use Rattle.cics_dispatch.specs.Machine.Deadlines.{AreDue}
 use Rattle.cics_dispatch.specs.Machine.Notes.{IsUse, IsNoted, AreNoted, AreNotedNow}
-use Rattle.cics_dispatch.specs.Notes.Notes.{of_line, blocker_by, blocker_in, given_up, given_note, forgotten, new_note, count, AreClosed, HasNone, IsPlaceOf, without, NotesValue}
+use Rattle.cics_dispatch.specs.Notes.Notes.{of_group, blocker_by, blocker_in, given_up, given_note, forgotten, new_note, count, AreClosed, HasNone, IsPlaceOf, without, NotesValue}
 use Rattle.cics_dispatch.proofs.OfMachine.KeptTasks.{begins_now}
 use Rattle.cics_dispatch.proofs.OfMachine.KeepsOwn.{Keeps}
 use Rattle.cics_dispatch.proofs.OfMachine.ActsAlone.{LeavesTasks, Waits}
@@ -26,15 +26,15 @@ use Rattle.cics_dispatch.proofs.OfMachine.Remembered.{blocked_yet}
 -- ---- Notes beside their commands
 
 -- each note stays right
-pub noted_each : (m n : Machine) (rs qs : List Resource) (bs cs : List (Option ℕ)) → ((k : Note) (w : Suspended) → IsNoted m rs bs k w → IsNoted n qs cs k w) →
-    (ns : List (Option Note)) (ws : List Suspended) → AreNoted m rs bs ns ws → AreNoted n qs cs ns ws
+pub noted_each : (m n : Machine) (rs qs : List Resource) (bs cs : List (Option ℕ)) → ((k : WaitNote) (w : Suspended) → IsNoted m rs bs k w → IsNoted n qs cs k w) →
+    (ns : List (Option WaitNote)) (ws : List Suspended) → AreNoted m rs bs ns ws → AreNoted n qs cs ns ws
 noted_each m n rs qs bs cs follows [] ws is = tt
 noted_each m n rs qs bs cs follows (None ∷ ns) ws is = noted_each m n rs qs bs cs follows ns ws is
 noted_each m n rs qs bs cs follows (Some k ∷ ns) [] is = absurd is
 noted_each m n rs qs bs cs follows (Some k ∷ ns) (w ∷ ws) is = (follows k w is.0, noted_each m n rs qs bs cs follows ns ws is.1)
 
 -- the note at a place is changed
-pub noted_set : (m : Machine) (rs : List Resource) (bs : List (Option ℕ)) (ns : List (Option Note)) (ws : List Suspended) (i : ℕ) (k n : Note) → AreNoted m rs bs ns ws → slice_get ns i ≡ Some (Some k) →
+pub noted_set : (m : Machine) (rs : List Resource) (bs : List (Option ℕ)) (ns : List (Option WaitNote)) (ws : List Suspended) (i : ℕ) (k n : WaitNote) → AreNoted m rs bs ns ws → slice_get ns i ≡ Some (Some k) →
     ((w : Suspended) (j : ℕ) → slice_get ws j ≡ Some w → IsNoted m rs bs k w → IsNoted m rs bs n w) → AreNoted m rs bs (slice_set ns i (Some n)) ws
 noted_set m rs bs [] ws i k n is there new = cc
 noted_set m rs bs (None ∷ ns) ws zero k n is there new = cc
@@ -46,7 +46,7 @@ noted_set m rs bs (Some j ∷ ns) (w ∷ ws) zero k n is there new =
 noted_set m rs bs (Some j ∷ ns) (w ∷ ws) (suc i) k n is there new = (is.0, noted_set m rs bs ns ws i k n is.1 there (λ v j at. new v (suc j) at))
 
 -- more commands wait behind
-pub noted_behind : (m : Machine) (rs : List Resource) (bs : List (Option ℕ)) (ns : List (Option Note)) (ws more : List Suspended) → AreNoted m rs bs ns ws → AreNoted m rs bs ns (ws ++ more)
+pub noted_behind : (m : Machine) (rs : List Resource) (bs : List (Option ℕ)) (ns : List (Option WaitNote)) (ws more : List Suspended) → AreNoted m rs bs ns ws → AreNoted m rs bs ns (ws ++ more)
 noted_behind m rs bs [] ws more is = tt
 noted_behind m rs bs (None ∷ ns) ws more is = noted_behind m rs bs ns ws more is
 noted_behind m rs bs (Some n ∷ ns) [] more is = absurd is
@@ -57,7 +57,7 @@ noted_new : (m : Machine) (rs : List Resource) (bs : List (Option ℕ)) (w : Sus
 noted_new m rs bs w = record { label = refl; blocked = λ u is. cc; use_of = λ g is. cc }
 
 -- the first command behind the noted ones gets its note
-pub noted_push : (m : Machine) (rs : List Resource) (bs : List (Option ℕ)) (ns : List (Option Note)) (ws rest : List Suspended) (w : Suspended) → AreNoted m rs bs ns ws → drop (count ns) ws ≡ w ∷ rest →
+pub noted_push : (m : Machine) (rs : List Resource) (bs : List (Option ℕ)) (ns : List (Option WaitNote)) (ws rest : List Suspended) (w : Suspended) → AreNoted m rs bs ns ws → drop (count ns) ws ≡ w ∷ rest →
     AreNoted m rs bs (ns ++ Some (new_note w.label) ∷ []) ws × (drop (count (ns ++ Some (new_note w.label) ∷ [])) ws ≡ rest)
 noted_push m rs bs [] [] rest w is behind = cc
 noted_push m rs bs [] (v ∷ ws) rest w is behind =
@@ -71,14 +71,14 @@ noted_push m rs bs (Some n ∷ ns) (v ∷ ws) rest w is behind =
     ((is.0, later.0), later.1)
 
 -- no more notes than commands
-pub noted_few : (m : Machine) (rs : List Resource) (bs : List (Option ℕ)) (ns : List (Option Note)) (ws : List Suspended) → AreNoted m rs bs ns ws → count ns ≤ length ws
+pub noted_few : (m : Machine) (rs : List Resource) (bs : List (Option ℕ)) (ns : List (Option WaitNote)) (ws : List Suspended) → AreNoted m rs bs ns ws → count ns ≤ length ws
 noted_few m rs bs [] ws is = omega arith
 noted_few m rs bs (None ∷ ns) ws is = noted_few m rs bs ns ws is
 noted_few m rs bs (Some n ∷ ns) [] is = absurd is
 noted_few m rs bs (Some n ∷ ns) (w ∷ ws) is = let few = noted_few m rs bs ns ws is.1 in omega (arith, few)
 
 -- notes whose parts are these
-pub noted_as : (m : Machine) (v : NotesValue) (rs : List Resource) (bs : List (Option ℕ)) (ns : List (Option Note)) (ks : List ℕ) → v.resources ≡ rs → v.blockers ≡ bs → v.rows ≡ ns → v.deadlines ≡ ks →
+pub noted_as : (m : Machine) (v : NotesValue) (rs : List Resource) (bs : List (Option ℕ)) (ns : List (Option WaitNote)) (ks : List ℕ) → v.resources ≡ rs → v.blockers ≡ bs → v.rows ≡ ns → v.deadlines ≡ ks →
     AreNoted m rs bs ns m.waiting → AreDue m.tasks ns m.waiting ks → AreNotedNow m v
 noted_as m v rs bs ns ks resources blockers rows deadlines noted due =
     subst (λ x. AreNotedNow m x) (λ i. record { rows = sym rows i; resources = sym resources i; blockers = sym blockers i; deadlines = sym deadlines i })
@@ -111,7 +111,7 @@ drop_last (v ∷ ws) (suc k) w all there = drop_last ws k w (omega (arith, all))
 -- ---- The first that has to be looked at
 
 -- the command of the note at a place before which all are closed
-pub record FirstAt (m : Machine) (rs : List Resource) (bs : List (Option ℕ)) (n : Note) (ws : List Suspended) : Type 0 where
+pub record FirstAt (m : Machine) (rs : List Resource) (bs : List (Option ℕ)) (n : WaitNote) (ws : List Suspended) : Type 0 where
   pub wait : Suspended
   pub place : ℕ
   pub there : slice_get ws place ≡ Some wait
@@ -124,12 +124,12 @@ known None is = absurd (false≢true is)
 known (Some u) is = (u, refl)
 
 -- a command that has to wait is passed
-passed : (m : Machine) (rs : List Resource) (bs : List (Option ℕ)) (n : Note) (w : Suspended) (ws : List Suspended) → AreTasksKept m → IsNoted m rs bs n w → is_some (blocker_in bs n) ≡ true → first_free m (w ∷ ws) ≡ first_free m ws
+passed : (m : Machine) (rs : List Resource) (bs : List (Option ℕ)) (n : WaitNote) (w : Suspended) (ws : List Suspended) → AreTasksKept m → IsNoted m rs bs n w → is_some (blocker_in bs n) ≡ true → first_free m (w ∷ ws) ≡ first_free m ws
 passed m rs bs n w ws kept is closed =
     let unit = known (blocker_in bs n) closed in
     ap (λ b. cond b (Some w) (first_free m ws)) (blocked_stays m unit.0 w kept (is.blocked unit.0 unit.1))
 
-pub first_at : (m : Machine) (rs : List Resource) (bs : List (Option ℕ)) (ns : List (Option Note)) (ws : List Suspended) (i : ℕ) (n : Note) → AreTasksKept m → AreNoted m rs bs ns ws → slice_get ns i ≡ Some (Some n) →
+pub first_at : (m : Machine) (rs : List Resource) (bs : List (Option ℕ)) (ns : List (Option WaitNote)) (ws : List Suspended) (i : ℕ) (n : WaitNote) → AreTasksKept m → AreNoted m rs bs ns ws → slice_get ns i ≡ Some (Some n) →
     AreClosed bs (take i ns) → FirstAt m rs bs n ws
 first_at m rs bs [] ws i n kept is there closed = cc
 first_at m rs bs (None ∷ ns) ws zero n kept is there closed = cc
@@ -143,7 +143,7 @@ first_at m rs bs (Some k ∷ ns) (w ∷ ws) (suc i) n kept is there closed =
     record { wait = later.wait; place = suc later.place; there = later.there; noted = later.noted; first = λ goes. passed m rs bs k w ws kept is.0 closed.0 ∙ later.first goes }
 
 -- if each waiting command is blocked none resumes
-pub none_free : (m : Machine) (rs : List Resource) (bs : List (Option ℕ)) (ns : List (Option Note)) (ws : List Suspended) → AreTasksKept m → AreNoted m rs bs ns ws → AreClosed bs ns → count ns ≡ length ws → first_free m ws ≡ None
+pub none_free : (m : Machine) (rs : List Resource) (bs : List (Option ℕ)) (ns : List (Option WaitNote)) (ws : List Suspended) → AreTasksKept m → AreNoted m rs bs ns ws → AreClosed bs ns → count ns ≡ length ws → first_free m ws ≡ None
 none_free m rs bs [] [] kept is closed all = refl
 none_free m rs bs [] (w ∷ ws) kept is closed all = cc
 none_free m rs bs (None ∷ ns) ws kept is closed all = none_free m rs bs ns ws kept is closed all
@@ -153,7 +153,7 @@ none_free m rs bs (Some n ∷ ns) (w ∷ ws) kept is closed all = passed m rs bs
 -- ---- One note fewer
 
 -- a noted command waits
-there_waits : (m : Machine) (rs : List Resource) (bs : List (Option ℕ)) (ns : List (Option Note)) (ws : List Suspended) (i : ℕ) (n : Note) → AreNoted m rs bs ns ws → slice_get ns i ≡ Some (Some n) → is_waiting ws n.label ≡ true
+there_waits : (m : Machine) (rs : List Resource) (bs : List (Option ℕ)) (ns : List (Option WaitNote)) (ws : List Suspended) (i : ℕ) (n : WaitNote) → AreNoted m rs bs ns ws → slice_get ns i ≡ Some (Some n) → is_waiting ws n.label ≡ true
 there_waits m rs bs [] ws i n is there = cc
 there_waits m rs bs (None ∷ ns) ws zero n is there = cc
 there_waits m rs bs (None ∷ ns) ws (suc i) n is there = there_waits m rs bs ns ws i n is there
@@ -174,7 +174,7 @@ not_waiting_awake (w ∷ ws) label awake =
     ] awake
 
 -- without the note at a place, and without its command
-pub noted_without : (m : Machine) (rs : List Resource) (bs : List (Option ℕ)) (ns : List (Option Note)) (ws : List Suspended) (i : ℕ) (n : Note) → AreApart ws → AreNoted m rs bs ns ws → slice_get ns i ≡ Some (Some n) →
+pub noted_without : (m : Machine) (rs : List Resource) (bs : List (Option ℕ)) (ns : List (Option WaitNote)) (ws : List Suspended) (i : ℕ) (n : WaitNote) → AreApart ws → AreNoted m rs bs ns ws → slice_get ns i ≡ Some (Some n) →
     AreNoted m rs bs (slice_set ns i None) (not_waiting ws n.label)
 noted_without m rs bs [] ws i n apart is there = cc
 noted_without m rs bs (None ∷ ns) ws zero n apart is there = cc
@@ -193,7 +193,7 @@ noted_without m rs bs (Some k ∷ ns) (w ∷ ws) (suc i) n apart is there =
     (is.0, noted_without m rs bs ns ws i n apart.1 is.1 there)
 
 -- the notes of other labels, without a label's command
-pub noted_none : (m : Machine) (rs : List Resource) (bs : List (Option ℕ)) (label : Bytes) (ns : List (Option Note)) (ws : List Suspended) → HasNone label ns → AreNoted m rs bs ns ws → AreNoted m rs bs ns (not_waiting ws label)
+pub noted_none : (m : Machine) (rs : List Resource) (bs : List (Option ℕ)) (label : Bytes) (ns : List (Option WaitNote)) (ws : List Suspended) → HasNone label ns → AreNoted m rs bs ns ws → AreNoted m rs bs ns (not_waiting ws label)
 noted_none m rs bs label [] ws none is = tt
 noted_none m rs bs label (None ∷ ns) ws none is = noted_none m rs bs label ns ws (λ i n there. none (suc i) n there) is
 noted_none m rs bs label (Some k ∷ ns) [] none is = absurd is
@@ -203,7 +203,7 @@ noted_none m rs bs label (Some k ∷ ns) (w ∷ ws) none is =
     (is.0, noted_none m rs bs label ns ws (λ i n there. none (suc i) n there) is.1)
 
 -- so without the command of a label, whether it has a note or not
-pub noted_dropped : (m : Machine) (rs : List Resource) (bs : List (Option ℕ)) (label : Bytes) (ns : List (Option Note)) (ws : List Suspended) (at : Option ℕ) → AreApart ws → IsPlaceOf label ns at → AreNoted m rs bs ns ws →
+pub noted_dropped : (m : Machine) (rs : List Resource) (bs : List (Option ℕ)) (label : Bytes) (ns : List (Option WaitNote)) (ws : List Suspended) (at : Option ℕ) → AreApart ws → IsPlaceOf label ns at → AreNoted m rs bs ns ws →
     AreNoted m rs bs (without ns at) (not_waiting ws label)
 noted_dropped m rs bs label ns ws None apart none is = noted_none m rs bs label ns ws none is
 noted_dropped m rs bs label ns ws (Some at) apart place is =
@@ -219,26 +219,26 @@ given_other u b v = by (is_unit b u) refl
     by true same is = cc
     by false differs is = (is, λ e. false≢true (sym differs ∙ ap (λ x. is_unit x u) (is ∙ ap Some (sym e)) ∙ eq-eqb u u refl))
 
-of_line_given : (unit : Option ℕ) (bs : List (Option ℕ)) (g : ℕ) → of_line (map (given_up unit) bs) g ≡ given_up unit (of_line bs g)
-of_line_given None [] g = refl
-of_line_given (Some u) [] g = refl
-of_line_given unit (b ∷ bs) zero = refl
-of_line_given unit (b ∷ bs) (suc g) = of_line_given unit bs g
+of_group_given : (unit : Option ℕ) (bs : List (Option ℕ)) (g : ℕ) → of_group (map (given_up unit) bs) g ≡ given_up unit (of_group bs g)
+of_group_given None [] g = refl
+of_group_given (Some u) [] g = refl
+of_group_given unit (b ∷ bs) zero = refl
+of_group_given unit (b ∷ bs) (suc g) = of_group_given unit bs g
 
 module _ (unit : Option ℕ) (bs : List (Option ℕ)) where
-  blocker_given : (k : Note) → blocker_in (map (given_up unit) bs) (given_note unit k) ≡ given_up unit (blocker_in bs k)
-  blocker_given k = by k.line
+  blocker_given : (k : WaitNote) → blocker_in (map (given_up unit) bs) (given_note unit k) ≡ given_up unit (blocker_in bs k)
+  blocker_given k = by k.group
     where
-      by : (line : Option ℕ) → blocker_by (map (given_up unit) bs) line (given_up unit k.blocker) ≡ given_up unit (blocker_by bs line k.blocker)
+      by : (group : Option ℕ) → blocker_by (map (given_up unit) bs) group (given_up unit k.blocker) ≡ given_up unit (blocker_by bs group k.blocker)
       by None = refl
-      by (Some g) = of_line_given unit bs g
+      by (Some g) = of_group_given unit bs g
 
 -- if no unit is forgotten all stays
 pub given_none : (bs : List (Option ℕ)) → map (given_up None) bs ≡ bs
 given_none [] = refl
 given_none (b ∷ bs) = ap (λ r. b ∷ r) (given_none bs)
 
-pub forgotten_none : (ns : List (Option Note)) → map (forgotten None) ns ≡ ns
+pub forgotten_none : (ns : List (Option WaitNote)) → map (forgotten None) ns ≡ ns
 forgotten_none [] = refl
 forgotten_none (None ∷ ns) = ap (λ r. None ∷ r) (forgotten_none ns)
 forgotten_none (Some n ∷ ns) = ap (λ r. Some n ∷ r) (forgotten_none ns)
@@ -250,7 +250,7 @@ use_yet o p rs w g same is = subst (λ x. IsUse x rs w g) (sym same) is
 
 module _ (m n : Machine) (rs : List Resource) (bs : List (Option ℕ)) (t : Task) (others : LeavesTasks t.label t.unit m n) (active : may_act m.units t.unit ≡ true) where
   -- whose unit gives nothing up
-  pub noted_kept : ((v : ℕ) → t.unit ≡ Some v → Keeps m.units n.units v) → (k : Note) (w : Suspended) → t.label ≢ w.label → IsNoted m rs bs k w → IsNoted n rs bs k w
+  pub noted_kept : ((v : ℕ) → t.unit ≡ Some v → Keeps m.units n.units v) → (k : WaitNote) (w : Suspended) → t.label ≢ w.label → IsNoted m rs bs k w → IsNoted n rs bs k w
   noted_kept keeps k w other is = record {
     label = is.label;
     blocked = λ h own. blocked_yet m n t h others active (λ v of_t. inr (keeps v of_t)) w other (is.blocked h own);
@@ -258,7 +258,7 @@ module _ (m n : Machine) (rs : List Resource) (bs : List (Option ℕ)) (t : Task
   }
 
   -- or is forgotten
-  pub noted_forgot : (k : Note) (w : Suspended) → t.label ≢ w.label → IsNoted m rs bs k w → IsNoted n rs (map (given_up t.unit) bs) (given_note t.unit k) w
+  pub noted_forgot : (k : WaitNote) (w : Suspended) → t.label ≢ w.label → IsNoted m rs bs k w → IsNoted n rs (map (given_up t.unit) bs) (given_note t.unit k) w
   noted_forgot k w other is = by t.unit refl
     where
       by : (o : Option ℕ) → t.unit ≡ o → IsNoted n rs (map (given_up o) bs) (given_note o k) w
@@ -276,8 +276,8 @@ pub apart_label : (w : Suspended) (label : Bytes) → is_same w.label label ≡ 
 apart_label w label differs e = false≢true (sym differs ∙ ap (is_same w.label) e ∙ is_same-self w.label)
 
 -- the notes of the other tasks' commands
-noted_others : (m n : Machine) (rs : List Resource) (bs cs : List (Option ℕ)) (label : Bytes) (unit : Option ℕ) → ((k : Note) (w : Suspended) → label ≢ w.label → IsNoted m rs bs k w → IsNoted n rs cs (given_note unit k) w) →
-    (ns : List (Option Note)) (ws : List Suspended) → is_waiting ws label ≡ false → AreNoted m rs bs ns ws → AreNoted n rs cs (map (forgotten unit) ns) ws
+noted_others : (m n : Machine) (rs : List Resource) (bs cs : List (Option ℕ)) (label : Bytes) (unit : Option ℕ) → ((k : WaitNote) (w : Suspended) → label ≢ w.label → IsNoted m rs bs k w → IsNoted n rs cs (given_note unit k) w) →
+    (ns : List (Option WaitNote)) (ws : List Suspended) → is_waiting ws label ≡ false → AreNoted m rs bs ns ws → AreNoted n rs cs (map (forgotten unit) ns) ws
 noted_others m n rs bs cs label unit follows [] ws awake is = tt
 noted_others m n rs bs cs label unit follows (None ∷ ns) ws awake is = noted_others m n rs bs cs label unit follows ns ws awake is
 noted_others m n rs bs cs label unit follows (Some k ∷ ns) [] awake is = absurd is
@@ -287,7 +287,7 @@ noted_others m n rs bs cs label unit follows (Some k ∷ ns) (w ∷ ws) awake is
       | false ↦ λ differs rest. (follows k w (apart_label w label differs) is.0, noted_others m n rs bs cs label unit follows ns ws rest is.1)
     ] refl awake
 
-module _ (m n : Machine) (rs : List Resource) (bs : List (Option ℕ)) (t : Task) (others : LeavesTasks t.label t.unit m n) (active : may_act m.units t.unit ≡ true) (ns : List (Option Note)) (ws : List Suspended) (awake : is_waiting ws t.label ≡ false) (is : AreNoted m rs bs ns ws) where
+module _ (m n : Machine) (rs : List Resource) (bs : List (Option ℕ)) (t : Task) (others : LeavesTasks t.label t.unit m n) (active : may_act m.units t.unit ≡ true) (ns : List (Option WaitNote)) (ws : List Suspended) (awake : is_waiting ws t.label ≡ false) (is : AreNoted m rs bs ns ws) where
   -- after a step of a task whose unit is forgotten
   pub noted_given : AreNoted n rs (map (given_up t.unit) bs) (map (forgotten t.unit) ns) ws
   noted_given = noted_others m n rs bs (map (given_up t.unit) bs) t.label t.unit (noted_forgot m n rs bs t others active) ns ws awake is
@@ -335,7 +335,7 @@ module _ (m n : Machine) (units : n.units ≡ m.units) (tasks : (l : Bytes) (t :
     keeps = subst (λ s. KeepsWaiting s is.task.unit h w.command.verb w.op) (sym units) is.keeps;
   }
 
-  pub noted_same : (rs : List Resource) (bs : List (Option ℕ)) (ns : List (Option Note)) (ws : List Suspended) → AreNoted m rs bs ns ws → AreNoted n rs bs ns ws
+  pub noted_same : (rs : List Resource) (bs : List (Option ℕ)) (ns : List (Option WaitNote)) (ws : List Suspended) → AreNoted m rs bs ns ws → AreNoted n rs bs ns ws
   noted_same rs bs = noted_each m n rs rs bs bs (λ k w is. record {
     label = is.label;
     blocked = λ h own. same_blocked h w (is.blocked h own);

@@ -8,7 +8,7 @@ use Rattle.std.proofs.lemmas.List.{length-append}
 use Rattle.cics_names.specs.Keyed.{Bytes}
 use Rattle.cics_history.specs.declared.resources.Resource.{Resource}
 use Rattle.cics_history.specs.Events.{may_act}
-use Rattle.cics_dispatch.specs.declared.notes.notes.Note.{Note}
+use Rattle.cics_dispatch.specs.declared.notes.notes.WaitNote.{WaitNote}
 use Rattle.cics_dispatch.specs.Machine.Machine.{Machine, Task, Suspended, RegionValue, task_at, is_waiting, not_waiting, with_waiting, abended}
 use Rattle.cics_dispatch.specs.Machine.Checks.{fault_of}
 use Rattle.cics_dispatch.specs.Machine.Steps.{Stepped, attach_refusal, attached, with_new_task, new_task, refused_or, checked, issue_refusal, issued_by, issued, by_op}
@@ -91,15 +91,15 @@ abbrev forgot_of : Machine → Command → Outcome → Option ℕ → Option ℕ
 forgot_of m c outcome unit = if is_keeping m.units.opening c.verb && goes_on outcome then None else unit
 
 -- the notes of these commands are right, and their deadlines
-abbrev AreBoth : Machine → List Resource → List (Option ℕ) → List (Option Note) → List ℕ → List Suspended → Type 0
+abbrev AreBoth : Machine → List Resource → List (Option ℕ) → List (Option WaitNote) → List ℕ → List Suspended → Type 0
 AreBoth m rs bs ns ds ws = AreNoted m rs bs ns ws × AreDue m.tasks ns ws ds
 
 -- after a command of a task the notes are right once that is forgotten, and if it doesn't wait the
 -- same commands wait
-abbrev noted_then : Machine → Machine → Bytes → List Resource → List (Option ℕ) → List (Option Note) → List ℕ → Type 0
+abbrev noted_then : Machine → Machine → Bytes → List Resource → List (Option ℕ) → List (Option WaitNote) → List ℕ → Type 0
 noted_then m n label rs bs ns ds = AreBoth n rs bs ns ds n.waiting × (is_waiting n.waiting label ≡ false → n.waiting ≡ m.waiting)
 
-module _ (m : Machine) (c : Command) (rs : List Resource) (bs : List (Option ℕ)) (ns : List (Option Note)) (ds : List ℕ) (noted : AreNoted m rs bs ns m.waiting)
+module _ (m : Machine) (c : Command) (rs : List Resource) (bs : List (Option ℕ)) (ns : List (Option WaitNote)) (ds : List ℕ) (noted : AreNoted m rs bs ns m.waiting)
     (due : AreDue m.tasks ns m.waiting ds) where
   checked_noted : (t : Task) (unit : Option ℕ) (outcome : Outcome) → may_act m.units t.unit ≡ true → unit ≡ t.unit → is_waiting m.waiting t.label ≡ false → (checked m t c (fault_of m t c.verb)).outcome ≡ outcome →
       noted_then m (checked m t c (fault_of m t c.verb)).machine t.label rs (map (given_up (forgot_of m c outcome unit)) bs) (map (forgotten (forgot_of m c outcome unit)) ns) ds
@@ -135,7 +135,7 @@ module _ (m : Machine) (c : Command) (rs : List Resource) (bs : List (Option ℕ
       cs : List (Option ℕ)
       cs = map (given_up (forgot_of m c outcome unit)) bs
 
-      ks : List (Option Note)
+      ks : List (Option WaitNote)
       ks = map (forgotten (forgot_of m c outcome unit)) ns
 
       by_refusal : (t : Task) → t.label ≡ label → task_at m.tasks label ≡ Some t → (refusal : Option Refused) → issue_refusal m (Some t) ≡ refusal →
@@ -155,7 +155,7 @@ module _ (m : Machine) (c : Command) (rs : List Resource) (bs : List (Option ℕ
 -- ---- Commands that resume
 
 -- waits that stand aside make no difference to the notes
-noted_aside : (m : Machine) (rs : List Resource) (bs : List (Option ℕ)) (ns : List (Option Note)) (ws vs : List Suspended) → AreNoted m rs bs ns vs → AreNoted (with_waiting m ws) rs bs ns vs
+noted_aside : (m : Machine) (rs : List Resource) (bs : List (Option ℕ)) (ns : List (Option WaitNote)) (ws vs : List Suspended) → AreNoted m rs bs ns vs → AreNoted (with_waiting m ws) rs bs ns vs
 noted_aside m rs bs ns ws vs = noted_same m (with_waiting m ws) refl (λ l t there. there) rs bs ns vs
 
 -- a command that needn't wait adds none to those that wait
@@ -173,7 +173,7 @@ none_added m n label waits fewer awake = elim waits [
     never : length n.waiting ≡ length m.waiting + 1 → ⊥
     never grown = omega (arith, fewer, grown)
 
-woken_noted : (m : Machine) (rs : List Resource) (bs : List (Option ℕ)) (ns : List (Option Note)) (ds : List ℕ) (label : Bytes) (unit : Option ℕ) → AreTasksKept m → AreBoth m rs bs ns ds (not_waiting m.waiting label) →
+woken_noted : (m : Machine) (rs : List Resource) (bs : List (Option ℕ)) (ns : List (Option WaitNote)) (ds : List ℕ) (label : Bytes) (unit : Option ℕ) → AreTasksKept m → AreBoth m rs bs ns ds (not_waiting m.waiting label) →
     IsFirstFree m label → ((t : Task) → task_at m.tasks label ≡ Some t → unit ≡ t.unit) → AreBoth (woken m).machine rs (map (given_up unit) bs) (map (forgotten unit) ns) ds (woken m).machine.waiting
 woken_noted m rs bs ns ds label unit kept noted free own =
     subst (λ o. AreBoth (woken_first m o).machine rs (map (given_up unit) bs) (map (forgotten unit) ns) ds (woken_first m o).machine.waiting) (sym free.first) (by (task_at m.tasks w.label) refl)
@@ -213,7 +213,7 @@ late_acts m t kept = by m.waiting
       | false ↦ λ later. by ws later
     ] is
 
-expired_noted : (m : Machine) (rs : List Resource) (bs : List (Option ℕ)) (ns : List (Option Note)) (ds : List ℕ) (t : Task) (unit : Option ℕ) → AreTasksKept m → AreBoth m rs bs ns ds (not_waiting m.waiting t.label) →
+expired_noted : (m : Machine) (rs : List Resource) (bs : List (Option ℕ)) (ns : List (Option WaitNote)) (ds : List ℕ) (t : Task) (unit : Option ℕ) → AreTasksKept m → AreBoth m rs bs ns ds (not_waiting m.waiting t.label) →
     first_late m m.waiting ≡ Some t → unit ≡ t.unit → AreBoth (expired m).machine rs (map (given_up unit) bs) (map (forgotten unit) ns) ds (expired m).machine.waiting
 expired_noted m rs bs ns ds t unit kept noted first own =
     subst (λ o. AreBoth (expired_task m o).machine rs (map (given_up unit) bs) (map (forgotten unit) ns) ds (expired_task m o).machine.waiting) (sym first)
@@ -318,7 +318,7 @@ remembered_woken m n v mid new at label unit is_settled is_in_time kept apart no
         )) free.first own
 
 -- if a task has been abended for its time
-pub remembered_expired : (m n : Machine) (v new : NotesValue) (ns : List (Option Note)) (ds : List ℕ) (is_in_time : Bool) (t : Task) (unit : Option ℕ) → AreTasksKept m →
+pub remembered_expired : (m n : Machine) (v new : NotesValue) (ns : List (Option WaitNote)) (ds : List ℕ) (is_in_time : Bool) (t : Task) (unit : Option ℕ) → AreTasksKept m →
     AreNoted m v.resources v.blockers ns (not_waiting m.waiting t.label) → AreDue m.tasks ns (not_waiting m.waiting t.label) ds → first_late m m.waiting ≡ Some t → unit ≡ t.unit → n ≡ (expired m).machine →
     new.rows ≡ map (forgotten unit) ns → new.blockers ≡ map (given_up unit) v.blockers → new.resources ≡ v.resources → new.deadlines ≡ ds → is_in_time ≡ false → IsRemembered n new false is_in_time
 remembered_expired m n v new ns ds is_in_time t unit kept noted due first own step rows blockers resources deadlines late = record {

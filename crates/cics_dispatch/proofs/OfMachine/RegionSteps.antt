@@ -14,8 +14,8 @@ use Rattle.cics_history.specs.Headline.{IsHeadline, is_open}
 use Rattle.cics_history.specs.Serial.{IsSerializable}
 use Rattle.cics_history.specs.declared.ops.UnitState.{UnitState}
 use Rattle.cics_history.specs.declared.ops.UnitState.TheVariants.{BackedOut}
-use Rattle.cics_dispatch.specs.declared.machine.outcomes.Ending.{Ending}
-use Rattle.cics_dispatch.specs.declared.machine.outcomes.Ending.TheVariants.{Commit, Backout}
+use Rattle.cics_dispatch.specs.declared.machine.outcomes.UnitEnding.{UnitEnding}
+use Rattle.cics_dispatch.specs.declared.machine.outcomes.UnitEnding.TheVariants.{Commit, Backout}
 use Rattle.std.proofs.lemmas.Bool.{true≢false, false≢true}
 use Rattle.cics_dispatch.specs.Machine.Machine.{Machine, Task, Suspended, RegionValue, replaced, is_waiting, not_waiting, units_after, state_after, unit_closed, abended, with_unit, with_task, with_units}
 use Rattle.cics_dispatch.specs.Machine.Answers.{IsHeadlineRegion, IsSerializableRegion}
@@ -84,7 +84,7 @@ none_found None none q = q
 none_found (Some n) none q = absurd (true≢false none)
 
 -- a unit that is committed or backed out isn't open any more
-pub end_shut : (ending : Ending) → is_open (state_after ending) ≡ false
+pub end_shut : (ending : UnitEnding) → is_open (state_after ending) ≡ false
 end_shut Commit = refl
 end_shut Backout = refl
 

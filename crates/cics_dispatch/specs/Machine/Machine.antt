@@ -13,8 +13,8 @@ use Rattle.cics_history.specs.declared.ops.Op.{Op}
 use Rattle.cics_history.specs.declared.ops.UnitState.{UnitState}
 use Rattle.cics_history.specs.declared.ops.UnitState.TheVariants.{Committed, BackedOut}
 use Rattle.cics_names.specs.declared.commands.Command.{Command}
-use Rattle.cics_dispatch.specs.declared.machine.outcomes.Ending.{Ending}
-use Rattle.cics_dispatch.specs.declared.machine.outcomes.Ending.TheVariants.{Commit, Backout}
+use Rattle.cics_dispatch.specs.declared.machine.outcomes.UnitEnding.{UnitEnding}
+use Rattle.cics_dispatch.specs.declared.machine.outcomes.UnitEnding.TheVariants.{Commit, Backout}
 
 -- a task: its label, the seconds that it may wait (0: no limit), its open unit, its browses by
 -- file, and whether it has ended
@@ -101,7 +101,7 @@ units_after s None outcome = s
 units_after s (Some u) outcome = after_end s u outcome
 
 -- the state in which an ending leaves a unit
-abbrev pub state_after : Ending → UnitState
+abbrev pub state_after : UnitEnding → UnitState
 state_after Commit = Committed
 state_after Backout = BackedOut
 

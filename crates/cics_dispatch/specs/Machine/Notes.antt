@@ -7,14 +7,14 @@ use Rattle.cics_history.specs.declared.resources.Resource.{Resource}
 use Rattle.cics_history.specs.State.{OpeningState}
 use Rattle.cics_history.specs.Holding.{uses_of}
 use Rattle.cics_history.specs.declared.ops.Op.{Op}
-use Rattle.cics_dispatch.specs.declared.machine.findings.Look.{Look}
-use Rattle.cics_dispatch.specs.declared.machine.findings.Look.TheVariants.{MayGoOn, IsBlocked as Blocked}
-use Rattle.cics_dispatch.specs.declared.notes.notes.Note.{Note}
+use Rattle.cics_dispatch.specs.declared.machine.findings.WaitLook.{WaitLook}
+use Rattle.cics_dispatch.specs.declared.machine.findings.WaitLook.TheVariants.{MayGoOn, IsBlocked as Blocked}
+use Rattle.cics_dispatch.specs.declared.notes.notes.WaitNote.{WaitNote}
 use Rattle.cics_dispatch.specs.Machine.Machine.{Machine, Task, Suspended, task_at}
 use Rattle.cics_dispatch.specs.Machine.Waking.{may_go_on, first_free}
 use Rattle.cics_dispatch.specs.Machine.Settled.{reads_queue, needed_by, IsBlocked, IsInTime}
 use Rattle.cics_dispatch.specs.Machine.Deadlines.{AreDue}
-use Rattle.cics_dispatch.specs.Notes.Notes.{NotesValue, of_line, blocker_in, count, AreClosed}
+use Rattle.cics_dispatch.specs.Notes.Notes.{NotesValue, of_group, blocker_in, count, AreClosed}
 
 -- the command uses the resource of a wait group and nothing else, and isn't READQ TD
 pub record IsUse (o : OpeningState) (rs : List Resource) (w : Suspended) (g : ℕ) : Type 0 where
@@ -25,13 +25,13 @@ pub record IsUse (o : OpeningState) (rs : List Resource) (w : Suspended) (g : �
 
 -- a note is right: it has the label of the command's task; if it has a blocker, that blocks the
 -- command; if it is in a wait group, the command uses the group's resource and nothing else
-pub record IsNoted (m : Machine) (rs : List Resource) (bs : List (Option ℕ)) (n : Note) (w : Suspended) : Type 0 where
+pub record IsNoted (m : Machine) (rs : List Resource) (bs : List (Option ℕ)) (n : WaitNote) (w : Suspended) : Type 0 where
   pub label : n.label ≡ w.label
   pub blocked : (u : ℕ) → blocker_in bs n ≡ Some u → IsBlocked m u w
-  pub use_of : (g : ℕ) → n.line ≡ Some g → IsUse m.units.opening rs w g
+  pub use_of : (g : ℕ) → n.group ≡ Some g → IsUse m.units.opening rs w g
 
 -- the notes are of the earliest of these commands, in order, and each is right
-abbrev pub AreNoted : Machine → List Resource → List (Option ℕ) → List (Option Note) → List Suspended → Type 0
+abbrev pub AreNoted : Machine → List Resource → List (Option ℕ) → List (Option WaitNote) → List Suspended → Type 0
 AreNoted m rs bs [] ws = Unit {0}
 AreNoted m rs bs (None ∷ ns) ws = AreNoted m rs bs ns ws
 AreNoted m rs bs (Some n ∷ ns) [] = ⊥
@@ -55,7 +55,7 @@ abbrev pub OfWait : List Suspended → Bytes → (Suspended → Type 0) → Type
 OfWait ws label P = (i : ℕ) (w : Suspended) → slice_get ws i ≡ Some w → w.label ≡ label → P w
 
 -- what a look finds is true
-abbrev pub IsFound : Machine → Suspended → Look → Type 0
+abbrev pub IsFound : Machine → Suspended → WaitLook → Type 0
 IsFound m w MayGoOn = may_go_on m w (task_at m.tasks w.label) ≡ true
 IsFound m w (Blocked u) = IsBlocked m u w
 
@@ -79,7 +79,7 @@ OwnerIsElsewhere m rs g u = (i : ℕ) (t : Task) → slice_get m.tasks i ≡ Som
 -- a unit may be noted as a wait group's blocker: it is noted already, or no command of the group is
 -- of its task
 abbrev pub MayClose : Machine → List Resource → List (Option ℕ) → ℕ → ℕ → Type 0
-MayClose m rs bs g u = (of_line bs g ≡ Some u) ⊎ OwnerIsElsewhere m rs g u
+MayClose m rs bs g u = (of_group bs g ≡ Some u) ⊎ OwnerIsElsewhere m rs g u
 
 -- the first of these commands that may resume is the one of a label's task
 pub record IsFirstFreeOf (m : Machine) (ws : List Suspended) (label : Bytes) : Type 0 where
@@ -93,16 +93,16 @@ IsFirstFree m label = IsFirstFreeOf m m.waiting label
 
 -- the first command that may resume has its note at an index
 pub record IsFreeAt (m : Machine) (v : NotesValue) (at : ℕ) (label : Bytes) : Type 0 where
-  pub note : Note
+  pub note : WaitNote
   pub there : slice_get v.rows at ≡ Some (Some note)
   pub own : note.label ≡ label
   pub first : IsFirstFree m label
 
 -- the waiting command of a note uses the resource of the wait group g and nothing else; this may
 -- rest on the same of the note's own group, if it has one
-abbrev pub UseOf : Machine → List Resource → Note → ℕ → Type 0
+abbrev pub UseOf : Machine → List Resource → WaitNote → ℕ → Type 0
 UseOf m rs n g = (w : Suspended) (i : ℕ) → slice_get m.waiting i ≡ Some w → w.label ≡ n.label →
-    ((h : ℕ) → n.line ≡ Some h → IsUse m.units.opening rs w h) → IsUse m.units.opening rs w g
+    ((h : ℕ) → n.group ≡ Some h → IsUse m.units.opening rs w h) → IsUse m.units.opening rs w g
 
 -- what a look at the note at an index leaves: right notes, as many as before; on success none up to
 -- the index must be looked at

@@ -6,11 +6,11 @@ use Rattle.std.specs.BTreeSet.{BTreeSet, contains}
 use Rattle.std.specs.Ordering.{nat_cmp}
 use Rattle.std.specs.declared.alloc.Global.{Global}
 use Rattle.cics_history.specs.declared.resources.Resource.{Resource}
-use Rattle.cics_dispatch.specs.declared.notes.notes.Note.{Note}
+use Rattle.cics_dispatch.specs.declared.notes.notes.WaitNote.{WaitNote}
 use Rattle.cics_dispatch.specs.declared.notes.notes.Parked.{Parked}
 use Rattle.cics_dispatch.specs.declared.notes.notes.Parked.TheVariants.{Group as OfGroup, Row as OfRow}
 use Rattle.cics_dispatch.specs.declared.notes.notes.Groups.{Groups}
-use Rattle.cics_dispatch.specs.Notes.Notes.{of_line, given_up, forgotten, count}
+use Rattle.cics_dispatch.specs.Notes.Notes.{of_group, given_up, forgotten, count}
 
 -- the index is one of these
 abbrev pub has : BTreeSet ℕ → ℕ → Bool
@@ -23,10 +23,10 @@ pub record IsMember (ms : List (BTreeSet ℕ)) (g i : ℕ) : Type 0 where
   pub member : has members i ≡ true
 
 -- the note at an index is of a wait group
-pub record IsInGroup (rows : List (Option Note)) (i g : ℕ) : Type 0 where
-  pub note : Note
+pub record IsInGroup (rows : List (Option WaitNote)) (i g : ℕ) : Type 0 where
+  pub note : WaitNote
   pub there : slice_get rows i ≡ Some (Some note)
-  pub own : note.line ≡ Some g
+  pub own : note.group ≡ Some g
 
 -- one of these, not above this index, has the key 0
 pub record IsShownBy (s : BTreeSet ℕ) (keys : List ℕ) (i : ℕ) : Type 0 where
@@ -37,13 +37,13 @@ pub record IsShownBy (s : BTreeSet ℕ) (keys : List ℕ) (i : ℕ) : Type 0 whe
 
 -- each command that must be looked at has the key 0, or one of its wait group that isn't behind it
 -- has; each wait group has the indexes of its notes
-pub record IsShown (rows : List (Option Note)) (bs : List (Option ℕ)) (ms : List (BTreeSet ℕ)) (keys : List ℕ) : Type 0 where
+pub record IsShown (rows : List (Option WaitNote)) (bs : List (Option ℕ)) (ms : List (BTreeSet ℕ)) (keys : List ℕ) : Type 0 where
   pub even : length keys ≡ length rows
   pub sized : length ms ≡ length bs
-  pub alone : (i : ℕ) (n : Note) → slice_get rows i ≡ Some (Some n) → n.line ≡ None → n.blocker ≡ None → slice_get keys i ≡ Some 0
-  pub member : (i : ℕ) (n : Note) (g : ℕ) → slice_get rows i ≡ Some (Some n) → n.line ≡ Some g → IsMember ms g i
+  pub alone : (i : ℕ) (n : WaitNote) → slice_get rows i ≡ Some (Some n) → n.group ≡ None → n.blocker ≡ None → slice_get keys i ≡ Some 0
+  pub member : (i : ℕ) (n : WaitNote) (g : ℕ) → slice_get rows i ≡ Some (Some n) → n.group ≡ Some g → IsMember ms g i
   pub row : (g : ℕ) (s : BTreeSet ℕ) (i : ℕ) → slice_get ms g ≡ Some s → has s i ≡ true → IsInGroup rows i g
-  pub first : (g : ℕ) (s : BTreeSet ℕ) (i : ℕ) → slice_get ms g ≡ Some s → of_line bs g ≡ None → has s i ≡ true → IsShownBy s keys i
+  pub first : (g : ℕ) (s : BTreeSet ℕ) (i : ℕ) → slice_get ms g ≡ Some s → of_group bs g ≡ None → has s i ≡ true → IsShownBy s keys i
 
 -- the same, of the notes with their wait groups
 abbrev pub AreShown : Groups → Type 0
@@ -61,18 +61,18 @@ abbrev pub KeepParked : List (ℕ × Vec Parked Global) → List (ℕ × Vec Par
 KeepParked parked more = (u : ℕ) (what : Parked) → IsParked parked u what → IsParked more u what
 
 -- the note at an index has this blocker of its own
-pub record IsAlone (rows : List (Option Note)) (i u : ℕ) : Type 0 where
-  pub note : Note
+pub record IsAlone (rows : List (Option WaitNote)) (i u : ℕ) : Type 0 where
+  pub note : WaitNote
   pub there : slice_get rows i ≡ Some (Some note)
   pub own : note.blocker ≡ Some u
 
 -- each wait group, and each command in none, is in its blocker's list
-pub record AreParked (rows : List (Option Note)) (bs : List (Option ℕ)) (parked : List (ℕ × Vec Parked Global)) : Type 0 where
+pub record AreParked (rows : List (Option WaitNote)) (bs : List (Option ℕ)) (parked : List (ℕ × Vec Parked Global)) : Type 0 where
   pub rows_of : (i u : ℕ) → IsAlone rows i u → IsParked parked u (OfRow i)
-  pub groups_of : (g u : ℕ) → of_line bs g ≡ Some u → IsParked parked u (OfGroup g)
+  pub groups_of : (g u : ℕ) → of_group bs g ≡ Some u → IsParked parked u (OfGroup g)
 
 -- the notes are counted, shown and parked, and each wait group has its resource
-pub record IsFiled (rows : List (Option Note)) (k : ℕ) (rs : List Resource) (bs : List (Option ℕ)) (ms : List (BTreeSet ℕ)) (parked : List (ℕ × Vec Parked Global)) (keys : List ℕ) : Type 0 where
+pub record IsFiled (rows : List (Option WaitNote)) (k : ℕ) (rs : List Resource) (bs : List (Option ℕ)) (ms : List (BTreeSet ℕ)) (parked : List (ℕ × Vec Parked Global)) (keys : List ℕ) : Type 0 where
   pub counted : k ≡ count rows
   pub resources : length rs ≡ length bs
   pub shown : IsShown rows bs ms keys
@@ -98,7 +98,7 @@ pub record HasLeft (at g : ℕ) (bs : List (Option ℕ)) (ms : List (BTreeSet �
   pub there : slice_get ms g ≡ Some old
   pub gone : IsPut at false old rest
   pub put : ls ≡ slice_set ms g rest
-  pub first : IsFirstShown (of_line bs g) rest keys new
+  pub first : IsFirstShown (of_group bs g) rest keys new
 
 -- a command has left its wait group, or was in none
 abbrev pub IsLeft : ℕ → Option ℕ → List (Option ℕ) → List (BTreeSet ℕ) → List ℕ → List (BTreeSet ℕ) → List ℕ → Type 0
@@ -106,16 +106,16 @@ IsLeft at None bs ms keys ls new = (ls ≡ ms) × (new ≡ keys)
 IsLeft at (Some g) bs ms keys ls new = HasLeft at g bs ms keys ls new
 
 -- what an entry stands for isn't blocked by a unit
-abbrev pub IsNotOf : List (Option Note) → List (Option ℕ) → ℕ → Parked → Type 0
+abbrev pub IsNotOf : List (Option WaitNote) → List (Option ℕ) → ℕ → Parked → Type 0
 IsNotOf rows bs u (OfRow i) = IsAlone rows i u → ⊥
-IsNotOf rows bs u (OfGroup g) = of_line bs g ≡ Some u → ⊥
+IsNotOf rows bs u (OfGroup g) = of_group bs g ≡ Some u → ⊥
 
 -- some of what a unit blocked must be looked at, and nothing else has changed
-pub record IsReopening (u : ℕ) (rows ns : List (Option Note)) (bs cs : List (Option ℕ)) : Type 0 where
+pub record IsReopening (u : ℕ) (rows ns : List (Option WaitNote)) (bs cs : List (Option ℕ)) : Type 0 where
   pub rows_alike : map (forgotten (Some u)) ns ≡ map (forgotten (Some u)) rows
   pub groups_alike : map (given_up (Some u)) cs ≡ map (given_up (Some u)) bs
   pub rows_of : (i v : ℕ) → IsAlone ns i v → IsAlone rows i v
-  pub groups_of : (g v : ℕ) → of_line cs g ≡ Some v → of_line bs g ≡ Some v
+  pub groups_of : (g v : ℕ) → of_group cs g ≡ Some v → of_group bs g ≡ Some v
 
 -- the same, of the notes with their wait groups
 abbrev pub Reopens : ℕ → Groups → Groups → Type 0

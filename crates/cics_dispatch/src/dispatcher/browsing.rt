@@ -14,7 +14,7 @@ ghost use Rattle.cics_dispatch.specs.Machine.Regions.{ArePromised};
 
 use crate::dispatcher::Dispatcher;
 use crate::machine::{
-    Direction, Outcome, Start, plain_reply, read_on, read_plain, reply_of_browsed,
+    BrowseStart, Direction, Outcome, plain_reply, read_on, read_plain, reply_of_browsed,
 };
 use cics_browse::Browse;
 use cics_history::UnitId;
@@ -74,7 +74,7 @@ impl Dispatcher {
         at: usize,
         resp: bool,
         name: Name8,
-        start: Start,
+        start: BrowseStart,
     ) -> Result<Outcome, NoMemory>
         requires within { at < length self.old.machine.tasks }
         requires awake { IsAwake self.old.machine at }
@@ -86,7 +86,7 @@ impl Dispatcher {
         let Some(file) = self.units.file(&name) else {
             unreachable!();
         };
-        let Start {
+        let BrowseStart {
             key,
             generic,
             equal,
@@ -104,7 +104,7 @@ impl Dispatcher {
         at: usize,
         resp: bool,
         name: &Name8,
-        start: Start,
+        start: BrowseStart,
     ) -> Outcome
         requires within { at < length self.old.machine.tasks }
         requires awake { IsAwake self.old.machine at }
@@ -120,7 +120,7 @@ impl Dispatcher {
         let Some(browse) = self.tasks.browses_mut(at).get_mut(name) else {
             unreachable!();
         };
-        let Start {
+        let BrowseStart {
             key,
             generic,
             equal,

@@ -16,7 +16,7 @@ ghost use Rattle.cics_dispatch.specs.Machine.Emptied.{whole};
 
 use crate::dispatcher::Dispatcher;
 use crate::machine::{
-    Direction, Ending, Outcome, Reason, Refused, Start, plain_reply, take, take_op,
+    BrowseStart, Direction, Outcome, Reason, Refused, UnitEnding, plain_reply, take, take_op,
 };
 use cics_names::{AbendCode, Command, Condition, Name4, Name8, NoMemory, Verb};
 use cics_units::Op;
@@ -91,7 +91,7 @@ impl Dispatcher {
                 equal,
                 ..
             } => {
-                let start = Start {
+                let start = BrowseStart {
                     key: take(alloc, key),
                     generic: *generic,
                     equal: *equal,
@@ -105,7 +105,7 @@ impl Dispatcher {
                 equal,
                 ..
             } => {
-                let start = Start {
+                let start = BrowseStart {
                     key: take(alloc, key),
                     generic: *generic,
                     equal: *equal,
@@ -139,10 +139,10 @@ impl Dispatcher {
             Verb::Deq { resource, length } => {
                 Ok(self.dequeue(at, resp, &resource.bytes()[..*length as usize]))
             }
-            Verb::Syncpoint => Ok(self.end_of_unit(at, Ending::Commit)),
-            Verb::Rollback => Ok(self.end_of_unit(at, Ending::Backout)),
+            Verb::Syncpoint => Ok(self.end_of_unit(at, UnitEnding::Commit)),
+            Verb::Rollback => Ok(self.end_of_unit(at, UnitEnding::Backout)),
             Verb::Return => {
-                self.close(at, Ending::Commit, true);
+                self.close(at, UnitEnding::Commit, true);
                 Ok(Outcome::Ended)
             }
             Verb::Abend { code } => {
@@ -154,7 +154,7 @@ impl Dispatcher {
     }
 
     // Executes SYNCPOINT, with or without ROLLBACK.
-    fn end_of_unit(&mut self, at: usize, ending: Ending) -> Outcome
+    fn end_of_unit(&mut self, at: usize, ending: UnitEnding) -> Outcome
         requires within { at < length self.old.machine.tasks }
         requires awake { IsAwake self.old.machine at }
         ensures outcome { result ≡ Replied (plain Normal) }

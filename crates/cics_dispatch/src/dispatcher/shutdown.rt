@@ -8,7 +8,7 @@ ghost use Rattle.cics_dispatch.specs.Machine.Shutdown.{units_of, all_ended, shut
 ghost use Rattle.cics_dispatch.specs.Machine.Calls.{KeepsRegion};
 
 use crate::dispatcher::Dispatcher;
-use crate::machine::{Ending, Waits};
+use crate::machine::{UnitEnding, Waits};
 
 impl Dispatcher {
     // Ends each task, in the order of attach, and backs its unit out. Returns how many units there
@@ -26,7 +26,7 @@ impl Dispatcher {
             if self.tasks.get(at).unit().is_some() {
                 count += 1;
             }
-            self.close(at, Ending::Backout, true);
+            self.close(at, UnitEnding::Backout, true);
         }
         count
     }

@@ -15,8 +15,8 @@ ghost use Rattle.cics_dispatch.specs.Words.{HasReady, KeepsRegion, IsStepOrRefus
 ghost use Rattle.cics_dispatch.specs.Words.{going_on};
 
 use crate::dispatcher::Dispatcher;
-use crate::machine::{Attempt, Expired, Free, Late, Look, Outcome, Suspended, Waits, Woken};
-use crate::notes::{Note, Notes};
+use crate::machine::{Attempt, Expired, Free, Late, Outcome, Suspended, WaitLook, Waits, Woken};
+use crate::notes::{Notes, WaitNote};
 use cics_history::{Resource, UnitId};
 use cics_names::{AbendCode, Name4, Name8, NoMemory, Verb};
 use cics_units::Op;
@@ -90,7 +90,7 @@ impl Dispatcher {
     }
 
     /// Looks at the waiting command of a label's task: it may resume, or a unit blocks it.
-    pub(crate) fn look(&self, label: &Name8) -> Look
+    pub(crate) fn look(&self, label: &Name8) -> WaitLook
         requires { is_waiting self.now.machine.waiting label.now ≡ true }
         ensures { OfWait self.now.machine.waiting label.now
             (λ w. IsFound self.now.machine w result) }
@@ -102,8 +102,8 @@ impl Dispatcher {
             unreachable!();
         };
         match self.awaited(at, wait) {
-            None => Look::MayGoOn,
-            Some(unit) => Look::IsBlocked(unit),
+            None => WaitLook::MayGoOn,
+            Some(unit) => WaitLook::IsBlocked(unit),
         }
     }
 
@@ -130,20 +130,20 @@ impl Dispatcher {
     // Returns false only if the waiting command of a label's task can't be one of a wait group. It
     // isn't inlined: a resource takes over 255 bytes of the frame, and few looks need one.
     #[inline(never)]
-    fn may_be_in_line(&self, notes: &Notes, line: usize, label: &Name8) -> bool
+    fn may_be_in_group(&self, notes: &Notes, group: usize, label: &Name8) -> bool
         ensures { result ≡ false → OfWait self.now.machine.waiting label.now
-            (λ w. IsUse self.now.machine.units.opening notes.now.resources w line → ⊥) }
+            (λ w. IsUse self.now.machine.units.opening notes.now.resources w group → ⊥) }
     {
         match self.need(label) {
-            Some(resource) => notes.is_line_of(line, &resource),
+            Some(resource) => notes.is_group_of(group, &resource),
             None => true,
         }
     }
 
     // Returns false only if no command of a wait group is of the unit's own task.
-    fn owner_waits_in(&self, notes: &Notes, line: usize, unit: UnitId) -> bool
+    fn owner_waits_in(&self, notes: &Notes, group: usize, unit: UnitId) -> bool
         ensures { result ≡ false
-            → OwnerIsElsewhere self.now.machine notes.now.resources line unit }
+            → OwnerIsElsewhere self.now.machine notes.now.resources group unit }
     {
         let Some(label) = self.tasks.label_of(unit) else {
             return false;
@@ -151,26 +151,32 @@ impl Dispatcher {
         if !self.waits.is_waiting(&label) {
             return false;
         }
-        self.may_be_in_line(notes, line, &label)
+        self.may_be_in_group(notes, group, &label)
     }
 
     // Returns whether a unit that blocks one command of a wait group may be noted for the whole
     // group. It may if it is noted already, or if the group has no blocker noted and no command of
     // the unit's own task.
-    fn may_close(&self, notes: &Notes, line: usize, unit: UnitId) -> bool
-        requires { line < length notes.now.blockers }
+    fn may_close(&self, notes: &Notes, group: usize, unit: UnitId) -> bool
+        requires { group < length notes.now.blockers }
         ensures { result ≡ true → MayClose self.now.machine
-            notes.now.resources notes.now.blockers line unit }
+            notes.now.resources notes.now.blockers group unit }
     {
-        match notes.line_blocker(line) {
+        match notes.group_blocker(group) {
             Some(blocker) => blocker == unit,
-            None => !self.owner_waits_in(notes, line, unit),
+            None => !self.owner_waits_in(notes, group, unit),
         }
     }
 
     // Notes the unit that blocks the first command that must be looked at, as the blocker of its
     // whole wait group if it may. On error the command must be looked at again.
-    fn file(&self, notes: &mut Notes, at: usize, note: &Note, unit: UnitId) -> Result<(), NoMemory>
+    fn note_blocker(
+        &self,
+        notes: &mut Notes,
+        at: usize,
+        note: &WaitNote,
+        unit: UnitId,
+    ) -> Result<(), NoMemory>
         requires first { IsFirstOpen notes.old at note.now }
         requires kept { AreTasksKept self.now.machine }
         requires noted { AreNotedNow self.now.machine notes.old }
@@ -178,25 +184,25 @@ impl Dispatcher {
             (IsBlocked self.now.machine unit) }
         ensures { IsLooked self.now.machine notes.old notes.new at (is_ok result) }
     {
-        if let Some(line) = note.line {
-            return self.file_in(notes, (at, *note), line, unit);
+        if let Some(group) = note.group {
+            return self.note_group(notes, (at, *note), group, unit);
         }
         let Some(resource) = self.need(&note.label) else {
             return notes.set_alone(at, note, unit);
         };
-        match notes.line_of(resource) {
-            Ok(line) => self.file_in(notes, (at, *note), line, unit),
+        match notes.group_of(resource) {
+            Ok(group) => self.note_group(notes, (at, *note), group, unit),
             Err(refused) => Err(refused),
         }
     }
 
-    // Does as `file`, for a command that uses the resource of the wait group `line` alone. `found`
+    // Does as `note_blocker`, for a command that uses the resource of this wait group alone. `found`
     // is the index of its note, and the note.
-    fn file_in(
+    fn note_group(
         &self,
         notes: &mut Notes,
-        found: (usize, Note),
-        line: usize,
+        found: (usize, WaitNote),
+        group: usize,
         unit: UnitId,
     ) -> Result<(), NoMemory>
         requires first { IsFirstOpen notes.old found.0 found.1 }
@@ -204,13 +210,13 @@ impl Dispatcher {
         requires noted { AreNotedNow self.now.machine notes.old }
         requires blocked { OfWait self.now.machine.waiting found.1.label
             (IsBlocked self.now.machine unit) }
-        requires within { line < length notes.old.blockers }
-        requires only { IfSome found.1.line (λ g. g ≡ line) }
-        requires uses { UseOf self.now.machine notes.old.resources found.1 line }
+        requires within { group < length notes.old.blockers }
+        requires only { IfSome found.1.group (λ g. g ≡ group) }
+        requires uses { UseOf self.now.machine notes.old.resources found.1 group }
         ensures { IsLooked self.now.machine notes.old notes.new found.0 (is_ok result) }
     {
-        if self.may_close(notes, line, unit) {
-            notes.close(found.0, &found.1, line, unit)
+        if self.may_close(notes, group, unit) {
+            notes.close(found.0, &found.1, group, unit)
         } else {
             notes.set_alone(found.0, &found.1, unit)
         }
@@ -230,13 +236,13 @@ impl Dispatcher {
     {
         while let Some((at, note)) = notes.first_open() {
             match self.look(&note.label) {
-                Look::MayGoOn => {
+                WaitLook::MayGoOn => {
                     return Ok(Some(Free {
                         place: at,
                         label: note.label,
                     }));
                 }
-                Look::IsBlocked(unit) => self.file(notes, at, &note, unit)?,
+                WaitLook::IsBlocked(unit) => self.note_blocker(notes, at, &note, unit)?,
             }
         }
         Ok(None)

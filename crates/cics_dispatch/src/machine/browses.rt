@@ -18,7 +18,7 @@ use std::marker::Model;
 
 /// The start of a browse that STARTBR or RESETBR asks for.
 #[derive(Drop)]
-pub struct Start {
+pub struct BrowseStart {
     /// The key, or with GENERIC the first bytes of it.
     pub key: Record,
     /// Whether it has GENERIC.

@@ -4,7 +4,7 @@ use cics_history::UnitId;
 use cics_names::Name8;
 
 /// What a look at a waiting command finds.
-pub enum Look {
+pub enum WaitLook {
     /// It may resume.
     MayGoOn,
     /// It must wait as long as this unit releases nothing.

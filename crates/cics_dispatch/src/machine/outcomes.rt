@@ -48,7 +48,7 @@ pub enum Outcome {
 
 /// How a unit of work ends.
 #[derive(Clone, Copy)]
-pub enum Ending {
+pub enum UnitEnding {
     /// It is committed.
     Commit,
     /// It is backed out.

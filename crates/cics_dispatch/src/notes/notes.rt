@@ -4,10 +4,10 @@ ghost use Rattle.std.specs.Prelude.{◌≡◌, ◌<◌, ◌≤◌, ℕ, [], ◌�
 ghost use Rattle.std.specs.Prelude.{is_some, IfSome, IfNone, MatchOption, is_ok, IfOk, OnOk};
 ghost use Rattle.std.specs.Prelude.{true, false, if◌then◌else◌, slice_get, slice_set};
 ghost use Rattle.std.specs.BTreeSet.{BTreeSet as Places};
-ghost use Rattle.cics_dispatch.specs.declared.notes.notes.Note.{Note as NoteValue};
+ghost use Rattle.cics_dispatch.specs.declared.notes.notes.WaitNote.{WaitNote as NoteValue};
 ghost use Rattle.cics_dispatch.specs.declared.notes.notes.Parked.{Parked as ParkedValue};
 ghost use Rattle.cics_dispatch.specs.declared.notes.notes.Parked.TheVariants.{Group as OfGroup};
-ghost use Rattle.cics_dispatch.specs.Notes.Notes.{new_note, alone, in_line, count, of_line, blocker_in};
+ghost use Rattle.cics_dispatch.specs.Notes.Notes.{new_note, alone, in_group, count, of_group, blocker_in};
 ghost use Rattle.cics_dispatch.specs.Notes.Notes.{AreClosed, IsOpenAt, IsFirstOpen, IsNoteAt};
 ghost use Rattle.cics_dispatch.specs.Notes.Notes.{forgotten, given_up, never, without, without_deadline};
 ghost use Rattle.cics_dispatch.specs.Notes.Notes.{KeepsResources, KeepsBlockers};
@@ -25,11 +25,11 @@ use std::marker::Model;
 
 /// What is known of a waiting command.
 #[derive(Clone, Copy)]
-pub struct Note {
+pub struct WaitNote {
     /// The label of its task.
     pub label: Name8,
     /// The index of its wait group. `None` if it is in none.
-    pub line: Option<usize>,
+    pub group: Option<usize>,
     /// Its blocker, if it is in no wait group and its blocker is known. Else `None`.
     pub blocker: Option<UnitId>,
 }
@@ -47,7 +47,7 @@ enum Parked {
 #[derive(Drop)]
 struct Groups {
     // The notes, and None for each command that waits no more.
-    rows: Vec<Option<Note>>,
+    rows: Vec<Option<WaitNote>>,
     // The blocker of each wait group. None if its commands must be looked at.
     blockers: Vec<Option<UnitId>>,
     // The indexes of the notes of each wait group.
@@ -63,8 +63,8 @@ type Lists = IndexMap<UnitId, Vec<Parked>>;
 /// Notes of the earliest waiting commands, in the order in which the waits began.
 ///
 /// A command's blocker is a unit that it must wait for, as long as that releases nothing. A command
-/// whose blocker isn't known must be looked at. The commands of a wait group, a `line` in public
-/// names, use the same one resource and nothing else, and share their blocker.
+/// whose blocker isn't known must be looked at. The commands of a wait group use the same one
+/// resource and nothing else, and share their blocker.
 ///
 /// On `NoMemory` all notes stay as they are.
 ///
@@ -108,10 +108,10 @@ const LOOK: u64 = 0;
 const WAIT: u64 = 1;
 
 // Returns the blocker of a note's command, or of its wait group, if it is known.
-fn note_blocker(blockers: &[Option<UnitId>], note: &Note) -> Option<UnitId>
+fn blocker_in(blockers: &[Option<UnitId>], note: &WaitNote) -> Option<UnitId>
     ensures { result ≡ blocker_in blockers.now note.now }
 {
-    let Some(group) = note.line else {
+    let Some(group) = note.group else {
         return note.blocker;
     };
     match blockers.get(group) {
@@ -121,13 +121,13 @@ fn note_blocker(blockers: &[Option<UnitId>], note: &Note) -> Option<UnitId>
 }
 
 // Returns a note, if there is one and its command must be looked at.
-fn open_note(blockers: &[Option<UnitId>], row: Option<Note>) -> Option<Note>
+fn open_note(blockers: &[Option<UnitId>], row: Option<WaitNote>) -> Option<WaitNote>
     ensures some { IfSome result (λ n. (row ≡ Some n) × (blocker_in blockers.now n ≡ None)) }
     ensures none { IfNone result ((n : NoteValue) → row ≡ Some n
         → is_some (blocker_in blockers.now n) ≡ true) }
 {
     let note = row?;
-    match note_blocker(blockers, &note) {
+    match blocker_in(blockers, &note) {
         Some(_) => None,
         None => Some(note),
     }
@@ -149,7 +149,7 @@ fn show_first(keys: &mut Firsts, blocker: Option<UnitId>, members: &BTreeSet<usi
 impl Groups {
     // Returns the index and the note of the first command that must be looked at. Sets the key of
     // each that it passes over to WAIT.
-    fn first_open(&mut self) -> Option<(usize, Note)>
+    fn first_open(&mut self) -> Option<(usize, WaitNote)>
         requires { AreShown self.old }
         ensures shown { AreShown self.new }
         ensures rows { self.new.rows ≡ self.old.rows }
@@ -168,18 +168,18 @@ impl Groups {
     }
 
     // Takes the command of the note at an index out of its wait group, if it is in one.
-    fn leave(&mut self, at: usize, note: &Note)
-        requires line { IfSome note.now.line (λ g. g < length self.old.members.items) }
+    fn leave(&mut self, at: usize, note: &WaitNote)
+        requires group { IfSome note.now.group (λ g. g < length self.old.members.items) }
         requires even { length self.old.members.items ≡ length self.old.blockers.items }
         requires within { (g : ℕ) (s : Places ℕ) (i : ℕ)
             → slice_get self.old.members.items g ≡ Some s → has s i ≡ true
             → i < length self.old.keys }
         ensures rows { self.new.rows ≡ self.old.rows }
         ensures blockers { self.new.blockers ≡ self.old.blockers }
-        ensures left { IsLeft at note.now.line self.old.blockers.items self.old.members.items
+        ensures left { IsLeft at note.now.group self.old.blockers.items self.old.members.items
             self.old.keys self.new.members.items self.new.keys }
     {
-        let Some(group) = note.line else {
+        let Some(group) = note.group else {
             return;
         };
         self.members[group].remove(&at);
@@ -191,7 +191,7 @@ impl Groups {
         requires { AreShown self.old }
         ensures shown { AreShown self.new }
         ensures reopening { Reopens unit self.old self.new }
-        ensures opened { of_line self.new.blockers.items group ≡ Some unit → ⊥ }
+        ensures opened { of_group self.new.blockers.items group ≡ Some unit → ⊥ }
     {
         if group >= self.blockers.len() {
             return;
@@ -217,7 +217,7 @@ impl Groups {
             return;
         };
         if note.blocker == Some(unit) {
-            self.rows[at] = Some(Note {
+            self.rows[at] = Some(WaitNote {
                 blocker: None,
                 ..note
             });
@@ -343,9 +343,9 @@ impl Notes {
         };
         self.groups.rows.reserve(1)?;
         push_each(&mut self.groups.keys, LOOK, &mut self.deadlines, deadline)?;
-        self.groups.rows.push_reserved(Some(Note {
+        self.groups.rows.push_reserved(Some(WaitNote {
             label,
-            line: None,
+            group: None,
             blocker: None,
         }));
         self.count = count;
@@ -353,7 +353,7 @@ impl Notes {
     }
 
     /// Returns the index and the note of the first command that must be looked at, if there is one.
-    pub fn first_open(&mut self) -> Option<(usize, Note)>
+    pub fn first_open(&mut self) -> Option<(usize, WaitNote)>
         ensures first { IfSome result (λ p. IsFirstOpen self.new p.0 p.1) }
         ensures none { IfNone result (AreClosed self.new.blockers self.new.rows) }
         ensures same { self.new ≡ self.old }
@@ -437,8 +437,8 @@ impl Notes {
 
     /// Returns the index of the wait group of a resource. Adds the group, without a command, if
     /// there is none.
-    pub fn line_of(&mut self, resource: Resource) -> Result<usize, NoMemory>
-        ensures line { IfOk result (λ g. slice_get self.new.resources g ≡ Some resource) }
+    pub fn group_of(&mut self, resource: Resource) -> Result<usize, NoMemory>
+        ensures group { IfOk result (λ g. slice_get self.new.resources g ≡ Some resource) }
         ensures within { IfOk result (λ g. g < length self.new.blockers) }
         ensures rows { self.new.rows ≡ self.old.rows }
         ensures resources { KeepsResources self.old.resources self.new.resources }
@@ -457,26 +457,26 @@ impl Notes {
     }
 
     /// Returns whether a wait group is that of a resource.
-    pub fn is_line_of(&self, line: usize, resource: &Resource) -> bool
-        ensures { slice_get self.now.resources line ≡ Some resource.now → result ≡ true }
+    pub fn is_group_of(&self, group: usize, resource: &Resource) -> bool
+        ensures { slice_get self.now.resources group ≡ Some resource.now → result ≡ true }
     {
-        match self.resources.get_index(line) {
+        match self.resources.get_index(group) {
             Some(own) => own == resource,
             None => false,
         }
     }
 
     /// Returns the blocker of a wait group, if it is known.
-    pub fn line_blocker(&self, line: usize) -> Option<UnitId>
-        requires { line < length self.now.blockers }
-        ensures { result ≡ of_line self.now.blockers line }
+    pub fn group_blocker(&self, group: usize) -> Option<UnitId>
+        requires { group < length self.now.blockers }
+        ensures { result ≡ of_group self.now.blockers group }
     {
-        self.groups.blockers[line]
+        self.groups.blockers[group]
     }
 
     /// Notes a unit as the blocker of the command of the note at an index, which leaves its wait
     /// group, if it is in one.
-    pub fn set_alone(&mut self, at: usize, note: &Note, unit: UnitId) -> Result<(), NoMemory>
+    pub fn set_alone(&mut self, at: usize, note: &WaitNote, unit: UnitId) -> Result<(), NoMemory>
         requires there { slice_get self.old.rows at ≡ Some (Some note.now) }
         ensures rows { self.new.rows ≡ (if is_ok result
             then slice_set self.old.rows at (Some (alone unit note.now)) else self.old.rows) }
@@ -486,9 +486,9 @@ impl Notes {
     {
         park(&mut self.parked, unit, Parked::Row(at))?;
         self.groups.leave(at, note);
-        self.groups.rows[at] = Some(Note {
+        self.groups.rows[at] = Some(WaitNote {
             label: note.label,
-            line: None,
+            group: None,
             blocker: Some(unit),
         });
         Ok(())
@@ -499,26 +499,26 @@ impl Notes {
     pub fn close(
         &mut self,
         at: usize,
-        note: &Note,
-        line: usize,
+        note: &WaitNote,
+        group: usize,
         unit: UnitId,
     ) -> Result<(), NoMemory>
         requires there { slice_get self.old.rows at ≡ Some (Some note.now) }
-        requires within { line < length self.old.blockers }
-        requires only { IfSome note.now.line (λ g. g ≡ line) }
+        requires within { group < length self.old.blockers }
+        requires only { IfSome note.now.group (λ g. g ≡ group) }
         ensures rows { self.new.rows ≡ (if is_ok result
-            then slice_set self.old.rows at (Some (in_line line note.now)) else self.old.rows) }
+            then slice_set self.old.rows at (Some (in_group group note.now)) else self.old.rows) }
         ensures blockers { self.new.blockers ≡ (if is_ok result
-            then slice_set self.old.blockers line (Some unit) else self.old.blockers) }
+            then slice_set self.old.blockers group (Some unit) else self.old.blockers) }
         ensures resources { self.new.resources ≡ self.old.resources }
         ensures deadlines { self.new.deadlines ≡ self.old.deadlines }
     {
-        park_group(&mut self.parked, line, self.groups.blockers[line], unit)?;
-        self.groups.members[line].insert(at)?;
-        self.groups.blockers[line] = Some(unit);
-        self.groups.rows[at] = Some(Note {
+        park_group(&mut self.parked, group, self.groups.blockers[group], unit)?;
+        self.groups.members[group].insert(at)?;
+        self.groups.blockers[group] = Some(unit);
+        self.groups.rows[at] = Some(WaitNote {
             label: note.label,
-            line: Some(line),
+            group: Some(group),
             blocker: None,
         });
         self.groups.keys.set(at, WAIT);

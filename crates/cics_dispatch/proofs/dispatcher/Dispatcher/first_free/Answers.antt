@@ -19,6 +19,6 @@ returns-in-MayGoOn-clause-first c =
 pub loop-at-smaller : goal.loop-at-smaller
 loop-at-smaller c =
     let m = c.args.self.now.machine in
-    let looked : IsLooked m c.first_open.new.self c.file.new.notes c.in-Some.at true = c.in_ok-file-in-IsBlocked.ensures in
-    subst (λ (v : NotesValue). left_open c.file.new.notes.blockers c.file.new.notes.rows < left_open v.blockers v.rows) c.first_open.ensures.same
-    (open_less m c.first_open.new.self c.file.new.notes c.in-Some.at c.in-Some.note c.in-Some.ensures.first looked)
+    let looked : IsLooked m c.first_open.new.self c.note_blocker.new.notes c.in-Some.at true = c.in_ok-note_blocker-in-IsBlocked.ensures in
+    subst (λ (v : NotesValue). left_open c.note_blocker.new.notes.blockers c.note_blocker.new.notes.rows < left_open v.blockers v.rows) c.first_open.ensures.same
+    (open_less m c.first_open.new.self c.note_blocker.new.notes c.in-Some.at c.in-Some.note c.in-Some.ensures.first looked)

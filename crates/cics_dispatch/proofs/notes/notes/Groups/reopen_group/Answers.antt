@@ -1,6 +1,6 @@
 use Rattle.std.proofs.Common.{◌≡◌, ◌<◌, ℕ, Some, None, length, slice_get, ap, sym, subst, ◌∙◌, arith, refl}
 use Rattle.std.proofs.lemmas.Option.{slice_get_read}
-use Rattle.cics_dispatch.proofs.OfNotes.ShownNotes.{member_within, shown_group, of_line_here, of_line_past, of_line_at}
+use Rattle.cics_dispatch.proofs.OfNotes.ShownNotes.{member_within, shown_group, of_group_here, of_group_past, of_group_at}
 use Rattle.cics_dispatch.proofs.OfNotes.FiledNotes.{reopening_group, same_unit, other_unit, none_some}
 use Rattle.cics_dispatch.proofs.notes.notes.Groups.reopen_group.Goals as goal
 use Rattle.cics_dispatch.proofs.notes.notes.Groups.reopen_group.Goals.{After-index}
@@ -18,7 +18,7 @@ returns-then-group-len-clause-opened c =
     let test = c.if-group-len.true in
     let size = c.len.ensures in
     let ok = c.args.self.now.blockers.ok.0 in
-    λ own. none_some ℕ c.args.unit (sym (of_line_past c.args.self.now.blockers.items c.args.group (omega (arith, test, size, ok))) ∙ own)
+    λ own. none_some ℕ c.args.unit (sym (of_group_past c.args.self.now.blockers.items c.args.group (omega (arith, test, size, ok))) ∙ own)
 
 pub show_first-requires : goal.show_first-requires
 show_first-requires c =
@@ -43,9 +43,9 @@ returns-then-eq-clause-reopening c =
 pub returns-then-eq-clause-opened : goal.returns-then-eq-clause-opened
 returns-then-eq-clause-opened c =
     let inside = within (goal.at.returns-then-eq-clause-opened c).After-index in
-    λ own. none_some ℕ c.args.unit (sym (of_line_here c.args.self.now.blockers.items c.args.group None inside) ∙ own)
+    λ own. none_some ℕ c.args.unit (sym (of_group_here c.args.self.now.blockers.items c.args.group None inside) ∙ own)
 
 pub returns-else-eq-clause-opened : goal.returns-else-eq-clause-opened
 returns-else-eq-clause-opened c =
     let is = there (goal.at.returns-else-eq-clause-opened c).After-index in
-    λ own. other_unit _ c.args.unit c.eq.result c.eq.ensures c.if-eq.false (sym (of_line_at c.args.self.now.blockers.items c.args.group c.index.result.now is) ∙ own)
+    λ own. other_unit _ c.args.unit c.eq.result c.eq.ensures c.if-eq.false (sym (of_group_at c.args.self.now.blockers.items c.args.group c.index.result.now is) ∙ own)

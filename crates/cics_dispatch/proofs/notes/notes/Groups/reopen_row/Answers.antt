@@ -1,6 +1,6 @@
 use Rattle.std.proofs.Common.{◌≡◌, ◌<◌, Some, None, length, slice_get, slice_set, ap, sym, subst, ◌∙◌, arith, refl}
 use Rattle.std.proofs.lemmas.Option.{slice_get_read}
-use Rattle.cics_dispatch.specs.declared.notes.notes.Note.{Note}
+use Rattle.cics_dispatch.specs.declared.notes.notes.WaitNote.{WaitNote}
 use Rattle.cics_dispatch.specs.Notes.Filed.{IsShown}
 use Rattle.cics_dispatch.proofs.OfNotes.ShownNotes.{shown_row, one, row_within}
 use Rattle.cics_dispatch.proofs.OfNotes.FiledNotes.{reopening_row, row_opened, same_unit, other_unit, some_same}
@@ -39,5 +39,5 @@ pub returns-else-eq-clause-opened : goal.returns-else-eq-clause-opened
 returns-else-eq-clause-opened c =
     let is = there (goal.at.returns-else-eq-clause-opened c).In-Some in
     λ a.
-    let same = some_same Note c.in-Some.note a.note (one (slice_get c.args.self.now.rows.items c.args.at) (Some c.in-Some.note) (Some a.note) is a.there) in
-    other_unit _ c.args.unit c.eq.result c.eq.ensures c.if-eq.false (ap (λ (x : Note). x.blocker) same ∙ a.own)
+    let same = some_same WaitNote c.in-Some.note a.note (one (slice_get c.args.self.now.rows.items c.args.at) (Some c.in-Some.note) (Some a.note) is a.there) in
+    other_unit _ c.args.unit c.eq.result c.eq.ensures c.if-eq.false (ap (λ (x : WaitNote). x.blocker) same ∙ a.own)

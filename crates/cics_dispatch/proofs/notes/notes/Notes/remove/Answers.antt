@@ -13,8 +13,8 @@ module _ (c : In-Some) where
   there : slice_get c.self.inside.groups.rows.items c.args.at ≡ Some (Some c.in-Some.note)
   there = slice_get_read c.self.inside.groups.rows.items (length c.self.inside.groups.rows.items) c.args.at c.index.result.now refl within c.index.ensures ∙ ap Some c.in-Some.is
 
-pub leave-requires-clause-line : goal.leave-requires-clause-line
-leave-requires-clause-line c = group_within _ _ _ _ c.self.invariant.shown c.args.at c.in-Some.note (there (goal.at.leave-requires-clause-line c).In-Some)
+pub leave-requires-clause-group : goal.leave-requires-clause-group
+leave-requires-clause-group c = group_within _ _ _ _ c.self.invariant.shown c.args.at c.in-Some.note (there (goal.at.leave-requires-clause-group c).In-Some)
 
 pub leave-requires-clause-within : goal.leave-requires-clause-within
 leave-requires-clause-within c = member_within _ _ _ _ c.self.invariant.shown

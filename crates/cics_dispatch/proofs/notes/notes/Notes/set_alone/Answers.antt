@@ -11,8 +11,8 @@ there c = ap (λ v. slice_get v.rows c.args.at) c.self.view_is ∙ c.requires.th
 pub invariant_of-self : goal.invariant_of-self
 invariant_of-self c = filed_parked _ _ _ _ _ _ _ c.self.invariant c.park.new.parked.entries c.park.ensures.kept
 
-pub leave-requires-clause-line : goal.leave-requires-clause-line
-leave-requires-clause-line c = group_within _ _ _ _ c.self.invariant.shown c.args.at c.args.note.now (there (goal.at.leave-requires-clause-line c).After-park)
+pub leave-requires-clause-group : goal.leave-requires-clause-group
+leave-requires-clause-group c = group_within _ _ _ _ c.self.invariant.shown c.args.at c.args.note.now (there (goal.at.leave-requires-clause-group c).After-park)
 
 pub leave-requires-clause-within : goal.leave-requires-clause-within
 leave-requires-clause-within c = member_within _ _ _ _ c.self.invariant.shown

@@ -1,8 +1,8 @@
 use Rattle.std.proofs.Common.{◌≡◌, ◌∙◌, ◌∷◌, ◌++◌, [], None, ap}
 use Rattle.cics_dispatch.proofs.OfNotes.FiledNotes.{pushed_key, same_key, filed_new_group, resources_more, blockers_more}
 use Rattle.cics_dispatch.proofs.OfNotes.ShownNotes.{none_in}
-use Rattle.cics_dispatch.proofs.notes.notes.Notes.line_of.Goals as goal
-use Rattle.cics_dispatch.proofs.notes.notes.Notes.line_of.Goals.{Then-is_new}
+use Rattle.cics_dispatch.proofs.notes.notes.Notes.group_of.Goals as goal
+use Rattle.cics_dispatch.proofs.notes.notes.Notes.group_of.Goals.{Then-is_new}
 
 -- what a new wait group adds
 module _ (c : Then-is_new) where

@@ -1,11 +1,11 @@
 use Rattle.std.proofs.Common.{is_ok}
-use Rattle.cics_dispatch.proofs.OfMachine.Looked.{looked_alone, looked_line}
-use Rattle.cics_dispatch.proofs.dispatcher.Dispatcher.file_in.Goals as goal
+use Rattle.cics_dispatch.proofs.OfMachine.Looked.{looked_alone, looked_group}
+use Rattle.cics_dispatch.proofs.dispatcher.Dispatcher.note_group.Goals as goal
 
 pub returns-then-may_close : goal.returns-then-may_close
 returns-then-may_close c =
     let m = c.args.self.now.machine in
-    looked_line m c.args.notes.now c.args.found.0 c.args.unit c.args.found.1 c.requires.kept c.requires.noted c.requires.first c.requires.blocked c.args.line c.requires.within (c.may_close.ensures c.if-may_close.true) c.requires.uses
+    looked_group m c.args.notes.now c.args.found.0 c.args.unit c.args.found.1 c.requires.kept c.requires.noted c.requires.first c.requires.blocked c.args.group c.requires.within (c.may_close.ensures c.if-may_close.true) c.requires.uses
     c.close.new.self (is_ok c.close.result) c.close.ensures.rows c.close.ensures.resources c.close.ensures.blockers c.close.ensures.deadlines
 
 pub returns-else-may_close : goal.returns-else-may_close
