@@ -21,3 +21,4 @@ pub mod DoneOps
 pub mod Replay
 pub mod Opening
 pub mod Blocking
+pub mod Words

@@ -3,8 +3,8 @@
 mod blocking;
 mod reading;
 
-ghost use Rattle.std.specs.Prelude.{◌≡◌, ◌<◌, ◌≤◌, ◌+◌, ◌++◌, ◌∷◌, [], true, length, vec_len};
-ghost use Rattle.std.specs.Prelude.{vec_capacity, IsTrue, IfOk, IfErr, OnOk, OnErr};
+ghost use Rattle.std.specs.Prelude.{◌≡◌, ◌<◌, ◌≤◌, ◌+◌, [], true, length, vec_len, vec_capacity};
+ghost use Rattle.std.specs.Prelude.{IsTrue, IfOk, IfErr, OnOk, OnErr};
 ghost use Rattle.cics_history.specs.Openings.{IsOpeningInOrder};
 ghost use Rattle.cics_history.specs.Headline.{IsHeadline, LeavesNoTrace};
 ghost use Rattle.cics_history.specs.Execution.{IfMustWait, IfEnqMustWait, unit_or_next};
@@ -14,12 +14,9 @@ ghost use Rattle.cics_history.specs.Execution.{after_enqueue, after_dequeue, aft
 ghost use Rattle.cics_history.specs.Execution.{after_end, item_asked, ts_reading, after_ts_reading};
 ghost use Rattle.cics_history.specs.State.{initial_units};
 ghost use Rattle.cics_history.specs.Serial.{IsSerializable};
-ghost use Rattle.cics_units.specs.Submitting.{as_done, IsBackIfItWaits};
-ghost use Rattle.cics_units.specs.StorePlaces.{number_asked};
-ghost use Rattle.cics_units.specs.ImageRows.{kept_by, AreOthersKept};
-ghost use Rattle.cics_tempstor.specs.Queues.{read_item, after_read_item};
-ghost use Rattle.cics_tempstor.specs.Undo.{KeepsQueues};
 ghost use Rattle.cics_history.specs.declared.ops.UnitState.TheVariants.{Committed, BackedOut};
+ghost use Rattle.cics_units.specs.Words.{as_done, IsBackIfItWaits, number_asked, kept_by};
+ghost use Rattle.cics_units.specs.Words.{AreOthersKept, read_item, after_read_item, KeepsQueues};
 
 use crate::opening::Opening;
 use crate::units_core::{Store, UnitsCore, reserve_images, settle_ends};
