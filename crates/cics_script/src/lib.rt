@@ -8,7 +8,7 @@
 //!   line takes.
 //! - `options`: reads the options of a line into a list of at most 13.
 //! - `values`, `commands`: what the options in that list give, and the command that they ask for.
-//! - `lines`: `read_line` returns the `Line` that the bytes say, or their first fault.
+//! - `labels`, `lines`: `read_line` returns the `Line` that the bytes say, or their first fault.
 //! - `columns`: `find_fault` returns that fault with its column.
 //!
 //! `cics_script::spelling` writes commands as lines. Cost of a call: O(bytes that it reads), but
@@ -19,6 +19,7 @@ pub mod advice;
 mod columns;
 mod commands;
 mod faults;
+mod labels;
 mod lines;
 mod literals;
 mod options;

@@ -1,31 +1,30 @@
 //! Reads a line of a script.
 
-ghost use Rattle.std.specs.Prelude.{◌≡◌, ◌≤◌, ◌-◌, ◌||◌, Ok, Some, None, IfSome, true};
-ghost use Rattle.std.specs.Prelude.{length, map, take, drop};
+ghost use Rattle.std.specs.Prelude.{◌≡◌, ◌-◌, Ok, IfSome, true};
+ghost use Rattle.std.specs.Prelude.{length, drop};
 ghost use Rattle.std.specs.List.{list_all};
 ghost use lib.Chars.{codes};
 ghost use Rattle.cics_script.specs.Faults.{◌>>=◌ as ◌and_next◌, Reads};
-ghost use Rattle.cics_script.specs.Tokens.{capital, tokens, is_capital, is_digit};
-ghost use Rattle.cics_script.specs.Words.{commands, lookup, starts};
+ghost use Rattle.cics_script.specs.Tokens.{tokens};
+ghost use Rattle.cics_script.specs.Words.{commands};
 ghost use Rattle.cics_script.specs.Views.{entries, GivesWord, GivesVerb, GivesRest};
 ghost use Rattle.cics_script.specs.Views.{IsNamed, Takes};
 ghost use Rattle.cics_script.specs.Values.{needed};
 ghost use Rattle.cics_script.specs.Lines.{recovery_in, queue_recovery_in, definition_in, load_in};
-ghost use Rattle.cics_script.specs.Lines.{word_first, behind, label_in, define, load, attach};
+ghost use Rattle.cics_script.specs.Lines.{word_first, behind, define, load, attach};
 ghost use Rattle.cics_script.specs.Lines.{verb_first, clock, shutdown, command_at};
 ghost use Rattle.cics_script.specs.Lines.{issue, statement, adds_nothing};
 ghost use Rattle.cics_script.specs.Lines.{is_script_byte, line};
 
 use crate::commands::{is_handled, verb_of};
 use crate::faults::LineFault;
+use crate::labels::label_of;
 use crate::options::{Found, Options, has_option, read_options, skip_one_blank};
-use crate::tokens::{
-    Token, begins_with, is_in_label, named, next_token, next_value, next_word, skip_blanks,
-};
+use crate::tokens::{Token, begins_with, named, next_token, next_value, next_word, skip_blanks};
 use crate::values::{name4_of, name8_of, needed, number_of, text_of};
 use crate::words::{
-    CommandWord, DefineObject, Form, LoadObject, OptionWord, Start, capital_of, command_named,
-    define_object, is_spelled, load_object, queue_command, start_of, td_command,
+    CommandWord, DefineObject, Form, LoadObject, OptionWord, Start, command_named, define_object,
+    is_spelled, load_object, queue_command, start_of, td_command,
 };
 use cics_ksds::FileDef;
 use cics_names::{Command, Name4, Name8, Record};
@@ -33,13 +32,10 @@ use cics_transdata::Recovery;
 use std::alloc::Global;
 
 // The most bytes of a line.
-const LIMIT: usize = 70_000;
+const MOST_BYTES: usize = 70_000;
 
 // The most bytes of a file's record, if the line has no RECORDSIZE.
 const RECORD_SIZE: u64 = 32_767;
-
-// The most characters of a label.
-const LABEL: usize = 8;
 
 /// What a line of a script says.
 #[derive(Drop)]
@@ -161,63 +157,6 @@ fn skip_word<'a>(bytes: &'a [u8], wanted: &[u8]) -> Result<&'a [u8], LineFault>
     } else {
         Err(LineFault::UnknownWord)
     }
-}
-
-// Returns whether a word has capitals and digits alone. No early end: there is one branch for all.
-fn is_in_capitals(word: &[u8]) -> bool
-    ensures { result ≡ list_all (λ c. is_capital c || is_digit c) word.now }
-{
-    let mut all = true;
-    for byte in word {
-        all &= is_in_label(*byte);
-    }
-    all
-}
-
-// Writes the capitals of a word over the start of a text. Returns whether all are letters or
-// digits.
-fn put_capitals(text: &mut [u8; LABEL], word: &[u8]) -> bool
-    requires { length word.now ≤ 8 }
-    ensures text { take (length word.now) text.new ≡ map capital word.now }
-    ensures label { result ≡ list_all (λ c. is_capital c || is_digit c) (map capital word.now) }
-{
-    let mut all = true;
-    for (i, byte) in word.iter().enumerate() {
-        let letter = capital_of(*byte);
-        text[i] = letter;
-        all &= is_in_label(letter);
-    }
-    all
-}
-
-// Returns the label that a word of at most eight bytes is, which may have small letters.
-#[cold]
-#[inline(never)]
-fn small_label_of(word: &[u8]) -> Result<Name8, LineFault>
-    requires starts { lookup (map capital word.now) starts ≡ None }
-    requires short { length word.now ≤ 8 }
-    ensures { result ≡ label_in (map capital word.now) }
-{
-    let mut capitals = [0; LABEL];
-    if !put_capitals(&mut capitals, word) {
-        return Err(LineFault::UnknownWord);
-    }
-    Name8::new(&capitals[..word.len()]).or(Err(LineFault::UnknownWord))
-}
-
-// Returns the label that a word is, which is none of `Start`: at most eight letters and digits.
-fn label_of(word: &[u8]) -> Result<Name8, LineFault>
-    requires { lookup (map capital word.now) starts ≡ None }
-    ensures { result ≡ label_in (map capital word.now) }
-{
-    if word.len() > LABEL {
-        return Err(LineFault::UnknownWord);
-    }
-    // Most labels have no small letter.
-    if is_in_capitals(word) {
-        return Name8::new(word).or(Err(LineFault::UnknownWord));
-    }
-    small_label_of(word)
 }
 
 // Reads a DEFINE line, from after its first word.
@@ -354,7 +293,8 @@ fn first_verb(bytes: &[u8]) -> Result<(CommandWord, &[u8]), LineFault>
     Ok((verb, rest))
 }
 
-// Returns the line after EXEC and CICS.
+// Returns the line after EXEC and CICS. Inlined: each command passes through it.
+#[inline(always)]
 fn skip_exec_cics(bytes: &[u8]) -> Result<&[u8], LineFault>
     ensures { GivesRest
         (behind (codes "EXEC") (tokens bytes.now) and_next behind (codes "CICS")) result }
@@ -402,14 +342,17 @@ pub fn read_statement(alloc: Global, bytes: &[u8]) -> Result<Line, LineFault>
     ensures { Reads (statement (tokens bytes.now)) result }
 {
     let (word, rest) = first_word(bytes)?;
+    // A `match` with these as its values would move each once more.
     match start_of(word) {
-        Some(Start::Define) => read_define(alloc, rest),
-        Some(Start::Load) => read_load(alloc, rest),
-        Some(Start::Attach) => read_attach(alloc, rest),
-        Some(Start::Clock) => read_clock(alloc, rest),
-        Some(Start::Shutdown) => read_shutdown(alloc, rest),
-        None => read_issue(alloc, label_of(word)?, rest),
+        Some(Start::Define) => return read_define(alloc, rest),
+        Some(Start::Load) => return read_load(alloc, rest),
+        Some(Start::Attach) => return read_attach(alloc, rest),
+        Some(Start::Clock) => return read_clock(alloc, rest),
+        Some(Start::Shutdown) => return read_shutdown(alloc, rest),
+        None => {}
     }
+    let label = label_of(word)?;
+    read_issue(alloc, label, rest)
 }
 
 /// Returns whether a line may have a byte: a tab, or printable ASCII.
@@ -478,14 +421,14 @@ fn are_in_script(bytes: &[u8]) -> bool
 pub fn read_line(alloc: Global, bytes: &[u8]) -> Result<Line, LineFault>
     ensures { Reads (line bytes.now) result }
 {
-    if bytes.len() > LIMIT {
+    if bytes.len() > MOST_BYTES {
         return Err(LineFault::TooLong);
     }
     if !are_in_script(bytes) {
         return Err(LineFault::NotAscii);
     }
-    match skip_blanks(bytes).first() {
-        None | Some(b'*') => Ok(Line::Blank),
-        _ => read_statement(alloc, bytes),
+    if matches!(skip_blanks(bytes).first(), None | Some(b'*')) {
+        return Ok(Line::Blank);
     }
+    read_statement(alloc, bytes)
 }

@@ -161,17 +161,6 @@ fn is_plain_byte(byte: u8) -> bool
     CLASSES[usize::from(byte)] != 0
 }
 
-// Returns whether every character is plain. No early end: there is one branch for all characters.
-fn are_plain(bytes: &[u8]) -> bool
-    ensures { result ≡ list_all is_plain bytes.now }
-{
-    let mut all = true;
-    for byte in bytes {
-        all &= is_plain_byte(*byte);
-    }
-    all
-}
-
 // Returns the same as `plain_len`, one character at a time.
 fn short_plain_len(bytes: &[u8]) -> usize
     ensures value { result ≡ prefix_len is_plain bytes.now }
@@ -183,6 +172,22 @@ fn short_plain_len(bytes: &[u8]) -> usize
 // How many characters are looked up at once.
 const GROUP: usize = 8;
 
+// Returns the same as `short_plain_len`, with no branch: it begins at the last character.
+fn group_plain_len(group: &[u8; GROUP]) -> usize
+    ensures value { result ≡ prefix_len is_plain group.now }
+    ensures within { result ≤ 8 }
+{
+    let mut count = 0;
+    for i in 0..GROUP {
+        count = if is_plain_byte(group[GROUP - 1 - i]) {
+            count + 1
+        } else {
+            0
+        };
+    }
+    count
+}
+
 // Returns how many characters stand before the first that isn't plain.
 fn plain_len(bytes: &[u8]) -> usize
     ensures value { result ≡ prefix_len is_plain bytes.now }
@@ -192,11 +197,15 @@ fn plain_len(bytes: &[u8]) -> usize
     let mut rest = bytes;
     'blocks: loop {
         match rest.split_first_chunk::<GROUP>() {
-            Some((block, behind)) if are_plain(block) => {
-                passed += GROUP;
+            Some((group, behind)) => {
+                let count = group_plain_len(group);
+                passed += count;
+                if count < GROUP {
+                    return passed;
+                }
                 rest = behind;
             }
-            _ => return passed + short_plain_len(rest),
+            None => return passed + short_plain_len(rest),
         }
     }
 }
@@ -258,7 +267,7 @@ fn copy_plain(alloc: Global, encoding: Encoding, plain: &[u8]) -> Result<Vec<u8>
     }
 }
 
-// Returns whether every byte is a hexadecimal digit. No early end, as in `are_plain`.
+// Returns whether every byte is a hexadecimal digit. No early end: there is one branch for all.
 fn are_digits(bytes: &[u8]) -> bool
     ensures { result ≡ list_all is_ascii_hexdigit bytes.now }
 {
@@ -337,6 +346,7 @@ fn put_bytes(text: &mut [u8], encoding: Encoding, digits: &[u8])
 
 /// Returns the literal after a first quote, and the line after it, or `None` if the bytes are no
 /// literal.
+#[inline(always)]
 pub fn literal_at(notation: Notation, behind_quote: &[u8]) -> Option<(Literal<'_>, &[u8])>
     ensures rest { option_map (λ found. found.1.now) result
         ≡ option_map (λ t. t.1) (text_in notation behind_quote.now) }
@@ -412,24 +422,35 @@ impl<'a> Literal<'a> {
         }
     }
 
-    /// Returns the record that the literal says: characters in EBCDIC, or bytes. Errors:
-    /// `NoMemory`.
-    pub fn record(self, alloc: Global) -> Result<Record, NoMemory>
+    // Returns the same as `record`. Apart, as most literals are plain and short.
+    #[inline(never)]
+    fn long_record(self, alloc: Global) -> Result<Record, NoMemory>
         ensures { IfOk result (λ made. made
             ≡ recorded self.entry.notation
             (said (text_in self.entry.notation self.entry.behind_quote.now))) }
     {
         match self.notation {
-            Notation::Quoted => match self.plain() {
-                Some(text) if text.len() <= SHORT => {
-                    let mut room = [0; SHORT];
-                    let codes = &mut room[..text.len()];
-                    put_codes(codes, text);
-                    Record::from_slice(alloc, codes)
-                }
-                _ => Ok(Record::new(self.copy(alloc, Encoding::Ebcdic)?)),
-            },
+            Notation::Quoted => Ok(Record::new(self.copy(alloc, Encoding::Ebcdic)?)),
             Notation::Hexadecimal => Ok(Record::new(self.copy(alloc, Encoding::AsWritten)?)),
+        }
+    }
+
+    /// Returns the record that the literal says: characters in EBCDIC, or bytes. Errors:
+    /// `NoMemory`.
+    #[inline(never)]
+    pub fn record(self, alloc: Global) -> Result<Record, NoMemory>
+        ensures { IfOk result (λ made. made
+            ≡ recorded self.entry.notation
+            (said (text_in self.entry.notation self.entry.behind_quote.now))) }
+    {
+        match (self.notation, self.plain()) {
+            (Notation::Quoted, Some(text)) if text.len() <= SHORT => {
+                let mut room = [0; SHORT];
+                let codes = &mut room[..text.len()];
+                put_codes(codes, text);
+                Record::from_slice(alloc, codes)
+            }
+            _ => self.long_record(alloc),
         }
     }
 }

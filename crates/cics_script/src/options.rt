@@ -23,10 +23,10 @@ use std::borrow::CowSlice;
 
 // The most options of a line. None stands twice. READ has nine of its own, more than any other
 // line. Every command has four.
-const MOST: usize = 13;
+const MOST_OPTIONS: usize = 13;
 
 /// The options of a line, in their order.
-pub type Options<'a> = ArrayVec<Found<'a>, MOST>;
+pub type Options<'a> = ArrayVec<Found<'a>, MOST_OPTIONS>;
 
 /// What stood in an option's parentheses.
 #[derive(Clone, Copy)]
@@ -122,17 +122,25 @@ fn value_of<'a>(alloc: Global, kind: Kind, token: Token<'a>) -> Result<Value<'a>
     }
 }
 
+// Returns the same as `read_opening`. Cold: few parentheses have a blank before them.
+#[cold]
+#[inline(never)]
+fn far_opening(kind: Kind, bytes: &[u8]) -> Result<&[u8], LineFault>
+    ensures { Opens kind bytes.now result }
+{
+    match next_token(bytes)? {
+        Some((Token::Opening, rest)) => Ok(rest),
+        _ => Err(wrong_value(kind)),
+    }
+}
+
 // Returns the line after an opening parenthesis.
 fn read_opening(kind: Kind, bytes: &[u8]) -> Result<&[u8], LineFault>
     ensures { Opens kind bytes.now result }
 {
-    // It stands right after the option's word, with few exceptions.
-    if let Some((b'(', rest)) = bytes.split_first() {
-        return Ok(rest);
-    }
-    match next_token(bytes)? {
-        Some((Token::Opening, rest)) => Ok(rest),
-        _ => Err(wrong_value(kind)),
+    match bytes.split_first() {
+        Some((b'(', rest)) => Ok(rest),
+        _ => far_opening(kind, bytes),
     }
 }
 
@@ -140,7 +148,7 @@ fn read_opening(kind: Kind, bytes: &[u8]) -> Result<&[u8], LineFault>
 fn value_token(kind: Kind, bytes: &[u8]) -> Result<(Token<'_>, &[u8]), LineFault>
     ensures { GivesValue kind bytes.now result }
 {
-    // Most values are quoted literals or numbers, right after the parenthesis.
+    // Most values are words, or quoted literals or numbers right after the parenthesis.
     if let Some(found) = next_value(bytes) {
         return Ok(found);
     }
@@ -170,17 +178,25 @@ fn read_content<'a>(
     Ok(rest)
 }
 
+// Returns the same as `read_closing`. Cold, as `far_opening`.
+#[cold]
+#[inline(never)]
+fn far_closing(kind: Kind, bytes: &[u8]) -> Result<&[u8], LineFault>
+    ensures { Shuts kind bytes.now result }
+{
+    match next_token(bytes)? {
+        Some((Token::Closing, rest)) => Ok(rest),
+        _ => Err(wrong_value(kind)),
+    }
+}
+
 // Returns the line after a closing parenthesis.
 fn read_closing(kind: Kind, bytes: &[u8]) -> Result<&[u8], LineFault>
     ensures { Shuts kind bytes.now result }
 {
-    // It stands right after the value, with few exceptions.
-    if let Some((b')', rest)) = bytes.split_first() {
-        return Ok(rest);
-    }
-    match next_token(bytes)? {
-        Some((Token::Closing, rest)) => Ok(rest),
-        _ => Err(wrong_value(kind)),
+    match bytes.split_first() {
+        Some((b')', rest)) => Ok(rest),
+        _ => far_closing(kind, bytes),
     }
 }
 
@@ -278,12 +294,14 @@ fn common_option(bytes: &[u8]) -> Option<(OptionWord, &[u8])>
         (b'F', _) => named(bytes, b"FROM", OptionWord::From),
         (b'I', b'M') => named(bytes, b"ITEM", OptionWord::Item),
         (b'I', _) => named(bytes, b"INTO", OptionWord::Into),
+        (b'L', b'I') => named(bytes, b"LOGICAL", OptionWord::Logical),
         (b'L', _) => named(bytes, b"LENGTH", OptionWord::Length),
         (b'N', _) => named(bytes, b"NOSUSPEND", OptionWord::NoSuspend),
         (b'Q', _) => named(bytes, b"QUEUE", OptionWord::Queue),
         (b'R', b'F') => named(bytes, b"RIDFLD", OptionWord::Ridfld),
         (b'R', b'O') => named(bytes, b"RESOURCE", OptionWord::Resource),
         (b'R', _) => named(bytes, b"RESP", OptionWord::Resp),
+        (b'T', b'U') => named(bytes, b"TDQUEUE", OptionWord::TdQueue),
         (b'T', _) => named(bytes, b"TRANSID", OptionWord::Transid),
         (b'U', _) => named(bytes, b"UPDATE", OptionWord::Update),
         _ => None,

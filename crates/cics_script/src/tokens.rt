@@ -120,6 +120,7 @@ fn read_number(bytes: &[u8]) -> Result<(Token<'_>, &[u8]), LineFault>
 }
 
 // Reads a literal, from after its first quote.
+#[inline(always)]
 fn read_literal(notation: Notation, behind_quote: &[u8]) -> Result<(Token<'_>, &[u8]), LineFault>
     ensures { GivesToken result (as_literal notation (text_in notation behind_quote.now)) }
 {
@@ -177,7 +178,8 @@ pub fn whole_token(bytes: &[u8]) -> Option<(&[u8], &[u8])>
     }
 }
 
-/// Returns whether a line begins with a text. A constant text is compared without a loop.
+/// Returns whether a line begins with a text. No early end, so that a constant text is compared as
+/// a number.
 pub fn begins_with(bytes: &[u8], text: &[u8]) -> bool
     ensures { result ≡ true →
         bytes.now ≡ text.now ++ drop (length text.now) bytes.now }
@@ -185,12 +187,11 @@ pub fn begins_with(bytes: &[u8], text: &[u8]) -> bool
     if bytes.len() < text.len() {
         return false;
     }
+    let mut all = true;
     for (i, byte) in text.iter().enumerate() {
-        if bytes[i] != *byte {
-            return false;
-        }
+        all &= bytes[i] == *byte;
     }
-    true
+    all
 }
 
 // Returns whether a word right before these bytes ends there: none are left, or a space or a
@@ -214,7 +215,10 @@ pub fn named<'a, X: Copy>(bytes: &'a [u8], capitals: &[u8], meaning: X) -> Optio
         return None;
     }
     let rest = bytes.split_at(capitals.len()).1;
-    is_ended(rest).then_some((meaning, rest))
+    if !is_ended(rest) {
+        return None;
+    }
+    Some((meaning, rest))
 }
 
 /// Returns the next token and the line after it, if it is a word that doesn't begin with X (as
@@ -231,8 +235,9 @@ pub fn next_word(bytes: &[u8]) -> Option<(&[u8], &[u8])>
     Some(front.split_at(word_len(front)))
 }
 
-/// Returns the next token and the line after it, if it is a quoted literal or a number with no
-/// blank before it. `None` decides nothing. Inlined: each value in parentheses passes through it.
+/// Returns the next token and the line after it, if it is a word that [`next_word`] returns, or a
+/// quoted literal or a number with no blank before it. `None` decides nothing. Inlined: each value
+/// in parentheses passes through it.
 #[inline(always)]
 pub fn next_value(bytes: &[u8]) -> Option<(Token<'_>, &[u8])>
     ensures { IfSome result (λ found. Takes bytes.now (Ok (Some found))) }
@@ -241,10 +246,11 @@ pub fn next_value(bytes: &[u8]) -> Option<(Token<'_>, &[u8])>
     if is_quote_byte(*first) {
         return read_literal(Notation::Quoted, behind_quote).ok();
     }
-    if !first.is_ascii_digit() {
-        return None;
+    if first.is_ascii_digit() {
+        return read_number(bytes).ok();
     }
-    read_number(bytes).ok()
+    let (word, rest) = next_word(bytes)?;
+    Some((Token::Word(word), rest))
 }
 
 /// Returns the next token and the line after it, or `None` at the line's end. Cold, since the calls

@@ -431,6 +431,7 @@ fn usual_kind(option: OptionWord) -> Kind
 }
 
 // Returns what an option takes in a line that has it.
+#[inline(always)]
 fn kind_at(form: Form, option: OptionWord) -> Kind
     ensures { result ≡ kind_at form option }
 {
@@ -447,6 +448,7 @@ fn kind_at(form: Form, option: OptionWord) -> Kind
 
 /// Returns what an option of a line takes, or `None` if the line has no such option. Joins the
 /// tables `own_options` and `kind_at`, and the options of every command.
+#[inline(always)]
 pub fn kind_of(form: Form, option: OptionWord) -> Option<Kind>
     ensures { result ≡ kind_in form option }
 {

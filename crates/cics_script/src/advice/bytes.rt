@@ -6,7 +6,7 @@ use crate::spelling::{push_hexadecimal, push_str};
 use cics_names::{NoMemory, to_ebcdic};
 
 // The most characters of a literal that is written in hexadecimal.
-const MOST: usize = 24;
+const MOST_IN_HEXADECIMAL: usize = 24;
 
 /// A character that isn't ASCII, or that can't be printed.
 #[derive(Clone, Copy)]
@@ -160,7 +160,7 @@ impl<'a> Unlisted<'a> {
         self.push_byte(out)?;
         push_str(out, ", which is ")?;
         push_bytes(out, &[code_of(self.byte)])?;
-        if self.has_quote || self.text.len() > MOST {
+        if self.has_quote || self.text.len() > MOST_IN_HEXADECIMAL {
             return push_str(out, ": write all of the literal as X'..'");
         }
         push_str(out, ": write X'")?;

@@ -34,17 +34,17 @@ pub fn push_filled(
 }
 
 /// How many bytes of a token are put.
-pub const MOST: usize = 40;
+pub const MOST_PUT: usize = 40;
 
 /// Puts the first bytes of a token.
 pub fn push_start(out: &mut Vec<u8>, token: &[u8]) -> Result<(), NoMemory> {
-    out.extend_from_slice(token.split_at(MOST.min(token.len())).0)?;
+    out.extend_from_slice(token.split_at(MOST_PUT.min(token.len())).0)?;
     Ok(())
 }
 
 // Puts the first bytes of a token in capitals.
 fn push_capitals(out: &mut Vec<u8>, token: &[u8]) -> Result<(), NoMemory> {
-    for byte in token.iter().take(MOST) {
+    for byte in token.iter().take(MOST_PUT) {
         out.push(byte.to_ascii_uppercase())?;
     }
     Ok(())

@@ -1,7 +1,7 @@
 //! What is told of a value that is wrong or missing, or of its parentheses.
 
 use crate::advice::context::{Context, is_word};
-use crate::advice::filling::{MOST, Told, push_start};
+use crate::advice::filling::{MOST_PUT, Told, push_start};
 use crate::advice::tables::{
     DATA_NAME, ITEM_NUMBER, LENGTH_OF, NAME4_AS, NAME8_AS, NO_PARENTHESES, UNCLOSED, UNCLOSED_VALUE,
 };
@@ -35,7 +35,7 @@ impl<'a> Split<'a> {
             && !is_unclosed(literal)
             && context.token.first()?.is_ascii_alphanumeric();
         let is_closed = is_end(behind) || behind.first() == Some(&b')');
-        let is_whole = is_closed && literal.len() <= MOST && rest.len() <= MOST;
+        let is_whole = is_closed && literal.len() <= MOST_PUT && rest.len() <= MOST_PUT;
         is_split.then_some(Split {
             literal,
             blank,

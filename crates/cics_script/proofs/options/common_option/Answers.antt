@@ -17,6 +17,9 @@ returns-in-73-eq77 c = c.named-in-73-eq77.ensures option_words refl
 pub returns-in-73-default : goal.returns-in-73-default
 returns-in-73-default c = c.named-in-73-default.ensures option_words refl
 
+pub returns-in-76-eq73 : goal.returns-in-76-eq73
+returns-in-76-eq73 c = c.named-in-76-eq73.ensures option_words refl
+
 pub returns-in-76-default : goal.returns-in-76-default
 returns-in-76-default c = c.named-in-76-default.ensures option_words refl
 
@@ -34,6 +37,9 @@ returns-in-82-eq79 c = c.named-in-82-eq79.ensures option_words refl
 
 pub returns-in-82-default : goal.returns-in-82-default
 returns-in-82-default c = c.named-in-82-default.ensures option_words refl
+
+pub returns-in-84-eq85 : goal.returns-in-84-eq85
+returns-in-84-eq85 c = c.named-in-84-eq85.ensures option_words refl
 
 pub returns-in-84-default : goal.returns-in-84-default
 returns-in-84-default c = c.named-in-84-default.ensures option_words refl

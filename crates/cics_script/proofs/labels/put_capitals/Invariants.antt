@@ -1,7 +1,7 @@
 use Rattle.std.proofs.Common.{◌≡◌, ◌&&◌, ◌||◌, map, take, drop}
 use Rattle.std.specs.List.{list_all}
 use Rattle.cics_script.specs.Tokens.{capital, is_capital, is_digit}
-use Rattle.cics_script.proofs.lines.put_capitals.Given as goal
+use Rattle.cics_script.proofs.labels.put_capitals.Given as goal
 
 abbrev pub invariant-loop-i : goal.invariant-loop-i
 invariant-loop-i l =

@@ -1,4 +1,4 @@
-use Rattle.std.proofs.Common.{◌≡◌, ℕ, ◌-◌, ◌&&◌, ◌||◌, ◌==◌, Bool, true, false, cond, nat_le, List, [], ◌∷◌, map, refl, ap, sym, ◌∙◌, None, arith}
+use Rattle.std.proofs.Common.{◌≡◌, ℕ, ◌-◌, ◌||◌, true, false, cond, List, [], ◌∷◌, map, refl, ap, sym, ◌∙◌, None, arith}
 use Rattle.std.proofs.lemmas.Bool.Decides.{nat_tests}
 use Rattle.std.proofs.lemmas.Bool.{and_parts}
 use Rattle.std.specs.List.{list_all}
@@ -10,7 +10,7 @@ use Rattle.cics_names.specs.Names.{name_of}
 use Rattle.cics_script.specs.Tokens.{capital, is_capital, is_digit, is_small}
 use Rattle.cics_script.specs.Words.{lookup, starts}
 use Rattle.cics_script.specs.Lines.{label_in, as_label}
-use Rattle.cics_script.proofs.lines.label_of.Goals as goal
+use Rattle.cics_script.proofs.labels.label_of.Goals as goal
 
 -- a capital or a digit is no small letter
 no_small : (c : ℕ) → (is_capital c || is_digit c) ≡ true → is_small c ≡ false

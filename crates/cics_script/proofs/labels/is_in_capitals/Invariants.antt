@@ -1,7 +1,7 @@
 use Rattle.std.proofs.Common.{◌≡◌, ◌&&◌, ◌||◌, drop}
 use Rattle.std.specs.List.{list_all}
 use Rattle.cics_script.specs.Tokens.{is_capital, is_digit}
-use Rattle.cics_script.proofs.lines.is_in_capitals.Given as goal
+use Rattle.cics_script.proofs.labels.is_in_capitals.Given as goal
 
 abbrev pub invariant-loop-byte : goal.invariant-loop-byte
 invariant-loop-byte l =
