@@ -15,19 +15,19 @@ use Rattle.cics_script.specs.declared.words.DefineObject.TheVariants as defined
 use Rattle.cics_script.specs.declared.words.LoadObject.TheVariants as loaded
 use Rattle.cics_script.specs.declared.words.CommandWord.{CommandWord}
 use Rattle.cics_script.specs.declared.words.CommandWord.TheVariants as command
-use Rattle.cics_script.specs.declared.words.Form.{Form}
-use Rattle.cics_script.specs.declared.words.Form.TheVariants as form
+use Rattle.cics_script.specs.declared.words.LineForm.{LineForm}
+use Rattle.cics_script.specs.declared.words.LineForm.TheVariants as form
 use Rattle.cics_script.specs.declared.words.OptionWord.{OptionWord}
-use Rattle.cics_script.specs.declared.words.Kind.{Kind}
+use Rattle.cics_script.specs.declared.words.ValueKind.{ValueKind}
 use Rattle.cics_script.specs.Words.{place, same, excludes, kind_in, own_options, shared_options}
 use Rattle.cics_script.specs.Options.{Content, Entry, allowed}
 
 -- what a line of this form may have
-abbrev pub rows_of : Form → List OptionWord
+abbrev pub rows_of : LineForm → List OptionWord
 rows_of f = own_options f ++ shared_options f
 
 -- options that a line of this form may have, each of them once
-pub record AreOnce (f : Form) (found : List Entry) : Type 0 where
+pub record AreOnce (f : LineForm) (found : List Entry) : Type 0 where
   pub apart : IsDistinct same (keys_of found)
   pub here : (q : OptionWord) → list_any (same q) (keys_of found) ≡ true → list_any (same q) (rows_of f) ≡ true
 
@@ -38,7 +38,7 @@ rows-most-command : (verb : CommandWord) → length (rows_of (form.Command verb)
 rows-most-command command.Read = omega arith
 rows-most-command verb = omega arith
 
-rows-most : (f : Form) → length (rows_of f) ≤ 13
+rows-most : (f : LineForm) → length (rows_of f) ≤ 13
 rows-most (form.Define defined.File) = omega arith
 rows-most (form.Define defined.TsPrefix) = omega arith
 rows-most (form.Define defined.TdQueue) = omega arith
@@ -49,11 +49,11 @@ rows-most form.Clock = omega arith
 rows-most form.Shutdown = omega arith
 rows-most (form.Command verb) = rows-most-command verb
 
-once-most : (f : Form) (found : List Entry) → AreOnce f found → length found ≤ 13
+once-most : (f : LineForm) (found : List Entry) → AreOnce f found → length found ≤ 13
 once-most f found once =
     omega (arith, length-keys_of found, rows-most f, length-le_from_is_member laws (keys_of found) (rows_of f) once.apart once.here)
 
-in_form : (f : Form) (option : OptionWord) (kind : Kind) → kind_in f option ≡ Some kind → list_any (same option) (rows_of f) ≡ true
+in_form : (f : LineForm) (option : OptionWord) (kind : ValueKind) → kind_in f option ≡ Some kind → list_any (same option) (rows_of f) ≡ true
 in_form f option kind is =
     list_any-append (same option) (own_options f) (shared_options f)
     ∙ elim (cases_Bool (list_any (same option) (own_options f) || list_any (same option) (shared_options f))) [
@@ -62,7 +62,7 @@ in_form f option kind is =
     ]
 
 -- an option that may stand is one of the form's, and not yet there
-allowed_parts : (found : List Entry) (option : OptionWord) (k : Option Kind) (kind : Kind) → allowed found option k ≡ Ok kind
+allowed_parts : (found : List Entry) (option : OptionWord) (k : Option ValueKind) (kind : ValueKind) → allowed found option k ≡ Ok kind
     → (k ≡ Some kind) × (list_any (λ entry. same entry.0 option) found ≡ false)
 allowed_parts found option None kind may = absurd (cc)
 allowed_parts found option (Some k) kind may =
@@ -89,11 +89,11 @@ among_more q option options is =
       | inr last ↦ elim (or_cases _ _ last) [ inl it ↦ inr it | inr none ↦ absurd (false≢true none) ]
     ]
 
-pub once-none : (f : Form) → AreOnce f []
+pub once-none : (f : LineForm) → AreOnce f []
 unfolding IsDistinct
 once-none f = record { apart = tt; here = λ q is. absurd (false≢true is) }
 
-pub once-more : (f : Form) (found : List Entry) (option : OptionWord) (content : Content) (kind : Kind) → AreOnce f found
+pub once-more : (f : LineForm) (found : List Entry) (option : OptionWord) (content : Content) (kind : ValueKind) → AreOnce f found
     → allowed found option (kind_in f option) ≡ Ok kind → AreOnce f (found ++ (option, content) ∷ [])
 once-more f found option content kind once may =
     let parts = allowed_parts found option (kind_in f option) kind may in
@@ -107,7 +107,7 @@ once-more f found option content kind once may =
     }
 
 -- where an option may stand, there is room for it
-pub once-room : (f : Form) (found : List Entry) (option : OptionWord) (kind : Kind) → AreOnce f found
+pub once-room : (f : LineForm) (found : List Entry) (option : OptionWord) (kind : ValueKind) → AreOnce f found
     → allowed found option (kind_in f option) ≡ Ok kind → length found < 13
 once-room f found option kind once may =
     let most = once-most f (found ++ (option, Content.nothing) ∷ []) (once-more f found option Content.nothing kind once may) in

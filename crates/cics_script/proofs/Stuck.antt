@@ -6,13 +6,13 @@ use Rattle.cics_script.specs.declared.lines.Line.{Line}
 use Rattle.cics_script.specs.declared.lines.Line.TheVariants as line_of
 use Rattle.cics_script.specs.declared.faults.LineFault.{LineFault}
 use Rattle.cics_script.specs.declared.faults.LineFault.TheVariants.{TooLong, NotAscii, UnknownWord, BadLiteral, BadNumber, MissingOption, DoubledOption, OptionNotHere, DefineTooLate, NoMemory}
-use Rattle.cics_script.specs.declared.words.Start.{Start}
-use Rattle.cics_script.specs.declared.words.Start.TheVariants as start
+use Rattle.cics_script.specs.declared.words.FirstWord.{FirstWord}
+use Rattle.cics_script.specs.declared.words.FirstWord.TheVariants as start
 use Rattle.cics_script.specs.declared.words.DefineObject.{DefineObject}
 use Rattle.cics_script.specs.declared.words.LoadObject.{LoadObject}
 use Rattle.cics_script.specs.declared.words.CommandWord.{CommandWord}
-use Rattle.cics_script.specs.declared.words.Form.{Form}
-use Rattle.cics_script.specs.declared.words.Form.TheVariants as form
+use Rattle.cics_script.specs.declared.words.LineForm.{LineForm}
+use Rattle.cics_script.specs.declared.words.LineForm.TheVariants as form
 use Rattle.cics_script.specs.Faults.{◌>>=◌}
 use Rattle.cics_script.specs.Tokens.{Token, word, number, literal, opening, closing, broken}
 use Rattle.cics_script.specs.Words.{lookup, starts, define_objects, load_objects, commands, queue_words}
@@ -33,16 +33,16 @@ goes-then : {A B : Type 0} (read : List Token → Result A LineFault) (more : A 
 goes-then read more front (inl e) = inl (λ fault rest. ap (λ r. r >>= more) (e fault rest))
 goes-then read more front (inr e) = inr (λ rest others. ap (λ r. r >>= more) (e rest others))
 
-goes-moved : (f : Form) (moved : Result (Place × List Entry) LineFault) (front : List Token)
+goes-moved : (f : LineForm) (moved : Result (Place × List Entry) LineFault) (front : List Token)
     → ((place : Place) (found : List Entry) → Goes (reads f place found) front) → Goes (λ ts. moved >>= λ next. reads f next.0 next.1 ts) front
 goes-moved f (Ok next) front h = h next.0 next.1
 goes-moved f (Err fault) front h = inr (λ rest others. refl)
 
-goes-reads : (f : Form) (place : Place) (found : List Entry) (front : List Token) → Goes (reads f place found) front
+goes-reads : (f : LineForm) (place : Place) (found : List Entry) (front : List Token) → Goes (reads f place found) front
 goes-reads f place found [] = inl (λ fault rest. refl)
 goes-reads f place found (token ∷ front) = goes-moved f (moves f place found token) front (λ place found. goes-reads f place found front)
 
-goes-options : {B : Type 0} (f : Form) (more : List Entry → Result B LineFault) (front : List Token) → Goes (λ ts. options f ts >>= more) front
+goes-options : {B : Type 0} (f : LineForm) (more : List Entry → Result B LineFault) (front : List Token) → Goes (λ ts. options f ts >>= more) front
 goes-options f more front = goes-then (options f) more front (goes-reads f (at_option None) [] front)
 
 goes-word : {B : Type 0} (more : List ℕ × List Token → Result B LineFault) (front : List Token)
@@ -161,7 +161,7 @@ goes-labelled : (label : Result (List ℕ) LineFault) (front : List Token) → G
 goes-labelled (Err fault) front = inr (λ rest others. refl)
 goes-labelled (Ok label) front = goes-issue label front
 
-goes-begun : (found : Option Start) (w : List ℕ) (front : List Token) → Goes (begun found w) front
+goes-begun : (found : Option FirstWord) (w : List ℕ) (front : List Token) → Goes (begun found w) front
 goes-begun (Some start.Define) w front = goes-define front
 goes-begun (Some start.Load) w front = goes-load front
 goes-begun (Some start.Attach) w front =

@@ -10,14 +10,14 @@ use Rattle.cics_script.specs.declared.lines.Line.{Line}
 use Rattle.cics_script.specs.declared.lines.Line.TheVariants as line_of
 use Rattle.cics_script.specs.declared.faults.LineFault.{LineFault}
 use Rattle.cics_script.specs.declared.faults.LineFault.TheVariants.{TooLong, NotAscii, UnknownWord, BadNumber}
-use Rattle.cics_script.specs.declared.words.Start.{Start}
-use Rattle.cics_script.specs.declared.words.Start.TheVariants as start
+use Rattle.cics_script.specs.declared.words.FirstWord.{FirstWord}
+use Rattle.cics_script.specs.declared.words.FirstWord.TheVariants as start
 use Rattle.cics_script.specs.declared.words.DefineObject.{DefineObject}
 use Rattle.cics_script.specs.declared.words.DefineObject.TheVariants as defined
 use Rattle.cics_script.specs.declared.words.LoadObject.{LoadObject}
 use Rattle.cics_script.specs.declared.words.LoadObject.TheVariants as loaded
 use Rattle.cics_script.specs.declared.words.CommandWord.{CommandWord}
-use Rattle.cics_script.specs.declared.words.Form.TheVariants as form
+use Rattle.cics_script.specs.declared.words.LineForm.TheVariants as form
 use Rattle.cics_script.specs.declared.words.OptionWord.TheVariants.{File, TsPrefix, TdQueue, KeyLength, KeyOffset, RecordSize, Recoverable, Unrecoverable, Logical, Physical, Unrecovered, From, Transid, Dtimout}
 use Rattle.cics_script.specs.Faults.{◌>>=◌}
 use Rattle.cics_script.specs.Tokens.{Token, word, number, broken, is_capital, is_digit, after_blanks, tokens}
@@ -159,7 +159,7 @@ issue label rest = behind (codes "EXEC") rest >>= λ rest. behind (codes "CICS")
 
 -- whether a line that begins so defines and attaches nothing, whatever is wrong with the rest: LOAD,
 -- CLOCK, SHUTDOWN, or EXEC and CICS behind any other word
-abbrev pub adds_nothing_behind : Option Start → List Token → Bool
+abbrev pub adds_nothing_behind : Option FirstWord → List Token → Bool
 adds_nothing_behind (Some start.Define) rest = false
 adds_nothing_behind (Some start.Attach) rest = false
 adds_nothing_behind (Some first) rest = true
@@ -175,7 +175,7 @@ abbrev pub adds_nothing : List ℕ → Bool
 adds_nothing bytes = adds_nothing_read (word_first (tokens bytes))
 
 -- the line that this first word begins
-abbrev pub begun : Option Start → List ℕ → List Token → Result Line LineFault
+abbrev pub begun : Option FirstWord → List ℕ → List Token → Result Line LineFault
 begun (Some start.Define) first rest = define rest
 begun (Some start.Load) first rest = load rest
 begun (Some start.Attach) first rest = attach rest

@@ -13,9 +13,9 @@ use Rattle.cics_script.specs.declared.options.Value.{Value}
 use Rattle.cics_script.specs.declared.options.Value.TheVariants as value
 use Rattle.cics_script.specs.declared.options.Found.{Found}
 use Rattle.cics_script.specs.declared.words.CommandWord.{CommandWord}
-use Rattle.cics_script.specs.declared.words.Form.{Form}
+use Rattle.cics_script.specs.declared.words.LineForm.{LineForm}
 use Rattle.cics_script.specs.declared.words.OptionWord.{OptionWord}
-use Rattle.cics_script.specs.declared.words.Kind.{Kind}
+use Rattle.cics_script.specs.declared.words.ValueKind.{ValueKind}
 use Rattle.cics_script.specs.Faults.{Refuses}
 use Rattle.cics_script.specs.Literals.{said, recorded}
 use Rattle.cics_script.specs.Tokens.{Token, word, number, literal, opening, closing, broken, capital, text_in, token_at, tokens}
@@ -98,51 +98,51 @@ GivesContent read (Err fault) = Refuses read fault
 
 -- a step was made, to a place, options and bytes from which the grammar reads the same as before
 -- the step; or its fault was returned
-abbrev pub Steps : {X : Type 0} → Form → List Entry → Place → List ℕ → (X → Place × List Entry × List ℕ) → Result X LineFault → Type 0
+abbrev pub Steps : {X : Type 0} → LineForm → List Entry → Place → List ℕ → (X → Place × List Entry × List ℕ) → Result X LineFault → Type 0
 Steps form found place bytes after (Ok x) =
     (reads form place found (tokens bytes) ≡ reads form (after x).0 (after x).1 (tokens (after x).2)) × (length (after x).2 < length bytes)
 Steps form found place bytes after (Err fault) = Refuses (reads form place found (tokens bytes)) fault
 
 -- an opening parenthesis was read, whichever option it belongs to
-abbrev pub Opens : Kind → List ℕ → Result (Bor (List ℕ)) LineFault → Type 0
-Opens kind bytes result = (f : Form) (found : List Entry) (w : OptionWord)
+abbrev pub Opens : ValueKind → List ℕ → Result (Bor (List ℕ)) LineFault → Type 0
+Opens kind bytes result = (f : LineForm) (found : List Entry) (w : OptionWord)
     → Steps f found (at_opening w kind) bytes (λ rest. (at_value w kind, found, rest.now)) result
 
 -- the token that stands as a value was read, whichever option it belongs to
-abbrev pub GivesValue : Kind → List ℕ → Result (made.Token × Bor (List ℕ)) LineFault → Type 0
+abbrev pub GivesValue : ValueKind → List ℕ → Result (made.Token × Bor (List ℕ)) LineFault → Type 0
 GivesValue kind bytes (Ok found) = (tokens bytes ≡ view found.0 ∷ tokens found.1.now) × (length found.1.now < length bytes)
-GivesValue kind bytes (Err fault) = (f : Form) (found : List Entry) (w : OptionWord) → reads f (at_value w kind) found (tokens bytes) ≡ Err fault
+GivesValue kind bytes (Err fault) = (f : LineForm) (found : List Entry) (w : OptionWord) → reads f (at_value w kind) found (tokens bytes) ≡ Err fault
 
 -- the content of parentheses was read, and the option added after the others
-abbrev pub Fills : Kind → OptionWord → List Entry → List Entry → List ℕ → Result (Bor (List ℕ)) LineFault → Type 0
+abbrev pub Fills : ValueKind → OptionWord → List Entry → List Entry → List ℕ → Result (Bor (List ℕ)) LineFault → Type 0
 Fills kind option before after bytes (Ok rest) =
     (c : Content) × (after ≡ before ++ (option, c) ∷ [])
-    × ((f : Form) → reads f (at_value option kind) before (tokens bytes) ≡ reads f (at_closing option kind c) before (tokens rest.now))
+    × ((f : LineForm) → reads f (at_value option kind) before (tokens bytes) ≡ reads f (at_closing option kind c) before (tokens rest.now))
     × (length rest.now < length bytes)
-Fills kind option before after bytes (Err fault) = (f : Form) → Refuses (reads f (at_value option kind) before (tokens bytes)) fault
+Fills kind option before after bytes (Err fault) = (f : LineForm) → Refuses (reads f (at_value option kind) before (tokens bytes)) fault
 
 -- a closing parenthesis was read, after whatever content
-abbrev pub Shuts : Kind → List ℕ → Result (Bor (List ℕ)) LineFault → Type 0
-Shuts kind bytes result = (f : Form) (found : List Entry) (w : OptionWord) (c : Content)
+abbrev pub Shuts : ValueKind → List ℕ → Result (Bor (List ℕ)) LineFault → Type 0
+Shuts kind bytes result = (f : LineForm) (found : List Entry) (w : OptionWord) (c : Content)
     → Steps f found (at_closing w kind c) bytes (λ rest. (at_option (Some kind), found ++ (w, c) ∷ [], rest.now)) result
 
 -- a value in parentheses was read, and the option added after the others
-abbrev pub HasValue : Kind → OptionWord → List Entry → List Entry → List ℕ → Result (Bor (List ℕ)) LineFault → Type 0
-HasValue kind option before after bytes result = (f : Form)
+abbrev pub HasValue : ValueKind → OptionWord → List Entry → List Entry → List ℕ → Result (Bor (List ℕ)) LineFault → Type 0
+HasValue kind option before after bytes result = (f : LineForm)
     → Steps f before (at_opening option kind) bytes (λ rest. (at_option (Some kind), after, rest.now)) result
 
 -- what reading an option behind its word gave, with the option put behind others
-abbrev pub Enters : Kind → OptionWord → List Entry → List Entry → List ℕ → Result (Bor (List ℕ)) LineFault → Type 0
-Enters kind option before after bytes (Ok rest) = (form : Form)
+abbrev pub Enters : ValueKind → OptionWord → List Entry → List Entry → List ℕ → Result (Bor (List ℕ)) LineFault → Type 0
+Enters kind option before after bytes (Ok rest) = (form : LineForm)
     → (reads form (entered option before kind).0 (entered option before kind).1 (tokens bytes) ≡ reads form (behind_option kind) after (tokens rest.now))
     × (length rest.now ≤ length bytes)
-Enters kind option before after bytes (Err fault) = (form : Form)
+Enters kind option before after bytes (Err fault) = (form : LineForm)
     → Refuses (reads form (entered option before kind).0 (entered option before kind).1 (tokens bytes)) fault
 
 -- the line ends here, or a fault was returned
 abbrev pub Ends : List ℕ → Result Unit LineFault → Type 0
-Ends bytes (Ok end) = (form : Form) (found : List Entry) → reads form at_end found (tokens bytes) ≡ Ok found
-Ends bytes (Err fault) = (form : Form) (found : List Entry) → Refuses (reads form at_end found (tokens bytes)) fault
+Ends bytes (Ok end) = (form : LineForm) (found : List Entry) → reads form at_end found (tokens bytes) ≡ Ok found
+Ends bytes (Err fault) = (form : LineForm) (found : List Entry) → Refuses (reads form at_end found (tokens bytes)) fault
 
 -- all options were read
 abbrev pub GivesEntries : Result (List Entry) LineFault → Result (ArrayVec Found) LineFault → Type 0

@@ -2,21 +2,21 @@
 use Rattle.std.specs.Prelude.{ℕ, Bool, ◌==◌, ◌||◌, if◌then◌else◌, List, [], ◌∷◌, Option, Some, None}
 use Rattle.std.specs.List.{list_any}
 use Rattle.std.specs.Str.{bytes_eq}
-use Rattle.cics_script.specs.declared.words.Start.{Start}
-use Rattle.cics_script.specs.declared.words.Start.TheVariants as start
+use Rattle.cics_script.specs.declared.words.FirstWord.{FirstWord}
+use Rattle.cics_script.specs.declared.words.FirstWord.TheVariants as start
 use Rattle.cics_script.specs.declared.words.DefineObject.{DefineObject}
 use Rattle.cics_script.specs.declared.words.DefineObject.TheVariants as defined
 use Rattle.cics_script.specs.declared.words.LoadObject.{LoadObject}
 use Rattle.cics_script.specs.declared.words.LoadObject.TheVariants as loaded
 use Rattle.cics_script.specs.declared.words.CommandWord.{CommandWord}
 use Rattle.cics_script.specs.declared.words.CommandWord.TheVariants as command
-use Rattle.cics_script.specs.declared.words.Form.{Form}
-use Rattle.cics_script.specs.declared.words.Form.TheVariants as form
+use Rattle.cics_script.specs.declared.words.LineForm.{LineForm}
+use Rattle.cics_script.specs.declared.words.LineForm.TheVariants as form
 use Rattle.cics_script.specs.declared.words.OptionWord.{OptionWord}
 use Rattle.cics_script.specs.declared.words.OptionWord.TheVariants.{File, TsPrefix, TdQueue, KeyLength, KeyOffset, RecordSize, Recoverable, Unrecoverable, Logical, Physical, Unrecovered, From, Transid, Dtimout, Ridfld, Length, Into, Generic, Equal}
 use Rattle.cics_script.specs.declared.words.OptionWord.TheVariants.{Gteq, Update, NumRec, Queue, Item, Next, Rewrite, Main, Auxiliary, Resource, NoSuspend, Rollback, AbCode, Cancel, NoDump, Resp, Resp2, NoHandle, EndExec}
-use Rattle.cics_script.specs.declared.words.Kind.{Kind}
-use Rattle.cics_script.specs.declared.words.Kind.TheVariants.{Flag, Text, Name8, Name4, Number, Area, Last}
+use Rattle.cics_script.specs.declared.words.ValueKind.{ValueKind}
+use Rattle.cics_script.specs.declared.words.ValueKind.TheVariants.{Flag, Text, Name8, Name4, Number, Area, Last}
 use lib.Chars.{codes}
 
 -- what a table has for a word
@@ -25,7 +25,7 @@ lookup word [] = None
 lookup word (row ∷ rows) = if bytes_eq word row.0 then Some row.1 else lookup word rows
 
 -- the words that begin lines; none of them is a label
-abbrev pub starts : List (List ℕ × Start)
+abbrev pub starts : List (List ℕ × FirstWord)
 starts =
     (codes "DEFINE", start.Define) ∷ (codes "LOAD", start.Load) ∷ (codes "ATTACH", start.Attach)
     ∷ (codes "CLOCK", start.Clock) ∷ (codes "SHUTDOWN", start.Shutdown) ∷ []
@@ -151,7 +151,7 @@ options_of_command command.Return = []
 options_of_command command.Abend = AbCode ∷ Cancel ∷ NoDump ∷ []
 
 -- the options of a line, but for those of every command
-abbrev pub own_options : Form → List OptionWord
+abbrev pub own_options : LineForm → List OptionWord
 own_options (form.Define defined.File) = File ∷ KeyLength ∷ KeyOffset ∷ RecordSize ∷ Recoverable ∷ Unrecoverable ∷ []
 own_options (form.Define defined.TsPrefix) = TsPrefix ∷ []
 own_options (form.Define defined.TdQueue) = TdQueue ∷ Logical ∷ Physical ∷ Unrecovered ∷ []
@@ -163,12 +163,12 @@ own_options form.Shutdown = []
 own_options (form.Command verb) = options_of_command verb
 
 -- the options of every command, or none for another line
-abbrev pub shared_options : Form → List OptionWord
+abbrev pub shared_options : LineForm → List OptionWord
 shared_options (form.Command verb) = Resp ∷ Resp2 ∷ NoHandle ∷ EndExec ∷ []
 shared_options line = []
 
 -- what an option takes in most lines that have it
-abbrev pub usual_kind : OptionWord → Kind
+abbrev pub usual_kind : OptionWord → ValueKind
 usual_kind File = Name8
 usual_kind TsPrefix = Name8
 usual_kind Queue = Name8
@@ -192,12 +192,12 @@ usual_kind EndExec = Last
 usual_kind option = Flag
 
 -- this kind for one option, and the usual kind for any other
-abbrev pub kind_but : OptionWord → Kind → OptionWord → Kind
+abbrev pub kind_but : OptionWord → ValueKind → OptionWord → ValueKind
 kind_but other kind option = if same option other then kind else usual_kind option
 
 -- what an option of a line takes. Exceptions: RIDFLD of READNEXT and READPREV, and ITEM of WRITEQ
 -- TS, are areas. QUEUE of TD is a name of four bytes
-abbrev pub kind_at : Form → OptionWord → Kind
+abbrev pub kind_at : LineForm → OptionWord → ValueKind
 kind_at (form.Command command.ReadNext) option = kind_but Ridfld Area option
 kind_at (form.Command command.ReadPrev) option = kind_but Ridfld Area option
 kind_at (form.Command command.WriteqTs) option = kind_but Item Area option
@@ -208,7 +208,7 @@ kind_at line option = usual_kind option
 
 -- what an option of a line takes, or None if the line has no such option. Three tables join here:
 -- `own_options`, `shared_options` and `kind_at`
-abbrev pub kind_in : Form → OptionWord → Option Kind
+abbrev pub kind_in : LineForm → OptionWord → Option ValueKind
 kind_in line option =
     if list_any (same option) (own_options line) || list_any (same option) (shared_options line) then Some (kind_at line option) else None
 

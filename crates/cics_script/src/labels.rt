@@ -56,7 +56,7 @@ fn small_label_of(word: &[u8]) -> Result<Name8, LineFault>
     Name8::new(&capitals[..word.len()]).or(Err(LineFault::UnknownWord))
 }
 
-/// Returns the label that a word is, which is none of `Start`: at most eight letters and digits.
+/// Returns the label that a word is, none of `FirstWord`: at most eight letters and digits.
 pub fn label_of(word: &[u8]) -> Result<Name8, LineFault>
     requires { lookup (map capital word.now) starts ≡ None }
     ensures { result ≡ label_in (map capital word.now) }

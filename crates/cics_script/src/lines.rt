@@ -23,8 +23,8 @@ use crate::options::{Found, Options, has_option, read_options, skip_one_blank};
 use crate::tokens::{Token, begins_with, named, next_token, next_value, next_word, skip_blanks};
 use crate::values::{name4_of, name8_of, needed, number_of, text_of};
 use crate::words::{
-    CommandWord, DefineObject, Form, LoadObject, OptionWord, Start, command_named, define_object,
-    is_spelled, load_object, queue_command, start_of, td_command,
+    CommandWord, DefineObject, FirstWord, LineForm, LoadObject, OptionWord, command_named,
+    define_object, is_spelled, load_object, queue_command, start_of, td_command,
 };
 use cics_ksds::FileDef;
 use cics_names::{Command, Name4, Name8, Record};
@@ -167,7 +167,7 @@ fn read_define(alloc: Global, bytes: &[u8]) -> Result<Line, LineFault>
     let (word, _) = first_word(bytes)?;
     let object = define_object(word).ok_or(LineFault::UnknownWord)?;
     let mut found = Options::new();
-    read_options(alloc, Form::Define(object), bytes, &mut found)?;
+    read_options(alloc, LineForm::Define(object), bytes, &mut found)?;
     needed(definition_of(object, &found))
 }
 
@@ -179,7 +179,7 @@ fn read_load(alloc: Global, bytes: &[u8]) -> Result<Line, LineFault>
     let (word, _) = first_word(bytes)?;
     let object = load_object(word).ok_or(LineFault::UnknownWord)?;
     let mut found = Options::new();
-    read_options(alloc, Form::Load(object), bytes, &mut found)?;
+    read_options(alloc, LineForm::Load(object), bytes, &mut found)?;
     load_of(alloc, object, &found)
 }
 
@@ -194,7 +194,7 @@ fn read_attach(alloc: Global, bytes: &[u8]) -> Result<Line, LineFault>
         return Err(LineFault::UnknownWord);
     }
     let label = label_of(word)?;
-    read_options(alloc, Form::Attach, rest, &mut found)?;
+    read_options(alloc, LineForm::Attach, rest, &mut found)?;
     let transaction = needed(name4_of(&found, OptionWord::Transid))?;
     let dtimout = number_of(&found, OptionWord::Dtimout).unwrap_or(0);
     Ok(Line::Attach(label, transaction, dtimout))
@@ -219,7 +219,7 @@ fn read_clock(alloc: Global, bytes: &[u8]) -> Result<Line, LineFault>
     let Some((Token::Number(seconds), rest)) = next_number(bytes)? else {
         return Err(LineFault::BadNumber);
     };
-    read_options(alloc, Form::Clock, rest, &mut found)?;
+    read_options(alloc, LineForm::Clock, rest, &mut found)?;
     Ok(Line::Clock(seconds))
 }
 
@@ -230,7 +230,7 @@ fn read_shutdown(alloc: Global, bytes: &[u8]) -> Result<Line, LineFault>
 {
     let rest = skip_word(bytes, b"IMMEDIATE")?;
     let mut found = Options::new();
-    read_options(alloc, Form::Shutdown, rest, &mut found)?;
+    read_options(alloc, LineForm::Shutdown, rest, &mut found)?;
     Ok(Line::Shutdown)
 }
 
@@ -315,7 +315,7 @@ fn read_issue(alloc: Global, label: Name8, bytes: &[u8]) -> Result<Line, LineFau
     let behind_cics = skip_exec_cics(bytes)?;
     let (verb, rest) = first_verb(behind_cics)?;
     let (command, behind) = placed_command(verb, rest);
-    read_options(alloc, Form::Command(command), behind, &mut found)?;
+    read_options(alloc, LineForm::Command(command), behind, &mut found)?;
     let verb = verb_of(alloc, command, &found)?;
     let resp = is_handled(&found);
     Ok(Line::Issue(label, Command { verb, resp }))
@@ -330,8 +330,8 @@ pub fn adds_nothing(line: &[u8]) -> bool
         return false;
     };
     match start_of(word) {
-        Some(Start::Define | Start::Attach) => false,
-        Some(Start::Load | Start::Clock | Start::Shutdown) => true,
+        Some(FirstWord::Define | FirstWord::Attach) => false,
+        Some(FirstWord::Load | FirstWord::Clock | FirstWord::Shutdown) => true,
         None => skip_exec_cics(rest).is_ok(),
     }
 }
@@ -344,11 +344,11 @@ pub fn read_statement(alloc: Global, bytes: &[u8]) -> Result<Line, LineFault>
     let (word, rest) = first_word(bytes)?;
     // A `match` with these as its values would move each once more.
     match start_of(word) {
-        Some(Start::Define) => return read_define(alloc, rest),
-        Some(Start::Load) => return read_load(alloc, rest),
-        Some(Start::Attach) => return read_attach(alloc, rest),
-        Some(Start::Clock) => return read_clock(alloc, rest),
-        Some(Start::Shutdown) => return read_shutdown(alloc, rest),
+        Some(FirstWord::Define) => return read_define(alloc, rest),
+        Some(FirstWord::Load) => return read_load(alloc, rest),
+        Some(FirstWord::Attach) => return read_attach(alloc, rest),
+        Some(FirstWord::Clock) => return read_clock(alloc, rest),
+        Some(FirstWord::Shutdown) => return read_shutdown(alloc, rest),
         None => {}
     }
     let label = label_of(word)?;

@@ -15,7 +15,7 @@ ghost use Rattle.cics_script.specs.Views.{Opens, Fills, Shuts, HasValue, Enters,
 use crate::faults::LineFault;
 use crate::literals::{Encoding, Literal, Notation};
 use crate::tokens::{Token, named, next_token, next_value};
-use crate::words::{Form, Kind, OptionWord, is_excluded, is_same, kind_of, option_named};
+use crate::words::{LineForm, OptionWord, ValueKind, is_excluded, is_same, kind_of, option_named};
 use arrayvec::ArrayVec;
 use cics_names::{Name4, Name8};
 use std::alloc::Global;
@@ -60,15 +60,15 @@ impl Default for Found<'_> {
 #[derive(Clone, Copy)]
 struct Allowed {
     option: OptionWord,
-    kind: Kind,
+    kind: ValueKind,
 }
 
 // Returns the fault of a wrong or missing value or parenthesis, by what the option takes.
-fn wrong_value(kind: Kind) -> LineFault
+fn wrong_value(kind: ValueKind) -> LineFault
     ensures { result ≡ fault_of kind }
 {
     match kind {
-        Kind::Number => LineFault::BadNumber,
+        ValueKind::Number => LineFault::BadNumber,
         _ => LineFault::BadLiteral,
     }
 }
@@ -93,7 +93,7 @@ fn quoted_text(alloc: Global, literal: Literal<'_>) -> Result<CowSlice<'_, u8, G
 // Returns the name of eight bytes that a quoted literal says.
 fn name8_of(alloc: Global, literal: Literal<'_>) -> Result<Name8, LineFault>
     ensures { GivesName Content.name8
-        (content_in Kind.Name8 (view (Token.Literal literal.entry))) result }
+        (content_in ValueKind.Name8 (view (Token.Literal literal.entry))) result }
 {
     let text = quoted_text(alloc, literal)?;
     Name8::new(&text).or(Err(LineFault::BadLiteral))
@@ -102,22 +102,22 @@ fn name8_of(alloc: Global, literal: Literal<'_>) -> Result<Name8, LineFault>
 // Returns the name of four bytes that a quoted literal says.
 fn name4_of(alloc: Global, literal: Literal<'_>) -> Result<Name4, LineFault>
     ensures { GivesName Content.name4
-        (content_in Kind.Name4 (view (Token.Literal literal.entry))) result }
+        (content_in ValueKind.Name4 (view (Token.Literal literal.entry))) result }
 {
     let text = quoted_text(alloc, literal)?;
     Name4::new(&text).or(Err(LineFault::BadLiteral))
 }
 
 // Returns a token as a value of this kind.
-fn value_of<'a>(alloc: Global, kind: Kind, token: Token<'a>) -> Result<Value<'a>, LineFault>
+fn value_of<'a>(alloc: Global, kind: ValueKind, token: Token<'a>) -> Result<Value<'a>, LineFault>
     ensures { GivesContent (content_in kind (view token.entry)) result }
 {
     match (kind, token) {
-        (Kind::Text, Token::Literal(literal)) => Ok(Value::Text(literal)),
-        (Kind::Name8, Token::Literal(literal)) => Ok(Value::Name8(name8_of(alloc, literal)?)),
-        (Kind::Name4, Token::Literal(literal)) => Ok(Value::Name4(name4_of(alloc, literal)?)),
-        (Kind::Number | Kind::Area, Token::Number(number)) => Ok(Value::Number(number)),
-        (Kind::Area, Token::Literal(_) | Token::Word(_)) => Ok(Value::Nothing),
+        (ValueKind::Text, Token::Literal(literal)) => Ok(Value::Text(literal)),
+        (ValueKind::Name8, Token::Literal(literal)) => Ok(Value::Name8(name8_of(alloc, literal)?)),
+        (ValueKind::Name4, Token::Literal(literal)) => Ok(Value::Name4(name4_of(alloc, literal)?)),
+        (ValueKind::Number | ValueKind::Area, Token::Number(number)) => Ok(Value::Number(number)),
+        (ValueKind::Area, Token::Literal(_) | Token::Word(_)) => Ok(Value::Nothing),
         _ => Err(wrong_value(kind)),
     }
 }
@@ -125,7 +125,7 @@ fn value_of<'a>(alloc: Global, kind: Kind, token: Token<'a>) -> Result<Value<'a>
 // Returns the same as `read_opening`. Cold: few parentheses have a blank before them.
 #[cold]
 #[inline(never)]
-fn far_opening(kind: Kind, bytes: &[u8]) -> Result<&[u8], LineFault>
+fn far_opening(kind: ValueKind, bytes: &[u8]) -> Result<&[u8], LineFault>
     ensures { Opens kind bytes.now result }
 {
     match next_token(bytes)? {
@@ -135,7 +135,7 @@ fn far_opening(kind: Kind, bytes: &[u8]) -> Result<&[u8], LineFault>
 }
 
 // Returns the line after an opening parenthesis.
-fn read_opening(kind: Kind, bytes: &[u8]) -> Result<&[u8], LineFault>
+fn read_opening(kind: ValueKind, bytes: &[u8]) -> Result<&[u8], LineFault>
     ensures { Opens kind bytes.now result }
 {
     match bytes.split_first() {
@@ -145,7 +145,7 @@ fn read_opening(kind: Kind, bytes: &[u8]) -> Result<&[u8], LineFault>
 }
 
 // Returns the token that stands as a value, and the line after it.
-fn value_token(kind: Kind, bytes: &[u8]) -> Result<(Token<'_>, &[u8]), LineFault>
+fn value_token(kind: ValueKind, bytes: &[u8]) -> Result<(Token<'_>, &[u8]), LineFault>
     ensures { GivesValue kind bytes.now result }
 {
     // Most values are words, or quoted literals or numbers right after the parenthesis.
@@ -181,7 +181,7 @@ fn read_content<'a>(
 // Returns the same as `read_closing`. Cold, as `far_opening`.
 #[cold]
 #[inline(never)]
-fn far_closing(kind: Kind, bytes: &[u8]) -> Result<&[u8], LineFault>
+fn far_closing(kind: ValueKind, bytes: &[u8]) -> Result<&[u8], LineFault>
     ensures { Shuts kind bytes.now result }
 {
     match next_token(bytes)? {
@@ -191,7 +191,7 @@ fn far_closing(kind: Kind, bytes: &[u8]) -> Result<&[u8], LineFault>
 }
 
 // Returns the line after a closing parenthesis.
-fn read_closing(kind: Kind, bytes: &[u8]) -> Result<&[u8], LineFault>
+fn read_closing(kind: ValueKind, bytes: &[u8]) -> Result<&[u8], LineFault>
     ensures { Shuts kind bytes.now result }
 {
     match bytes.split_first() {
@@ -233,7 +233,11 @@ fn has_excluded(found: &[Found<'_>], option: OptionWord) -> bool
 }
 
 // Returns what an option takes, if it may stand here.
-fn allowed_kind(form: Form, found: &[Found<'_>], option: OptionWord) -> Result<Kind, LineFault>
+fn allowed_kind(
+    form: LineForm,
+    found: &[Found<'_>],
+    option: OptionWord,
+) -> Result<ValueKind, LineFault>
     ensures { result ≡ allowed (entries found.now) option (kind_in form option) }
 {
     let Some(kind) = kind_of(form, option) else {
@@ -262,7 +266,7 @@ fn read_option<'a>(
         (entries found.new.items) bytes.entry.now result }
 {
     match one.kind {
-        Kind::Flag | Kind::Last => {
+        ValueKind::Flag | ValueKind::Last => {
             found.push(Found {
                 option: one.option,
                 value: Value::Nothing,
@@ -322,12 +326,15 @@ pub fn skip_one_blank(bytes: &[u8]) -> &[u8]
 // Returns the next option and the line after its word, or `None` at the line's end. `last` is what
 // the option before it takes, `None` if there is none. Inlined: each option passes through it.
 #[inline(always)]
-fn next_option(last: Option<Kind>, bytes: &[u8]) -> Result<Option<(OptionWord, &[u8])>, LineFault>
+fn next_option(
+    last: Option<ValueKind>,
+    bytes: &[u8],
+) -> Result<Option<(OptionWord, &[u8])>, LineFault>
     ensures none { IfOk result (λ found.
         found ≡ None → tokens bytes.entry.now ≡ []) }
     ensures some { IfOk result (λ found. IfSome found (λ next.
         IsNamed option_words next.0 bytes.entry.now next.1.now)) }
-    ensures fault { IfErr result (λ fault. (form : Form) (found : List Entry) →
+    ensures fault { IfErr result (λ fault. (form : LineForm) (found : List Entry) →
         reads form (at_option last) found (tokens bytes.entry.now) ≡ Err fault) }
 {
     if bytes.is_empty() {
@@ -358,7 +365,7 @@ fn next_option(last: Option<Kind>, bytes: &[u8]) -> Result<Option<(OptionWord, &
 /// content of `found` is unspecified.
 pub fn read_options<'a>(
     alloc: Global,
-    form: Form,
+    form: LineForm,
     bytes: &'a [u8],
     found: &mut Options<'a>,
 ) -> Result<(), LineFault>
@@ -377,7 +384,7 @@ pub fn read_options<'a>(
         let kind = allowed_kind(form, found, option)?;
         rest = read_option(alloc, &Allowed { option, kind }, behind, found)?;
         match kind {
-            Kind::Last => return read_end(rest),
+            ValueKind::Last => return read_end(rest),
             _ => last = Some(kind),
         }
     }

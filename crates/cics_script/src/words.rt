@@ -20,7 +20,7 @@ use crate::words::OptionWord::{
 
 /// The first word of a line that begins with no label.
 #[derive(Clone, Copy)]
-pub enum Start {
+pub enum FirstWord {
     Define,
     Load,
     Attach,
@@ -71,7 +71,7 @@ pub enum CommandWord {
 
 /// What a line is, by which its options are looked up.
 #[derive(Clone, Copy)]
-pub enum Form {
+pub enum LineForm {
     Define(DefineObject),
     Load(LoadObject),
     Attach,
@@ -126,7 +126,7 @@ pub enum OptionWord {
 
 /// What an option takes in parentheses.
 #[derive(Clone, Copy)]
-pub enum Kind {
+pub enum ValueKind {
     /// No parentheses.
     Flag,
     /// Any literal.
@@ -143,12 +143,12 @@ pub enum Kind {
     Last,
 }
 
-pub static STARTS: [(&str, Start); 5] = [
-    ("DEFINE", Start::Define),
-    ("LOAD", Start::Load),
-    ("ATTACH", Start::Attach),
-    ("CLOCK", Start::Clock),
-    ("SHUTDOWN", Start::Shutdown),
+pub static STARTS: [(&str, FirstWord); 5] = [
+    ("DEFINE", FirstWord::Define),
+    ("LOAD", FirstWord::Load),
+    ("ATTACH", FirstWord::Attach),
+    ("CLOCK", FirstWord::Clock),
+    ("SHUTDOWN", FirstWord::Shutdown),
 ];
 
 static DEFINE_OBJECTS: [(&str, DefineObject); 4] = [
@@ -264,7 +264,7 @@ fn find_row<T: Copy>(rows: &[(&str, T)], word: &[u8]) -> Option<T>
 }
 
 /// Returns which line a word begins, or `None` if it may be a label.
-pub fn start_of(word: &[u8]) -> Option<Start>
+pub fn start_of(word: &[u8]) -> Option<FirstWord>
     ensures { result ≡ lookup (map capital word.now) starts }
 {
     find_row(&STARTS, word)
@@ -355,11 +355,11 @@ pub fn is_same(first: OptionWord, second: OptionWord) -> bool
 }
 
 // Returns the options of a line, but for those of every command.
-fn own_options(form: Form) -> &'static [OptionWord]
+fn own_options(form: LineForm) -> &'static [OptionWord]
     ensures { result.now ≡ own_options form }
 {
     match form {
-        Form::Define(DefineObject::File) => &[
+        LineForm::Define(DefineObject::File) => &[
             File,
             KeyLength,
             KeyOffset,
@@ -367,13 +367,13 @@ fn own_options(form: Form) -> &'static [OptionWord]
             Recoverable,
             Unrecoverable,
         ],
-        Form::Define(DefineObject::TsPrefix) => &[TsPrefix],
-        Form::Define(DefineObject::TdQueue) => &[TdQueue, Logical, Physical, Unrecovered],
-        Form::Load(LoadObject::File) => &[File, From],
-        Form::Load(LoadObject::TdQueue) => &[TdQueue, From],
-        Form::Attach => &[Transid, Dtimout],
-        Form::Clock | Form::Shutdown => &[],
-        Form::Command(command) => options_of_command(command),
+        LineForm::Define(DefineObject::TsPrefix) => &[TsPrefix],
+        LineForm::Define(DefineObject::TdQueue) => &[TdQueue, Logical, Physical, Unrecovered],
+        LineForm::Load(LoadObject::File) => &[File, From],
+        LineForm::Load(LoadObject::TdQueue) => &[TdQueue, From],
+        LineForm::Attach => &[Transid, Dtimout],
+        LineForm::Clock | LineForm::Shutdown => &[],
+        LineForm::Command(command) => options_of_command(command),
     }
 }
 
@@ -416,32 +416,34 @@ fn is_among(options: &[OptionWord], option: OptionWord) -> bool
 }
 
 // Returns what an option takes in most lines that have it.
-fn usual_kind(option: OptionWord) -> Kind
+fn usual_kind(option: OptionWord) -> ValueKind
     ensures { result ≡ usual_kind option }
 {
     match option {
-        File | TsPrefix | Queue => Kind::Name8,
-        TdQueue | Transid | AbCode => Kind::Name4,
-        KeyLength | KeyOffset | RecordSize | Dtimout | Length | Item => Kind::Number,
-        From | Ridfld | Resource => Kind::Text,
-        Into | NumRec | Resp | Resp2 => Kind::Area,
-        EndExec => Kind::Last,
-        _ => Kind::Flag,
+        File | TsPrefix | Queue => ValueKind::Name8,
+        TdQueue | Transid | AbCode => ValueKind::Name4,
+        KeyLength | KeyOffset | RecordSize | Dtimout | Length | Item => ValueKind::Number,
+        From | Ridfld | Resource => ValueKind::Text,
+        Into | NumRec | Resp | Resp2 => ValueKind::Area,
+        EndExec => ValueKind::Last,
+        _ => ValueKind::Flag,
     }
 }
 
 // Returns what an option takes in a line that has it.
 #[inline(always)]
-fn kind_at(form: Form, option: OptionWord) -> Kind
+fn kind_at(form: LineForm, option: OptionWord) -> ValueKind
     ensures { result ≡ kind_at form option }
 {
     match (form, option) {
-        (Form::Command(CommandWord::ReadNext | CommandWord::ReadPrev), Ridfld)
-        | (Form::Command(CommandWord::WriteqTs), Item) => Kind::Area,
+        (LineForm::Command(CommandWord::ReadNext | CommandWord::ReadPrev), Ridfld)
+        | (LineForm::Command(CommandWord::WriteqTs), Item) => ValueKind::Area,
         (
-            Form::Command(CommandWord::WriteqTd | CommandWord::ReadqTd | CommandWord::DeleteqTd),
+            LineForm::Command(
+                CommandWord::WriteqTd | CommandWord::ReadqTd | CommandWord::DeleteqTd,
+            ),
             Queue,
-        ) => Kind::Name4,
+        ) => ValueKind::Name4,
         _ => usual_kind(option),
     }
 }
@@ -449,11 +451,11 @@ fn kind_at(form: Form, option: OptionWord) -> Kind
 /// Returns what an option of a line takes, or `None` if the line has no such option. Joins the
 /// tables `own_options` and `kind_at`, and the options of every command.
 #[inline(always)]
-pub fn kind_of(form: Form, option: OptionWord) -> Option<Kind>
+pub fn kind_of(form: LineForm, option: OptionWord) -> Option<ValueKind>
     ensures { result ≡ kind_in form option }
 {
     let shared: &[OptionWord] = match form {
-        Form::Command(_) => &[Resp, Resp2, NoHandle, EndExec],
+        LineForm::Command(_) => &[Resp, Resp2, NoHandle, EndExec],
         _ => &[],
     };
     if is_among(own_options(form), option) || is_among(shared, option) {

@@ -3,12 +3,12 @@ use Rattle.std.proofs.Common.{◌≡◌, ◌≢◌, Bool, true, false, ◌||◌,
 use Rattle.std.specs.Prelude.{Result, Ok, Err, if◌then◌else◌, is_some, option_map, IfSome}
 use Rattle.std.specs.List.{list_any, flat_map}
 use Rattle.std.proofs.lemmas.List.Folds.{list_any-append}
-use Rattle.cics_script.specs.declared.words.Form.{Form}
+use Rattle.cics_script.specs.declared.words.LineForm.{LineForm}
 use Rattle.cics_script.specs.declared.words.OptionWord.{OptionWord}
 use Rattle.cics_script.specs.declared.words.OptionWord.TheVariants.{File, TsPrefix, TdQueue, KeyLength, KeyOffset, RecordSize, Recoverable, Unrecoverable, Logical, Physical, Unrecovered, From, Transid, Dtimout, Ridfld, Length, Into, Generic, Equal}
 use Rattle.cics_script.specs.declared.words.OptionWord.TheVariants.{Gteq, Update, NumRec, Queue, Item, Next, Rewrite, Main, Auxiliary, Resource, NoSuspend, Rollback, AbCode, Cancel, NoDump, Resp, Resp2, NoHandle, EndExec}
-use Rattle.cics_script.specs.declared.words.Kind.{Kind}
-use Rattle.cics_script.specs.declared.words.Kind.TheVariants.{Flag, Text, Name8, Name4, Number, Area, Last}
+use Rattle.cics_script.specs.declared.words.ValueKind.{ValueKind}
+use Rattle.cics_script.specs.declared.words.ValueKind.TheVariants.{Flag, Text, Name8, Name4, Number, Area, Last}
 use Rattle.cics_script.specs.Faults.{◌>>=◌}
 use Rattle.cics_script.specs.Tokens.{Token, word, number, literal, opening, closing, broken}
 use Rattle.cics_script.specs.Words.{lookup, option_word, option_words, commands, queue_words, same, excludes, kind_in}
@@ -88,16 +88,16 @@ apart_later (first ∷ found) entry later apart =
     let rest = apart_later found entry later apart.1 in
     (or_false _ _ here.0 rest.0, or_false _ _ here.1 rest.1)
 
-allowed-apart : (found : List Entry) (option : OptionWord) (kind : Kind)
+allowed-apart : (found : List Entry) (option : OptionWord) (kind : ValueKind)
     → list_any (λ earlier. same earlier.0 option) found ≡ false → list_any (λ earlier. excludes earlier.0 option) found ≡ false
     → Ok kind ≡ allowed found option (Some kind)
 allowed-apart found option kind new free = rw new (rw free refl)
 
 -- the place behind a value
-abbrev behind_value : OptionWord → Kind → List Entry → Content → Place × List Entry
+abbrev behind_value : OptionWord → ValueKind → List Entry → Content → Place × List Entry
 behind_value option kind found content = (at_closing option kind content, found)
 
-content_in-broken : (kind : Kind) (fault : LineFault) → content_in kind (broken fault) ≡ Err fault
+content_in-broken : (kind : ValueKind) (fault : LineFault) → content_in kind (broken fault) ≡ Err fault
 content_in-broken Flag fault = refl
 content_in-broken Text fault = refl
 content_in-broken Name8 fault = refl
@@ -107,7 +107,7 @@ content_in-broken Area fault = refl
 content_in-broken Last fault = refl
 
 -- a token where a value has to stand
-moves-value : (form : Form) (option : OptionWord) (kind : Kind) (found : List Entry) (value : Token)
+moves-value : (form : LineForm) (option : OptionWord) (kind : ValueKind) (found : List Entry) (value : Token)
     → moves form (at_value option kind) found value ≡ content_in kind value >>= λ content. Ok (behind_value option kind found content)
 moves-value form option kind found (word w) = refl
 moves-value form option kind found (number n) = refl
@@ -117,7 +117,7 @@ moves-value form option kind found closing = refl
 moves-value form option kind found (broken fault) = ap (λ r. r >>= λ content. Ok (behind_value option kind found content)) (sym (content_in-broken kind fault))
 
 -- an option that stands alone is whole behind its word
-entered-bare : (option : OptionWord) (found : List Entry) (kind : Kind) → is_bare kind ≡ true → entered option found kind ≡ (behind_option kind, found ++ (option, nothing) ∷ [])
+entered-bare : (option : OptionWord) (found : List Entry) (kind : ValueKind) → is_bare kind ≡ true → entered option found kind ≡ (behind_option kind, found ++ (option, nothing) ∷ [])
 entered-bare option found Flag bare = refl
 entered-bare option found Last bare = refl
 entered-bare option found Text bare = let wrong : false ≡ true = bare in cc
@@ -127,7 +127,7 @@ entered-bare option found Number bare = let wrong : false ≡ true = bare in cc
 entered-bare option found Area bare = let wrong : false ≡ true = bare in cc
 
 -- a kind that has values doesn't stand alone
-no_value : (kind : Kind) (token : Token) (content : Content) → is_bare kind ≡ true → content_in kind token ≡ Ok content → ⊥
+no_value : (kind : ValueKind) (token : Token) (content : Content) → is_bare kind ≡ true → content_in kind token ≡ Ok content → ⊥
 no_value Flag (word w) content bare e = let wrong : Err BadLiteral ≡ Ok content = e in cc
 no_value Flag (number n) content bare e = let wrong : Err BadLiteral ≡ Ok content = e in cc
 no_value Flag (literal notation said) content bare e = let wrong : Err BadLiteral ≡ Ok content = e in cc
@@ -146,10 +146,10 @@ no_value Name4 token content bare e = let wrong : false ≡ true = bare in cc
 no_value Number token content bare e = let wrong : false ≡ true = bare in cc
 no_value Area token content bare e = let wrong : false ≡ true = bare in cc
 
-valued : (kind bare : Kind) (token : Token) (content : Content) → is_bare bare ≡ true → content_in kind token ≡ Ok content → kind ≢ bare
+valued : (kind bare : ValueKind) (token : Token) (content : Content) → is_bare bare ≡ true → content_in kind token ≡ Ok content → kind ≢ bare
 valued kind bare token content stands value = λ is. no_value bare token content stands (subst (λ k. content_in k token ≡ Ok content) is value)
 
-module _ (form : Form) (last : Option Kind) (found : List Entry) (option : OptionWord) (rest : List Token) (kind : Kind) (content : Content) where
+module _ (form : LineForm) (last : Option ValueKind) (found : List Entry) (option : OptionWord) (rest : List Token) (kind : ValueKind) (content : Content) where
   -- an option as it is written, and the place behind it
   reads-written : (value : Option Token) → kind_in form option ≡ Some kind → IsValue kind value content
       → list_any (λ earlier. same earlier.0 option) found ≡ false → list_any (λ earlier. excludes earlier.0 option) found ≡ false
@@ -167,10 +167,10 @@ module _ (form : Form) (last : Option Kind) (found : List Entry) (option : Optio
       ∙ ap (λ r. (r >>= λ c. Ok (behind_value option kind found c)) >>= λ s. reads form s.0 s.1 (closing ∷ rest)) holds
       ∙ reads-further form kind (found ++ (option, content) ∷ []) rest (valued kind Last value content refl holds)
 
-module _ (form : Form) (found : List Entry) (entry : Entry) where
+module _ (form : LineForm) (found : List Entry) (entry : Entry) where
   -- behind END-EXEC stands nothing, and behind any other option what can be read behind it
-  reads-others : (kind : Kind) (others : List Written) (entries : List Entry) → MayPrecede kind others → AreOptions form others entries
-      → ((last : Option Kind) → reads form (at_option last) (found ++ entry ∷ []) (flat_map option_tokens others) ≡ Ok (found ++ entry ∷ entries))
+  reads-others : (kind : ValueKind) (others : List Written) (entries : List Entry) → MayPrecede kind others → AreOptions form others entries
+      → ((last : Option ValueKind) → reads form (at_option last) (found ++ entry ∷ []) (flat_map option_tokens others) ≡ Ok (found ++ entry ∷ entries))
       → reads form (behind_option kind) (found ++ entry ∷ []) (flat_map option_tokens others) ≡ Ok (found ++ entry ∷ entries)
   reads-others Last [] [] may are others_read = refl
   reads-others Last [] (later ∷ entries) may are others_read = absurd are
@@ -182,10 +182,10 @@ module _ (form : Form) (found : List Entry) (entry : Entry) where
   reads-others Number others entries may are others_read = others_read (Some Number)
   reads-others Area others entries may are others_read = others_read (Some Area)
 
-  reads-first : (last : Option Kind) (one : Written) (others : List Written) (entries : List Entry) (kind : Option Kind) → kind_in form entry.0 ≡ kind
+  reads-first : (last : Option ValueKind) (one : Written) (others : List Written) (entries : List Entry) (kind : Option ValueKind) → kind_in form entry.0 ≡ kind
       → one.option ≡ entry.0 → IsWritten kind one.value entry.1 others → AreOptions form others entries
       → list_any (λ earlier. same earlier.0 entry.0) found ≡ false → list_any (λ earlier. excludes earlier.0 entry.0) found ≡ false
-      → ((last : Option Kind) → reads form (at_option last) (found ++ entry ∷ []) (flat_map option_tokens others) ≡ Ok (found ++ entry ∷ entries))
+      → ((last : Option ValueKind) → reads form (at_option last) (found ++ entry ∷ []) (flat_map option_tokens others) ≡ Ok (found ++ entry ∷ entries))
       → reads form (at_option last) found (flat_map option_tokens (one ∷ others)) ≡ Ok (found ++ entry ∷ entries)
   reads-first last one others entries None is here written are new free others_read = absurd written
   reads-first last one others entries (Some kind) is here written are new free others_read =
@@ -194,7 +194,7 @@ module _ (form : Form) (found : List Entry) (entry : Entry) where
       ∙ reads-others kind others entries written.1 are others_read
 
 -- options as they are written, behind those that were read
-reads-options : (form : Form) (written : List Written) (last : Option Kind) (found entries : List Entry)
+reads-options : (form : LineForm) (written : List Written) (last : Option ValueKind) (found entries : List Entry)
     → AreOptions form written entries → AreApart (found ++ entries)
     → reads form (at_option last) found (flat_map option_tokens written) ≡ Ok (found ++ entries)
 reads-options form [] last found [] are apart = ap Ok (sym (append-nil found))
@@ -207,7 +207,7 @@ reads-options form (one ∷ others) last found (entry ∷ entries) are apart =
     (λ last. reads-options form others last (found ++ entry ∷ []) entries are.2 (subst AreApart (sym behind) apart) ∙ ap Ok behind)
 
 -- the options of a line, as they are written
-pub options-written : (form : Form) (written : List Written) (entries : List Entry)
+pub options-written : (form : LineForm) (written : List Written) (entries : List Entry)
     → AreOptions form written entries → AreApart entries → options form (flat_map option_tokens written) ≡ Ok entries
 options-written form written entries are apart = reads-options form written None [] entries are apart
 
@@ -493,7 +493,7 @@ pub command-written : (label : List ℕ) (asked : Command) (first : CommandWord)
 command-written label asked first left_out written entries spells =
     ap (issued_of label (queue_tokens first left_out ++ flat_map option_tokens written)) (sym (lookup-command_word first))
     ∙ ap (issued label) (command_at-written first left_out written)
-    ∙ ap (λ read. read >>= made_of label first) (options-written (Form.Command first) written entries spells.are_options spells.are_apart)
+    ∙ ap (λ read. read >>= made_of label first) (options-written (LineForm.Command first) written entries spells.are_options spells.are_apart)
     ∙ ap (λ made. made >>= λ made. Ok (Issue label (record { verb = made; resp = is_handled entries })))
     (given-word (word_of asked.verb) first (λ first. verb_in first entries ≡ Ok asked.verb) spells.word (verb_in-given entries spells.are_apart asked.verb spells.says.0))
     ∙ ap (λ resp. Ok (Issue label (record { verb = asked.verb; resp = resp }))) spells.says.1

@@ -11,12 +11,12 @@ use Rattle.cics_names.specs.declared.commands.Verb.{Verb}
 use Rattle.cics_names.specs.declared.commands.Verb.TheVariants as verb
 use Rattle.cics_script.specs.declared.words.CommandWord.{CommandWord}
 use Rattle.cics_script.specs.declared.words.CommandWord.TheVariants as command
-use Rattle.cics_script.specs.declared.words.Form.{Form}
-use Rattle.cics_script.specs.declared.words.Form.TheVariants as form
+use Rattle.cics_script.specs.declared.words.LineForm.{LineForm}
+use Rattle.cics_script.specs.declared.words.LineForm.TheVariants as form
 use Rattle.cics_script.specs.declared.words.OptionWord.{OptionWord}
 use Rattle.cics_script.specs.declared.words.OptionWord.TheVariants.{KeyLength, Length, Generic, Equal, Gteq, Update, Item, NoSuspend, AbCode, Resp, NoHandle}
-use Rattle.cics_script.specs.declared.words.Kind.{Kind}
-use Rattle.cics_script.specs.declared.words.Kind.TheVariants.{Flag, Text, Name8, Name4, Number, Area}
+use Rattle.cics_script.specs.declared.words.ValueKind.{ValueKind}
+use Rattle.cics_script.specs.declared.words.ValueKind.TheVariants.{Flag, Text, Name8, Name4, Number, Area}
 use Rattle.cics_script.specs.Words.{same, excludes, kind_in}
 use Rattle.cics_script.specs.Options.{Content, text, name8, name4, amount, nothing, content_in, Entry}
 use Rattle.cics_script.specs.Values.{has}
@@ -173,7 +173,7 @@ literal-writable bytes can =
     ]
 
 -- the kind of the options that give this
-abbrev kind_giving : Content → Kind
+abbrev kind_giving : Content → ValueKind
 kind_giving (text bytes) = Text
 kind_giving (name8 name) = Name8
 kind_giving (name4 name) = Name4
@@ -181,19 +181,19 @@ kind_giving (amount n) = Number
 kind_giving nothing = Flag
 
 -- what an option takes is of a kind that gives this; a number is given by an area too
-abbrev IsKind : Option Kind → Content → Type 0
+abbrev IsKind : Option ValueKind → Content → Type 0
 IsKind kind (amount n) = (kind ≡ Some Number) ⊎ (kind ≡ Some Area)
 IsKind kind content = kind ≡ Some (kind_giving content)
 
 -- what an option gives, as it is written where a line takes this
-record Spelled (kind : Option Kind) (content : Content) : Type 0 where
+record Spelled (kind : Option ValueKind) (content : Content) : Type 0 where
   is_written : (others : List Written) → IsWritten kind (token_of content) content others
   is_writable : IfSome (token_of content) IsWritable
 
-of_kind : (content : Content) (kind found : Option Kind) → found ≡ kind → Spelled kind content → Spelled found content
+of_kind : (content : Content) (kind found : Option ValueKind) → found ≡ kind → Spelled kind content → Spelled found content
 of_kind content kind found is spelled = subst (λ kind. Spelled kind content) (sym is) spelled
 
-spelled-content : (kind : Option Kind) (content : Content) → IsKind kind content → CanBeGiven content → Spelled kind content
+spelled-content : (kind : Option ValueKind) (content : Content) → IsKind kind content → CanBeGiven content → Spelled kind content
 spelled-content kind (text bytes) is can = of_kind (text bytes) (Some Text) kind is (record { is_written = λ others. (literal-back bytes, tt); is_writable = literal-writable bytes can })
 spelled-content kind (name8 name) is can =
     let back = name-back 8 name can in
@@ -206,12 +206,12 @@ spelled-content kind (amount n) (inr is) can = of_kind (amount n) (Some Area) ki
 spelled-content kind nothing is can = of_kind nothing (Some Flag) kind is (record { is_written = λ others. ((refl, refl), tt); is_writable = tt })
 
 -- options of which each that gives something is of the kind that gives it
-abbrev AreOfKind : Form → Asked → Type 0
+abbrev AreOfKind : LineForm → Asked → Type 0
 AreOfKind line [] = Unit {0}
 AreOfKind line (row ∷ rows) = IfSome row.1 (IsKind (kind_in line row.0)) × AreOfKind line rows
 
 -- options as they are written give what they are to give
-all-spelled : (line : Form) (rows : Asked) → AreOfKind line rows → AllCanBeGiven rows
+all-spelled : (line : LineForm) (rows : Asked) → AreOfKind line rows → AllCanBeGiven rows
     → AreOptions line (options_written rows) (present rows) × AreWritten (options_written rows)
 all-spelled line [] of_kind can = (tt, tt)
 all-spelled line ((option, None) ∷ rows) of_kind can = all-spelled line rows of_kind.1 can.1

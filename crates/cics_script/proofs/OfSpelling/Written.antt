@@ -7,7 +7,7 @@ use Rattle.cics_names.specs.declared.commands.Command.{Command}
 use Rattle.cics_script.specs.declared.faults.LineFault.{LineFault}
 use Rattle.cics_script.specs.declared.faults.LineFault.TheVariants.{TooLong, NotAscii, UnknownWord}
 use Rattle.cics_script.specs.declared.lines.Line.TheVariants.{Blank, Issue}
-use Rattle.cics_script.specs.declared.words.Start.{Start}
+use Rattle.cics_script.specs.declared.words.FirstWord.{FirstWord}
 use Rattle.cics_script.specs.declared.words.CommandWord.{CommandWord}
 use Rattle.cics_script.specs.declared.words.CommandWord.TheVariants as command
 use Rattle.cics_script.specs.declared.words.OptionWord.{OptionWord}
@@ -97,7 +97,7 @@ writable-options (option ∷ options) are =
     (is_word-option option.option, writable-value option.value (flat_map option_tokens options) are.0 (writable-options options are.1))
 
 -- a label begins no other line
-known-label : (found : Option Start) (other : Result (List ℕ) LineFault) (padded : List ℕ)
+known-label : (found : Option FirstWord) (other : Result (List ℕ) LineFault) (padded : List ℕ)
     → (if is_some found then Err UnknownWord else other) ≡ Ok padded → found ≡ None
 known-label None other padded e = refl
 known-label (Some begins) other padded e = let wrong : Err UnknownWord ≡ Ok padded = e in cc

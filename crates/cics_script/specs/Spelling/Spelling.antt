@@ -7,13 +7,13 @@ use Rattle.cics_names.specs.declared.commands.Verb.{Verb}
 use Rattle.cics_names.specs.declared.commands.Verb.TheVariants as verb
 use Rattle.cics_script.specs.declared.words.CommandWord.{CommandWord}
 use Rattle.cics_script.specs.declared.words.CommandWord.TheVariants as command
-use Rattle.cics_script.specs.declared.words.Form.{Form}
-use Rattle.cics_script.specs.declared.words.Form.TheVariants as form
+use Rattle.cics_script.specs.declared.words.LineForm.{LineForm}
+use Rattle.cics_script.specs.declared.words.LineForm.TheVariants as form
 use Rattle.cics_script.specs.declared.words.OptionWord.{OptionWord}
 use Rattle.cics_script.specs.declared.words.OptionWord.TheVariants.{File, KeyLength, From, Ridfld, Length, Generic, Equal}
 use Rattle.cics_script.specs.declared.words.OptionWord.TheVariants.{Gteq, Update, NumRec, Queue, Item, Rewrite, Resource, NoSuspend, Rollback, AbCode}
-use Rattle.cics_script.specs.declared.words.Kind.{Kind}
-use Rattle.cics_script.specs.declared.words.Kind.TheVariants.{Flag, Last}
+use Rattle.cics_script.specs.declared.words.ValueKind.{ValueKind}
+use Rattle.cics_script.specs.declared.words.ValueKind.TheVariants.{Flag, Last}
 use Rattle.cics_script.specs.Tokens.{Token, word, opening, closing}
 use Rattle.cics_script.specs.Words.{same, excludes, kind_in, option_word}
 use Rattle.cics_script.specs.Options.{Content, text, name8, name4, amount, nothing, content_in, Entry}
@@ -61,28 +61,28 @@ abbrev pub option_tokens : Written → List Token
 option_tokens written = word (option_word written.option) ∷ value_tokens written.value
 
 -- whether an option of this kind stands alone
-abbrev pub is_bare : Kind → Bool
+abbrev pub is_bare : ValueKind → Bool
 is_bare Flag = true
 is_bare Last = true
 is_bare kind = false
 
 -- an option that stands alone gives nothing. Any other has a token that is a value of its kind
-abbrev pub IsValue : Kind → Option Token → Content → Type 0
+abbrev pub IsValue : ValueKind → Option Token → Content → Type 0
 IsValue kind None content = (is_bare kind ≡ true) × (nothing ≡ content)
 IsValue kind (Some value) content = content_in kind value ≡ Ok content
 
 -- nothing follows END-EXEC
-abbrev pub MayPrecede : Kind → List Written → Type 0
+abbrev pub MayPrecede : ValueKind → List Written → Type 0
 MayPrecede Last (other ∷ others) = ⊥
 MayPrecede kind others = Unit {0}
 
 -- the line has the option, this is its value, and it may stand before these others
-abbrev pub IsWritten : Option Kind → Option Token → Content → List Written → Type 0
+abbrev pub IsWritten : Option ValueKind → Option Token → Content → List Written → Type 0
 IsWritten None value content others = ⊥
 IsWritten (Some kind) value content others = IsValue kind value content × MayPrecede kind others
 
 -- these are options of the line as they are written, and what each gives
-abbrev pub AreOptions : Form → List Written → List Entry → Type 0
+abbrev pub AreOptions : LineForm → List Written → List Entry → Type 0
 AreOptions form [] [] = Unit {0}
 AreOptions form [] (entry ∷ entries) = ⊥
 AreOptions form (written ∷ others) [] = ⊥

@@ -1,8 +1,8 @@
 //! What stands in front of the token at which a line can't be read on.
 
 use crate::words::{
-    Form, Kind, Start, command_named, define_object, kind_of, load_object, option_named,
-    queue_command, start_of,
+    FirstWord, LineForm, ValueKind, command_named, define_object, kind_of, load_object,
+    option_named, queue_command, start_of,
 };
 use crate::{skip_blanks, whole_token};
 use cics_names::NoMemory;
@@ -114,21 +114,21 @@ impl<'a> Context<'a> {
     }
 
     /// Returns the form of the line, if the tokens before the column show it.
-    pub fn form(&self) -> Option<Form> {
+    pub fn form(&self) -> Option<LineForm> {
         if self.is_command() {
             let verb = command_named(self.at(3))?;
-            return Some(Form::Command(queue_command(verb, self.at(4)).unwrap_or(verb)));
+            return Some(LineForm::Command(queue_command(verb, self.at(4)).unwrap_or(verb)));
         }
         match start_of(self.at(0))? {
-            Start::Define => Some(Form::Define(define_object(self.at(1))?)),
-            Start::Load => Some(Form::Load(load_object(self.at(1))?)),
-            Start::Attach => Some(Form::Attach),
-            Start::Clock => Some(Form::Clock),
-            Start::Shutdown => Some(Form::Shutdown),
+            FirstWord::Define => Some(LineForm::Define(define_object(self.at(1))?)),
+            FirstWord::Load => Some(LineForm::Load(load_object(self.at(1))?)),
+            FirstWord::Attach => Some(LineForm::Attach),
+            FirstWord::Clock => Some(LineForm::Clock),
+            FirstWord::Shutdown => Some(LineForm::Shutdown),
         }
     }
     /// Returns what an option of the line takes.
-    pub fn kind_of(&self, option: &[u8]) -> Option<Kind> {
+    pub fn kind_of(&self, option: &[u8]) -> Option<ValueKind> {
         kind_of(self.form()?, option_named(option)?)
     }
 
@@ -137,7 +137,7 @@ impl<'a> Context<'a> {
         is_word(self.before(1), "(")
             && matches!(
                 self.kind_of(self.before(2)),
-                Some(Kind::Name8 | Kind::Name4)
+                Some(ValueKind::Name8 | ValueKind::Name4)
             )
     }
 }

@@ -5,7 +5,7 @@ ghost use Rattle.cics_script.specs.Words.{kind_in};
 
 use crate::advice::context::is_one;
 use crate::advice::tables::MEANT;
-use crate::words::{COMMANDS, Form, OPTIONS, OptionWord, STARTS, kind_of, option_named};
+use crate::words::{COMMANDS, LineForm, OPTIONS, OptionWord, STARTS, kind_of, option_named};
 use cics_names::NoMemory;
 use std::alloc::Global;
 use strsim::generic_damerau_levenshtein;
@@ -67,7 +67,7 @@ fn translated(word: &[u8]) -> Option<OptionWord> {
 }
 
 // Returns the options of a line, each with its words.
-fn options_of(alloc: Global, form: Form) -> Result<Vec<(&'static str, OptionWord)>, NoMemory>
+fn options_of(alloc: Global, form: LineForm) -> Result<Vec<(&'static str, OptionWord)>, NoMemory>
     ensures { IfOk result (λ rows. All (λ row. is_some (kind_in form row.1) ≡ true) rows.items) }
 {
     let mut rows = Vec::new(alloc);
@@ -80,7 +80,11 @@ fn options_of(alloc: Global, form: Form) -> Result<Vec<(&'static str, OptionWord
 }
 
 /// Returns the option of a line that a word means.
-pub fn meant_option(alloc: Global, form: Form, word: &[u8]) -> Result<Option<OptionWord>, NoMemory>
+pub fn meant_option(
+    alloc: Global,
+    form: LineForm,
+    word: &[u8],
+) -> Result<Option<OptionWord>, NoMemory>
     ensures { IfOk result (λ found. IfSome found (λ option.
         is_some (kind_in form option) ≡ true)) }
 {

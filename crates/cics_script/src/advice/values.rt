@@ -6,7 +6,7 @@ use crate::advice::tables::{
     DATA_NAME, ITEM_NUMBER, LENGTH_OF, NAME4_AS, NAME8_AS, NO_PARENTHESES, UNCLOSED, UNCLOSED_VALUE,
 };
 use crate::spelling::push_str;
-use crate::words::{Kind, option_named};
+use crate::words::{ValueKind, option_named};
 use crate::{skip_blanks, whole_token};
 use cics_names::NoMemory;
 
@@ -67,7 +67,7 @@ fn is_end(text: &[u8]) -> bool {
 // option.
 fn goes_on(context: &Context<'_>) -> bool {
     let kind = context.kind_of(context.before(3));
-    matches!(kind, Some(Kind::Text)) && option_named(context.token).is_none()
+    matches!(kind, Some(ValueKind::Text)) && option_named(context.token).is_none()
 }
 
 // Returns a text up to its next quote. If that and a parenthesis don't end it, it also ends before
@@ -107,9 +107,12 @@ pub fn of_value<'a>(context: &Context<'a>) -> Told<'a> {
     let option = context.before(1);
     match context.kind_of(option) {
         // The end of a line that could be read is at fault for one cause.
-        None | Some(Kind::Flag | Kind::Last) if context.token.is_empty() => (ITEM_NUMBER, &[]),
-        Some(Kind::Flag) => (NO_PARENTHESES, option),
-        Some(Kind::Area) => ("$ takes a word in parentheses+", option),
+        None | Some(ValueKind::Flag | ValueKind::Last) if context.token.is_empty() => (
+            ITEM_NUMBER,
+            &[],
+        ),
+        Some(ValueKind::Flag) => (NO_PARENTHESES, option),
+        Some(ValueKind::Area) => ("$ takes a word in parentheses+", option),
         _ => ("$ takes its value in parentheses+", option),
     }
 }
@@ -166,16 +169,18 @@ fn is_bare(token: &[u8]) -> bool {
 fn of_content(context: &Context<'_>, option: &[u8]) -> &'static str {
     let length = context.token.len();
     match (context.kind_of(option), is_bare(context.token)) {
-        (Some(Kind::Name8 | Kind::Name4), _) if is_unclosed(context.token) => UNCLOSED_VALUE,
-        (Some(Kind::Name8 | Kind::Name4), true) if context.token.contains(&b'-') => DATA_NAME,
-        (Some(Kind::Name8), true) if length <= 8 => NAME8_AS,
-        (Some(Kind::Name8), _) => "$ takes a name of 1 to 8 characters in quotes+",
-        (Some(Kind::Name4), true) if length <= 4 => NAME4_AS,
-        (Some(Kind::Name4), _) => "$ takes a name of 1 to 4 characters in quotes+",
-        (Some(Kind::Text), false) => "$ takes a literal in quotes+",
-        (Some(Kind::Number), _) if is_word(context.token, "LENGTH") => LENGTH_OF,
-        (Some(Kind::Text | Kind::Number), true) => DATA_NAME,
-        (Some(Kind::Number), false) => "$ takes a number without quotes+",
+        (Some(ValueKind::Name8 | ValueKind::Name4), _) if is_unclosed(context.token) =>
+            UNCLOSED_VALUE,
+        (Some(ValueKind::Name8 | ValueKind::Name4), true) if context.token.contains(&b'-') =>
+            DATA_NAME,
+        (Some(ValueKind::Name8), true) if length <= 8 => NAME8_AS,
+        (Some(ValueKind::Name8), _) => "$ takes a name of 1 to 8 characters in quotes+",
+        (Some(ValueKind::Name4), true) if length <= 4 => NAME4_AS,
+        (Some(ValueKind::Name4), _) => "$ takes a name of 1 to 4 characters in quotes+",
+        (Some(ValueKind::Text), false) => "$ takes a literal in quotes+",
+        (Some(ValueKind::Number), _) if is_word(context.token, "LENGTH") => LENGTH_OF,
+        (Some(ValueKind::Text | ValueKind::Number), true) => DATA_NAME,
+        (Some(ValueKind::Number), false) => "$ takes a number without quotes+",
         _ => "$ takes a word in parentheses+",
     }
 }

@@ -3,8 +3,8 @@ use Rattle.std.specs.Prelude.{Result, Ok, Err}
 use Rattle.std.specs.Borrow.{Bor}
 use Rattle.cics_script.specs.declared.faults.LineFault.{LineFault}
 use Rattle.cics_script.specs.declared.words.OptionWord.{OptionWord}
-use Rattle.cics_script.specs.declared.words.Kind.{Kind}
-use Rattle.cics_script.specs.declared.words.Kind.TheVariants.{Flag, Last}
+use Rattle.cics_script.specs.declared.words.ValueKind.{ValueKind}
+use Rattle.cics_script.specs.declared.words.ValueKind.TheVariants.{Flag, Last}
 use Rattle.cics_script.specs.Tokens.{tokens}
 use Rattle.cics_script.specs.Options.{Entry, reads}
 use Rattle.cics_script.specs.Views.{HasValue, Enters}
@@ -12,7 +12,7 @@ use Rattle.cics_script.proofs.OptionSteps.{refuses_behind, entered-value, reads-
 use Rattle.cics_script.proofs.options.read_option.Goals as goal
 
 -- what reading a value gave is what reading its option gave
-behind_word : (kind : Kind) (option : OptionWord) (before after : List Entry) (bytes : List ℕ) (result : Result (Bor (List ℕ)) LineFault) → kind ≢ Flag → kind ≢ Last
+behind_word : (kind : ValueKind) (option : OptionWord) (before after : List Entry) (bytes : List ℕ) (result : Result (Bor (List ℕ)) LineFault) → kind ≢ Flag → kind ≢ Last
     → HasValue kind option before after bytes result → Enters kind option before after bytes result
 behind_word kind option before after bytes (Ok rest) valued more value = λ form. (
   ap (λ s. reads form s.0 s.1 (tokens bytes)) (entered-value option before kind valued more) ∙ (value form).0 ∙ reads-further form kind _ _ more,

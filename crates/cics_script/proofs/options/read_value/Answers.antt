@@ -2,8 +2,8 @@ use Rattle.std.proofs.Common.{◌≡◌, ◌<◌, ◌++◌, ◌∷◌, [], ℕ, 
 use Rattle.std.specs.Prelude.{Some, Result, Ok, Err}
 use Rattle.std.specs.Borrow.{Bor}
 use Rattle.cics_script.specs.declared.faults.LineFault.{LineFault}
-use Rattle.cics_script.specs.declared.words.Form.{Form}
-use Rattle.cics_script.specs.declared.words.Kind.{Kind}
+use Rattle.cics_script.specs.declared.words.LineForm.{LineForm}
+use Rattle.cics_script.specs.declared.words.ValueKind.{ValueKind}
 use Rattle.cics_script.specs.declared.words.OptionWord.{OptionWord}
 use Rattle.cics_script.specs.Tokens.{tokens}
 use Rattle.cics_script.specs.Options.{Content, Entry, reads, at_option, at_opening, at_closing}
@@ -12,7 +12,7 @@ use Rattle.cics_script.proofs.OptionSteps.{refuses_behind}
 use Rattle.cics_script.proofs.options.read_value.Goals as goal
 
 -- behind the content stands a closing parenthesis, or what has the fault of a wrong one
-closed : (f : Form) (kind : Kind) (option : OptionWord) (before after : List Entry) (bytes behind : List ℕ) (c : Content) (result : Result (Bor (List ℕ)) LineFault)
+closed : (f : LineForm) (kind : ValueKind) (option : OptionWord) (before after : List Entry) (bytes behind : List ℕ) (c : Content) (result : Result (Bor (List ℕ)) LineFault)
     → after ≡ before ++ (option, c) ∷ [] → reads f (at_opening option kind) before (tokens bytes) ≡ reads f (at_closing option kind c) before (tokens behind)
     → length behind < length bytes
     → Steps f before (at_closing option kind c) behind (λ rest. (at_option (Some kind), before ++ (option, c) ∷ [], rest.now)) result
