@@ -8,6 +8,6 @@ pub mod Scripts
 pub mod Playing
 pub mod Printing
 pub mod Steps
-pub mod Ending
+pub mod AtEnd
 pub mod Reading
 pub mod RunCounts

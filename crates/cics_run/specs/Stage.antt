@@ -3,4 +3,4 @@ pub mod Seen
 pub mod Journal
 pub mod Amiss
 pub mod Printed
-pub mod Notes
+pub mod Notices

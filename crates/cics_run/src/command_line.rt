@@ -97,7 +97,7 @@ END";
 const STATES: u64 = 30_000;
 
 /// What the help says of that.
-const LIMIT: &str = "Follow about N states (30000)";
+const STATES_HELP: &str = "Follow about N states (30000)";
 
 /// The options of a run, and those that go with none of them: the pictures and the check. The first
 /// two go with orders too.
@@ -262,7 +262,7 @@ fn with_orders<'a>(
     let command = with(runs, apart_from_runs(flag(alloc, "orders", orders)));
     let told = orders_flag(flag(alloc, "told", told));
     let command = with(command, wanted_by_reads(told));
-    let command = with(command, number(alloc, "limit", LIMIT));
+    let command = with(command, number(alloc, "limit", STATES_HELP));
     let ending = number(alloc, "ending", ending);
     let command = with(command, apart_from_reads(ending));
     with(command, orders_flag(flag(alloc, "progress", progress)))

@@ -10,7 +10,7 @@ pub mod told;
 pub mod whole;
 
 pub use crate::session::{
-    CHUNK, Failed, LIMIT, Options, Orders, RunFault, Session, Sink, Source, Status, Stop, Wanted,
-    exit_status, line_len, run, run_over, strict_status, write_all, write_pending,
+    CHUNK, Failed, MOST_SCRIPT_BYTES, Options, Orders, RunFault, Session, Sink, Source, Status,
+    Stop, Wanted, exit_status, line_len, run, run_over, strict_status, write_all, write_pending,
 };
 pub use command_line::{Action, Asked, CommandLine, arguments, read_arguments};

@@ -12,7 +12,9 @@ mod streams;
 mod writing;
 
 pub(crate) use running::ended;
-pub use running::{CHUNK, LIMIT, Options, Orders, RunFault, Status, Wanted, run, run_over};
+pub use running::{
+    CHUNK, MOST_SCRIPT_BYTES, Options, Orders, RunFault, Status, Wanted, run, run_over,
+};
 pub use session::{Session, line_len};
 pub use statuses::{exit_status, strict_status};
 pub use streams::{Failed, Sink, Source};

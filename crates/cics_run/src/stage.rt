@@ -5,18 +5,18 @@
 //! - `observer`: who sees each event.
 //! - `printing`, `journal`: the observer that prints, and the lines of the journal.
 //! - `amiss`: what a strict run finds amiss.
-//! - `notes`: which events are told to a person at the end of a run.
+//! - `notices`: which events are told to a person at the end of a run.
 
 pub mod amiss;
 mod draining;
 pub mod journal;
-mod notes;
+mod notices;
 mod observer;
 mod printing;
 mod stage;
 
 pub use cics_script::LineFault;
-pub use notes::{Note, Raised, Scope};
+pub use notices::{Notice, Raised, Scope};
 pub use observer::Observer;
 pub use printing::Journal;
 pub use stage::{Fault, Stage};

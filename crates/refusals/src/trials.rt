@@ -5,7 +5,9 @@ ghost use Rattle.std.specs.Prelude.{◌≡◌};
 
 use crate::calling;
 use crate::streams::{Calls, Page, Script};
-use cics_run::session::{CHUNK, LIMIT, Options, RunFault, Session, Status, Wanted, run, run_over};
+use cics_run::session::{
+    CHUNK, MOST_SCRIPT_BYTES, Options, RunFault, Session, Status, Wanted, run, run_over,
+};
 use std::io;
 use std::marker::Brand;
 use std::sync::ledger::{Blank, Ledger};
@@ -229,7 +231,7 @@ fn try_script(
 
 // Runs comments, with one byte more than a script may have.
 fn try_long_script(rt: &HostRuntime) -> io::Result<()> {
-    let mut lines = vec![in rt.alloc(); b'*'; LIMIT + 1]?;
+    let mut lines = vec![in rt.alloc(); b'*'; MOST_SCRIPT_BYTES + 1]?;
     for line in lines.chunks_mut(CHUNK) {
         if let Some(first) = line.first_mut() {
             *first = b'\n';

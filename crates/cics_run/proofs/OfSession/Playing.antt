@@ -14,7 +14,7 @@ use Rattle.cics_run.specs.Reads.Watched.{Watched}
 use Rattle.cics_run.specs.Session.Running.{Form, Played, has_fault, next, stepped, play, start, journal_of, journal, output, whole, is_faulty}
 use Rattle.cics_run.specs.Session.Printing.{IsFront}
 use Rattle.cics_run.specs.Told.Remarks.{remarked}
-use Rattle.cics_run.specs.declared.stage.notes.Scope.{Scope}
+use Rattle.cics_run.specs.declared.stage.notices.Scope.{Scope}
 use Rattle.cics_run.specs.declared.told.remarks.Remarks.{Remarks}
 
 -- what isn't so is false
@@ -155,7 +155,7 @@ pub whole-front : (form : Form) (p : Played) → IsFront (journal_of form p) (wh
 whole-front form p =
     elim (cases_Bool (has_fault p)) [
       | inl fault ↦ rw fault (front-whole (journal_of form p))
-      | inr none ↦ rw none (form.ending p.stage (p.watched form.reads), refl)
+      | inr none ↦ rw none (form.at_end p.stage (p.watched form.reads), refl)
     ]
 
 pub output-front : (form : Form) (bytes : List ℕ) → IsFront (journal form bytes) (output form bytes)

@@ -17,12 +17,12 @@ use Rattle.cics_run.specs.declared.session.writing.Stop.{Stop}
 use Rattle.cics_run.specs.declared.session.writing.Stop.TheVariants as stops
 use Rattle.cics_run.specs.declared.session.running.Status.{Status}
 use Rattle.cics_run.specs.declared.session.running.Status.TheVariants as status
-use Rattle.cics_run.specs.declared.session.running.TheConstants.{LIMIT, CHUNK}
+use Rattle.cics_run.specs.declared.session.running.TheConstants.{MOST_SCRIPT_BYTES, CHUNK}
 use Rattle.cics_run.specs.Told.Remarks.{no_remarks}
 use Rattle.cics_run.specs.Reads.Watching.{watched_in}
 use Rattle.cics_run.specs.declared.reads.watching.Watcher.{Watcher}
 use Rattle.cics_run.specs.declared.session.session.Session.{Session}
-use Rattle.cics_run.specs.declared.stage.notes.Scope.{Scope}
+use Rattle.cics_run.specs.declared.stage.notices.Scope.{Scope}
 use Rattle.cics_run.proofs.OfSession.Known.{consumes-append}
 use Rattle.cics_run.proofs.OfSession.Printing.{prints-all, prints-nothing}
 use Rattle.cics_run.proofs.OfSession.Playing.{fault-output, fault-whole, journal-start}
@@ -57,7 +57,7 @@ front-of n got rest fits = take-append-le n got rest fits
 pub chunk-length : (n : ℕ) (got rest : List ℕ) → n ≤ length got → length (take n (got ++ rest)) ≡ n
 chunk-length n got rest fits = rw (front-of n got rest fits) (length-take-le n got fits)
 
-pub within-chunk : (bytes chunk : List ℕ) (n room : ℕ) → length chunk ≡ n → n ≤ room → length bytes + room ≡ LIMIT → length (bytes ++ chunk) ≤ LIMIT
+pub within-chunk : (bytes chunk : List ℕ) (n room : ℕ) → length chunk ≡ n → n ≤ room → length bytes + room ≡ MOST_SCRIPT_BYTES → length (bytes ++ chunk) ≤ MOST_SCRIPT_BYTES
 within-chunk bytes chunk n room count fits full = rw length-append (omega (arith, count, fits, full))
 
 -- no line of these bytes is a fault, and the last read gave nothing
@@ -120,13 +120,13 @@ one_more bytes got n limit full one fits =
     (simp (length-append, length-take-le n got fits) (omega (arith, full, one)), rw (← full) (take-append_seam bytes (take n got)))
 
 -- a run that printing stopped
-pub runs-stop : (form : Form) (bytes : List ℕ) (input rest last before now : Option (List ℕ)) (stop : Stop) → Consumes input rest bytes → length bytes ≤ LIMIT → ReadsOn bytes last
+pub runs-stop : (form : Form) (bytes : List ℕ) (input rest last before now : Option (List ℕ)) (stop : Stop) → Consumes input rest bytes → length bytes ≤ MOST_SCRIPT_BYTES → ReadsOn bytes last
     → AppendsFront before now (journal form bytes) → RunsOver form input rest last before now (Err (fault_of stop))
 runs-stop form bytes input rest last before now stops.NoMemory read within on front = (bytes, read, within, on, inl front)
 runs-stop form bytes input rest last before now stops.WriteFault read within on front = (bytes, read, within, on, inl front)
 
 -- a run that came to the input's end
-pub runs-ended : (form : Form) (bytes : List ℕ) (input rest last before now : Option (List ℕ)) (s : Session) (answer : Result Status Stop) → Consumes input rest bytes → length bytes ≤ LIMIT → ReadsOn bytes last
+pub runs-ended : (form : Form) (bytes : List ℕ) (input rest last before now : Option (List ℕ)) (s : Session) (answer : Result Status Stop) → Consumes input rest bytes → length bytes ≤ MOST_SCRIPT_BYTES → ReadsOn bytes last
     → IsAtEnd rest → Finishes form bytes before now s answer → RunsOver form input rest last before now (ended answer)
 runs-ended form bytes input rest last before now s (Ok status.Done) read within on end (wrote, going, stage, told) = (bytes, read, within, on, (wrote, going, end))
 runs-ended form bytes input rest last before now s (Ok status.LineFault) read within on end (wrote, faulty, kept, told) = (bytes, read, within, on, (wrote, faulty, inr end))

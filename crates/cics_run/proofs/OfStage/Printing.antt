@@ -6,10 +6,10 @@ use Rattle.std.specs.List.{flat_map, fold}
 use Rattle.cics_dispatch.specs.Machine.Events.{Happened}
 use Rattle.cics_run.specs.Stage.Amiss.{is_amiss, any_amiss}
 use Rattle.cics_run.specs.Stage.Journal.{event_line, fault_lines, text_of}
-use Rattle.cics_run.specs.Stage.Notes.{noted, with_note, notes_of}
+use Rattle.cics_run.specs.Stage.Notices.{noted, with_notice, notices_of}
 use Rattle.cics_run.specs.Told.Remarks as remarks
 use Rattle.cics_run.specs.declared.told.remarks.Remarks.{Remarks}
-use Rattle.cics_run.specs.declared.stage.notes.Note.{Note}
+use Rattle.cics_run.specs.declared.stage.notices.Notice.{Notice}
 use Rattle.cics_run.specs.declared.stage.stage.Stage.{Stage}
 use Rattle.cics_run.specs.Stage.Printed.{Printed, journal_sight, watched_on}
 use Rattle.cics_run.specs.Stage.Seen.{after_all, after_events, after_fault, after_request, after_step}
@@ -38,10 +38,10 @@ events_amiss number p [] = sym (or-false p.is_amiss)
 events_amiss number p (h ∷ events) =
     events_amiss number (journal_sight.with_event p number h) events ∙ or-assoc p.is_amiss (is_amiss h.event) (any_amiss events)
 
-events_notes : (number : ℕ) (p : Printed) (events : List Happened)
-    → (after_events journal_sight number p events).notes ≡ fold (λ notes h. with_note notes (noted p.told.scope h.event)) p.notes events
-events_notes number p [] = refl
-events_notes number p (h ∷ events) = events_notes number (journal_sight.with_event p number h) events
+events_notices : (number : ℕ) (p : Printed) (events : List Happened)
+    → (after_events journal_sight number p events).notices ≡ fold (λ notices h. with_notice notices (noted p.told.scope h.event)) p.notices events
+events_notices number p [] = refl
+events_notices number p (h ∷ events) = events_notices number (journal_sight.with_event p number h) events
 
 events_told : (number : ℕ) (p : Printed) (events : List Happened) → (after_events journal_sight number p events).told ≡ p.told
 events_told number p [] = refl
@@ -55,9 +55,9 @@ fault_amiss : (number : ℕ) (p : Printed) (fault : Option Fault) → (after_fau
 fault_amiss number p None = refl
 fault_amiss number p (Some fault) = refl
 
-fault_notes : (number : ℕ) (p : Printed) (fault : Option Fault) → (after_fault journal_sight number p fault).notes ≡ p.notes
-fault_notes number p None = refl
-fault_notes number p (Some fault) = refl
+fault_notices : (number : ℕ) (p : Printed) (fault : Option Fault) → (after_fault journal_sight number p fault).notices ≡ p.notices
+fault_notices number p None = refl
+fault_notices number p (Some fault) = refl
 
 fault_told : (number : ℕ) (p : Printed) (fault : Option Fault) → (after_fault journal_sight number p fault).told ≡ p.told
 fault_told number p None = refl
@@ -72,9 +72,9 @@ request_amiss : (number : ℕ) (p : Printed) (asked : Option Asked) → (after_r
 request_amiss number p None = refl
 request_amiss number p (Some asked) = refl
 
-request_notes : (number : ℕ) (p : Printed) (asked : Option Asked) → (after_request journal_sight number p asked).notes ≡ p.notes
-request_notes number p None = refl
-request_notes number p (Some asked) = refl
+request_notices : (number : ℕ) (p : Printed) (asked : Option Asked) → (after_request journal_sight number p asked).notices ≡ p.notices
+request_notices number p None = refl
+request_notices number p (Some asked) = refl
 
 request_told : (number : ℕ) (p : Printed) (asked : Option Asked) → (after_request journal_sight number p asked).told ≡ p.told
 request_told number p None = refl
@@ -116,13 +116,13 @@ step_amiss number p s =
     fault_amiss number (after_events journal_sight number q s.events) s.fault ∙ events_amiss number q s.events
     ∙ ap (λ b. b || any_amiss s.events) (request_amiss number p s.asked)
 
--- what a journal notes that sees a step, with no note before it
-step_notes : (number : ℕ) (p : Printed) (s : Step) → p.notes ≡ [] → (after_step journal_sight number p s).notes ≡ notes_of p.told.scope s.events
-step_notes number p s none =
+-- what a journal notes that sees a step, with no notice before it
+step_notices : (number : ℕ) (p : Printed) (s : Step) → p.notices ≡ [] → (after_step journal_sight number p s).notices ≡ notices_of p.told.scope s.events
+step_notices number p s none =
     let q = after_request journal_sight number p s.asked in
-    fault_notes number (after_events journal_sight number q s.events) s.fault ∙ events_notes number q s.events
-    ∙ ap (λ (told : Remarks). fold (λ notes h. with_note notes (noted told.scope h.event)) q.notes s.events) (request_told number p s.asked)
-    ∙ ap (λ notes. fold (λ notes h. with_note notes (noted p.told.scope h.event)) notes s.events) (request_notes number p s.asked ∙ none)
+    fault_notices number (after_events journal_sight number q s.events) s.fault ∙ events_notices number q s.events
+    ∙ ap (λ (told : Remarks). fold (λ notices h. with_notice notices (noted told.scope h.event)) q.notices s.events) (request_told number p s.asked)
+    ∙ ap (λ notices. fold (λ notices h. with_notice notices (noted p.told.scope h.event)) notices s.events) (request_notices number p s.asked ∙ none)
 
 step_told : (number : ℕ) (p : Printed) (s : Step) → (after_step journal_sight number p s).told ≡ p.told
 step_told number p s =
@@ -141,19 +141,19 @@ step_watched number p s =
     by None = refl
     by (Some w) = ap Some (sym (fault_unwatched number (after_all watcher_sight number w s) s.fault))
 
--- the remarks on a step, if its notes are folded in
-pub noted_told : (number : ℕ) (bytes : List ℕ) (stage : Stage) (p q : Printed) (s : Step) (told : Remarks) (notes : List Note) → p.notes ≡ [] → q ≡ after_step journal_sight number p s
-    → stage ≡ s.stage → notes ≡ q.notes → told ≡ fold (remarks.with_note stage number bytes) q.told notes → told ≡ remarks.remarked p.told number bytes s
-noted_told number bytes stage p q s told notes none seen at here folded =
-    folded ∙ ap (λ (x : Stage). fold (remarks.with_note x number bytes) q.told notes) at
-    ∙ ap (λ (r : Remarks). fold (remarks.with_note s.stage number bytes) r notes) (ap (λ (x : Printed). x.told) seen ∙ step_told number p s)
-    ∙ ap (fold (remarks.with_note s.stage number bytes) p.told) (here ∙ ap (λ (x : Printed). x.notes) seen ∙ step_notes number p s none)
+-- the remarks on a step, if its notices are folded in
+pub noted_told : (number : ℕ) (bytes : List ℕ) (stage : Stage) (p q : Printed) (s : Step) (told : Remarks) (notices : List Notice) → p.notices ≡ [] → q ≡ after_step journal_sight number p s
+    → stage ≡ s.stage → notices ≡ q.notices → told ≡ fold (remarks.with_notice stage number bytes) q.told notices → told ≡ remarks.remarked p.told number bytes s
+noted_told number bytes stage p q s told notices none seen at here folded =
+    folded ∙ ap (λ (x : Stage). fold (remarks.with_notice x number bytes) q.told notices) at
+    ∙ ap (λ (r : Remarks). fold (remarks.with_notice s.stage number bytes) r notices) (ap (λ (x : Printed). x.told) seen ∙ step_told number p s)
+    ∙ ap (fold (remarks.with_notice s.stage number bytes) p.told) (here ∙ ap (λ (x : Printed). x.notices) seen ∙ step_notices number p s none)
 
 -- there are none, if nothing was noted
-pub nothing_told : (number : ℕ) (bytes : List ℕ) (p q : Printed) (s : Step) → p.notes ≡ [] → q ≡ after_step journal_sight number p s → q.notes ≡ [] → q.told ≡ remarks.remarked p.told number bytes s
+pub nothing_told : (number : ℕ) (bytes : List ℕ) (p q : Printed) (s : Step) → p.notices ≡ [] → q ≡ after_step journal_sight number p s → q.notices ≡ [] → q.told ≡ remarks.remarked p.told number bytes s
 nothing_told number bytes p q s none seen empty =
     ap (λ (x : Printed). x.told) seen ∙ step_told number p s
-    ∙ ap (fold (remarks.with_note s.stage number bytes) p.told) (sym empty ∙ ap (λ (x : Printed). x.notes) seen ∙ step_notes number p s none)
+    ∙ ap (fold (remarks.with_notice s.stage number bytes) p.told) (sym empty ∙ ap (λ (x : Printed). x.notices) seen ∙ step_notices number p s none)
 
 pub nothing_left : {A : Type 0} (xs : List A) (b : Bool) → b ≡ (length xs == 0) → b ≡ true → xs ≡ []
 nothing_left [] b e is = refl

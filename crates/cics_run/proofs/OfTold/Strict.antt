@@ -7,8 +7,8 @@ use Rattle.cics_dispatch.specs.declared.machine.events.Event.TheVariants.{Attach
 use Rattle.cics_dispatch.specs.declared.machine.outcomes.Outcome.{Outcome}
 use Rattle.cics_dispatch.specs.declared.machine.outcomes.Outcome.TheVariants.{Replied, Waiting, Abended, Ended}
 use Rattle.cics_run.specs.Stage.Amiss.{is_amiss, is_abended_amiss}
-use Rattle.cics_run.specs.Stage.Notes.{noted, noted_on, noted_resumed, noted_late, raised_by}
-use Rattle.cics_run.specs.declared.stage.notes.Scope.{Scope}
+use Rattle.cics_run.specs.Stage.Notices.{noted, noted_on, noted_resumed, noted_late, raised_by}
+use Rattle.cics_run.specs.declared.stage.notices.Scope.{Scope}
 
 abbrev strict : Bool → Scope
 strict why = record { strict = true; why = why }
@@ -33,5 +33,5 @@ amiss_noted why (ClockSet now) amiss = cc
 amiss_noted why (ShutDown units) amiss = cc
 amiss_noted why (Refused who refusal) amiss = refl
 
-pub strict_notes : (why : Bool) (e : Event) → is_amiss e ≡ true → is_some (noted (strict why) e) ≡ true
-strict_notes why e amiss = rw amiss (amiss_noted why e amiss)
+pub strict_notices : (why : Bool) (e : Event) → is_amiss e ≡ true → is_some (noted (strict why) e) ≡ true
+strict_notices why e amiss = rw amiss (amiss_noted why e amiss)

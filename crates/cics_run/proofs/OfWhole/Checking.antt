@@ -19,7 +19,7 @@ use Rattle.cics_run.specs.Session.Printing.{Prints}
 use Rattle.cics_run.specs.Stage.Stages.{Step, step, followed}
 use Rattle.cics_run.specs.Told.Remarks.{remark_lines}
 use Rattle.cics_run.specs.Told.Told.{TellsFault}
-use Rattle.cics_run.specs.Whole.Checks.{Checked, unchecked, tried, amiss_in, told_fault, next_fault, note_beside, next_note, with_found, told_note, counted, stays_sure, checked, check, count_line, status_of}
+use Rattle.cics_run.specs.Whole.Checks.{Checked, unchecked, tried, amiss_in, told_fault, next_fault, notice_beside, next_notice, with_found, told_notice, counted, stays_sure, checked, check, count_line, status_of}
 use Rattle.cics_run.specs.Whole.Checks.{TellsIf, TellsNext, TellsBehind, TellsLines, Checks, IsLike, IsTried, IsBehind}
 use Rattle.cics_run.specs.declared.told.remarks.Remarks.{Remarks}
 use Rattle.cics_run.specs.declared.session.writing.Stop.{Stop}
@@ -79,16 +79,16 @@ tried-like (Running r) t said (other, e) = subst (λ t. IsLikeStep (followed (Ru
 behind-more : (c : Checked) (old new : Checker) (bytes : List ℕ) (found : Found) → IsBehind old c → IsTried old.stage (line bytes) new.stage found
     → new.number ≡ old.number + 1 → new.faulty ≡ counted old.faulty (told_fault old.sure found.fault)
     → new.sure ≡ stays_sure old.sure bytes (told_fault old.sure found.fault)
-    → new.remarks ≡ with_found new.stage new.number bytes old.remarks (note_beside old.sure (told_fault old.sure found.fault) found.note) → IsBehind new (checked c bytes)
+    → new.remarks ≡ with_found new.stage new.number bytes old.remarks (notice_beside old.sure (told_fault old.sure found.fault) found.notice) → IsBehind new (checked c bytes)
 behind-more c old new bytes found at tried-so number faulty sure remarks =
     let like = tried-like c.stage c.known (line bytes) at.like in
     let known : new.stage ≡ (tried c.known (line bytes)).stage = tried-so.stage ∙ ap (λ s. (tried s (line bytes)).stage) at.stage in
     let same : found.fault ≡ (step c.stage bytes).fault = tried-so.fault ∙ ap (λ s. (tried s (line bytes)).fault) at.stage ∙ like.0 in
-    let noted : found.note ≡ amiss_in c.known (line bytes) = tried-so.note ∙ ap (λ s. amiss_in s (line bytes)) at.stage in
+    let noted : found.notice ≡ amiss_in c.known (line bytes) = tried-so.notice ∙ ap (λ s. amiss_in s (line bytes)) at.stage in
     let told : told_fault old.sure found.fault ≡ next_fault c bytes = ap (told_fault old.sure) same ∙ ap (λ b. told_fault b (step c.stage bytes).fault) at.sure in
-    let beside : note_beside old.sure (told_fault old.sure found.fault) found.note ≡ next_note c bytes =
-    ap (note_beside old.sure (told_fault old.sure found.fault)) noted ∙ ap (λ f. note_beside old.sure f (amiss_in c.known (line bytes))) told
-    ∙ ap (λ b. note_beside b (next_fault c bytes) (amiss_in c.known (line bytes))) at.sure in
+    let beside : notice_beside old.sure (told_fault old.sure found.fault) found.notice ≡ next_notice c bytes =
+    ap (notice_beside old.sure (told_fault old.sure found.fault)) noted ∙ ap (λ f. notice_beside old.sure f (amiss_in c.known (line bytes))) told
+    ∙ ap (λ b. notice_beside b (next_fault c bytes) (amiss_in c.known (line bytes))) at.sure in
     record {
       stage = known;
       like = like.1;
@@ -96,8 +96,8 @@ behind-more c old new bytes found at tried-so number faulty sure remarks =
       faulty = faulty ∙ ap (counted old.faulty) told ∙ ap (λ n. counted n (next_fault c bytes)) at.faulty;
       sure = sure ∙ ap (stays_sure old.sure bytes) told ∙ ap (λ b. stays_sure b bytes (next_fault c bytes)) at.sure;
       remarks =
-          remarks ∙ ap (with_found new.stage new.number bytes old.remarks) beside ∙ ap (λ r. with_found new.stage new.number bytes r (next_note c bytes)) at.remarks
-          ∙ ap (λ n. with_found new.stage n bytes c.remarks (next_note c bytes)) (number ∙ ap (λ n. n + 1) at.number) ∙ ap (λ s. with_found s (c.number + 1) bytes c.remarks (next_note c bytes)) known;
+          remarks ∙ ap (with_found new.stage new.number bytes old.remarks) beside ∙ ap (λ r. with_found new.stage new.number bytes r (next_notice c bytes)) at.remarks
+          ∙ ap (λ n. with_found new.stage n bytes c.remarks (next_notice c bytes)) (number ∙ ap (λ n. n + 1) at.number) ∙ ap (λ s. with_found s (c.number + 1) bytes c.remarks (next_notice c bytes)) known;
     }
 
 -- the fault of a line is told
@@ -107,20 +107,20 @@ pub behind-told : {A E : Type 0} (c : Checked) (old new : Checker) (bytes : List
 behind-told c old new bytes found fault (Err e) at tried-so told number faulty sure remarks = tt
 behind-told c old new bytes found fault (Ok x) at tried-so told number faulty sure remarks =
     behind-more c old new bytes found at tried-so number (faulty ∙ sym (ap (counted old.faulty) told)) (sure ∙ sym (ap (stays_sure old.sure bytes) told))
-    (remarks ∙ sym (ap (λ f. with_found new.stage new.number bytes old.remarks (note_beside old.sure f found.note)) told))
+    (remarks ∙ sym (ap (λ f. with_found new.stage new.number bytes old.remarks (notice_beside old.sure f found.notice)) told))
 
 -- no fault of a line is told, and what is amiss in it is kept
 pub behind-kept : {A E : Type 0} (c : Checked) (old mid new : Checker) (bytes : List ℕ) (found : Found) (r : Result A E) → IsBehind old c
     → IsTried old.stage (line bytes) mid.stage found → told_fault old.sure found.fault ≡ None
     → mid.number ≡ old.number + 1 → mid.faulty ≡ old.faulty → mid.sure ≡ old.sure → mid.remarks ≡ old.remarks
-    → OnOk r (new ≡ record mid { remarks = with_found mid.stage mid.number bytes mid.remarks (told_note mid.sure found.note) }) → OnOk r (IsBehind new (checked c bytes))
+    → OnOk r (new ≡ record mid { remarks = with_found mid.stage mid.number bytes mid.remarks (told_notice mid.sure found.notice) }) → OnOk r (IsBehind new (checked c bytes))
 behind-kept c old mid new bytes found (Err e) at tried-so told number faulty sure remarks kept = tt
 behind-kept c old mid new bytes found (Ok x) at tried-so told number faulty sure remarks kept =
     subst (λ k. IsBehind k (checked c bytes)) (sym kept)
-    (behind-more c old (record mid { remarks = with_found mid.stage mid.number bytes mid.remarks (told_note mid.sure found.note) }) bytes found at tried-so number
+    (behind-more c old (record mid { remarks = with_found mid.stage mid.number bytes mid.remarks (told_notice mid.sure found.notice) }) bytes found at tried-so number
     (faulty ∙ sym (ap (counted old.faulty) told)) (sure ∙ sym (ap (stays_sure old.sure bytes) told))
-    (ap (λ r. with_found mid.stage mid.number bytes r (told_note mid.sure found.note)) remarks ∙ ap (λ b. with_found mid.stage mid.number bytes old.remarks (told_note b found.note)) sure
-    ∙ sym (ap (λ f. with_found mid.stage mid.number bytes old.remarks (note_beside old.sure f found.note)) told)))
+    (ap (λ r. with_found mid.stage mid.number bytes r (told_notice mid.sure found.notice)) remarks ∙ ap (λ b. with_found mid.stage mid.number bytes old.remarks (told_notice b found.notice)) sure
+    ∙ sym (ap (λ f. with_found mid.stage mid.number bytes old.remarks (notice_beside old.sure f found.notice)) told)))
 
 -- what keeps what is amiss in a line has the text and the numbers that were there
 pub kept-text : {A E : Type 0} (mid new : Checker) (remarks : Remarks) (r : Result A E) → OnOk r (new ≡ record mid { remarks = remarks }) → OnOk r (new.text.items ≡ mid.text.items)

@@ -12,7 +12,7 @@ use Rattle.cics_run.specs.Session.Printing.{AppendsFront}
 use Rattle.cics_run.specs.Session.Streams.{Tells}
 use Rattle.cics_run.specs.Told.Remarks.{no_remarks, remarked}
 use Rattle.cics_run.specs.declared.session.running.TheConstants.{CHUNK}
-use Rattle.cics_run.specs.declared.stage.notes.Scope.{Scope}
+use Rattle.cics_run.specs.declared.stage.notices.Scope.{Scope}
 use Rattle.cics_run.specs.declared.stage.stage.Fault.{Fault}
 use Rattle.cics_run.specs.declared.stage.stage.Stage.{Stage}
 use Rattle.cics_run.specs.declared.session.running.Status.{Status}
@@ -83,7 +83,7 @@ play lines = fold next start lines
 pub record Form : Type 0 where
   pub with_script : Bool
   pub reads : Bool
-  pub ending : Stage → Option Watched → List ℕ
+  pub at_end : Stage → Option Watched → List ℕ
   pub scope : Scope
 
 -- a text, and behind it what reads saw and missed, if that is wanted
@@ -102,7 +102,7 @@ are_reads_amiss (Some w) = are_amiss w
 
 -- no line of the script is printed, and of events only those are told that any run tells
 abbrev pub plain : Options → Form
-plain options = record { with_script = false; reads = false; ending = λ stage watched. with_reads (listed options stage) watched; scope = record { strict = false; why = false } }
+plain options = record { with_script = false; reads = false; at_end = λ stage watched. with_reads (listed options stage) watched; scope = record { strict = false; why = false } }
 
 -- the journal of some lines, with the script if that is printed
 abbrev pub journal_of : Form → Played → List ℕ
@@ -114,7 +114,7 @@ journal form bytes = journal_of form (play (completed bytes))
 
 -- nothing stands behind a fault
 abbrev pub whole : Form → Played → List ℕ
-whole form p = if has_fault p then journal_of form p else journal_of form p ++ form.ending p.stage (p.watched form.reads)
+whole form p = if has_fault p then journal_of form p else journal_of form p ++ form.at_end p.stage (p.watched form.reads)
 
 -- what a run over a whole script writes
 abbrev pub output : Form → List ℕ → List ℕ

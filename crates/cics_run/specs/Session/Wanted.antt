@@ -5,7 +5,7 @@ use Rattle.cics_run.specs.Stage.Stages.{region_of}
 use Rattle.cics_run.specs.Reads.Watched.{Watched}
 use Rattle.cics_run.specs.Session.Running.{Form, listed, with_reads}
 use Rattle.cics_run.specs.declared.session.running.Wanted.{Wanted}
-use Rattle.cics_run.specs.declared.stage.notes.Scope.{Scope}
+use Rattle.cics_run.specs.declared.stage.notices.Scope.{Scope}
 use Rattle.cics_run.specs.declared.stage.stage.Stage.{Stage}
 
 -- what is printed of the serial run
@@ -14,8 +14,8 @@ serial_at stage = serial_text (region_of stage).machine.units
 
 -- behind the listing and the replay stands what reads saw and missed, and behind that the serial
 -- run, each if it is asked for
-abbrev pub ending : Wanted → Stage → Option Watched → List ℕ
-ending wanted stage watched =
+abbrev pub at_end : Wanted → Stage → Option Watched → List ℕ
+at_end wanted stage watched =
     let text = with_reads (listed wanted.options stage) watched in if wanted.serial then text ++ serial_at stage else text
 
 -- which events are told
@@ -24,4 +24,4 @@ scope_of wanted = record { strict = wanted.strict; why = wanted.why }
 
 -- each line of the script is printed if that is asked for
 abbrev pub form_of : Wanted → Form
-form_of wanted = record { with_script = wanted.with_script; reads = wanted.reads; ending = ending wanted; scope = scope_of wanted }
+form_of wanted = record { with_script = wanted.with_script; reads = wanted.reads; at_end = at_end wanted; scope = scope_of wanted }

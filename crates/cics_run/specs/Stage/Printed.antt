@@ -2,21 +2,21 @@
 use Rattle.std.specs.Prelude.{ℕ, Bool, ◌||◌, Option, option_map, List, ◌++◌}
 use Rattle.cics_run.specs.Stage.Amiss.{is_amiss}
 use Rattle.cics_run.specs.Stage.Journal.{event_line, fault_line}
-use Rattle.cics_run.specs.Stage.Notes.{noted, with_note}
+use Rattle.cics_run.specs.Stage.Notices.{noted, with_notice}
 use Rattle.cics_run.specs.Stage.Seen.{Sight, after_step}
 use Rattle.cics_run.specs.Stage.Stages.{Step}
 use Rattle.cics_run.specs.Reads.Watched.{Watched, watcher_sight}
 use Rattle.cics_run.specs.Reads.Watching.{watched_in}
-use Rattle.cics_run.specs.declared.stage.notes.Note.{Note}
+use Rattle.cics_run.specs.declared.stage.notices.Notice.{Notice}
 use Rattle.cics_run.specs.declared.stage.printing.Journal.{Journal}
 use Rattle.cics_run.specs.declared.told.remarks.Remarks.{Remarks}
 
--- The text, whether an event in it is amiss, and the notes on the last line's events. Also the
+-- The text, whether an event in it is amiss, and the notices on the last line's events. Also the
 -- remarks on the lines before, and the steps of the run, if they are wanted.
 pub record Printed : Type 0 where
   pub text : List ℕ
   pub is_amiss : Bool
-  pub notes : List Note
+  pub notices : List Notice
   pub told : Remarks
   pub watched : Option Watched
 
@@ -28,7 +28,7 @@ journal_sight =
       with_event = λ p number h. record {
         text = p.text ++ event_line h.event;
         is_amiss = p.is_amiss || is_amiss h.event;
-        notes = with_note p.notes (noted p.told.scope h.event);
+        notices = with_notice p.notices (noted p.told.scope h.event);
         told = p.told;
         watched = option_map (λ w. watcher_sight.with_event w number h) p.watched;
       };
@@ -45,7 +45,7 @@ printed_in journal =
     record {
       text = journal.text.items;
       is_amiss = journal.is_amiss;
-      notes = journal.notes.items;
+      notices = journal.notices.items;
       told = journal.told;
       watched = watched_by journal;
     }

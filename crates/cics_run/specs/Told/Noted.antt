@@ -19,9 +19,9 @@ use Rattle.cics_run.specs.Told.Causes.{general_text, cause_text}
 use Rattle.cics_run.specs.Told.Instead.{instead_text, instead_in, meant_words}
 use Rattle.cics_run.specs.Told.Nearest.{nearest_label}
 use Rattle.cics_run.specs.Told.Reasons.{reason_text}
-use Rattle.cics_run.specs.declared.stage.notes.Raised.{Raised}
-use Rattle.cics_run.specs.declared.stage.notes.Note.{Note}
-use Rattle.cics_run.specs.declared.stage.notes.Note.TheVariants as notes
+use Rattle.cics_run.specs.declared.stage.notices.Raised.{Raised}
+use Rattle.cics_run.specs.declared.stage.notices.Notice.{Notice}
+use Rattle.cics_run.specs.declared.stage.notices.Notice.TheVariants as notices
 use Rattle.cics_run.specs.declared.stage.stage.Stage.{Stage}
 use Rattle.cics_run.specs.declared.stage.stage.Stage.TheVariants.{Running}
 
@@ -83,12 +83,12 @@ hint_text stage label refusal = []
 abbrev pub refused_text : Stage → Bytes → Refused → List ℕ
 refused_text stage label refusal = bare label ++ (refusal_words refusal ++ hint_text stage label refusal)
 
--- each note on a line with these bytes
-abbrev pub note_text : Stage → List ℕ → Note → List ℕ
-note_text stage bytes (notes.Issued raised) = issued_text stage (line bytes) raised
-note_text stage bytes (notes.Resumed label c) = resumed_text label c
-note_text stage bytes (notes.TimedOut label) = bare label ++ codes " was abended with AKCS, as by a time-out"
-note_text stage bytes (notes.Refused label refusal) = refused_text stage label refusal
-note_text stage bytes (notes.Meant queue) = bare queue ++ meant_words
-note_text stage bytes (notes.ClockRefused refusal) = codes "CLOCK" ++ refusal_words refusal
-note_text stage bytes (notes.ShutdownRefused refusal) = codes "SHUTDOWN" ++ refusal_words refusal
+-- each notice on a line with these bytes
+abbrev pub notice_text : Stage → List ℕ → Notice → List ℕ
+notice_text stage bytes (notices.Issued raised) = issued_text stage (line bytes) raised
+notice_text stage bytes (notices.Resumed label c) = resumed_text label c
+notice_text stage bytes (notices.TimedOut label) = bare label ++ codes " was abended with AKCS, as by a time-out"
+notice_text stage bytes (notices.Refused label refusal) = refused_text stage label refusal
+notice_text stage bytes (notices.Meant queue) = bare queue ++ meant_words
+notice_text stage bytes (notices.ClockRefused refusal) = codes "CLOCK" ++ refusal_words refusal
+notice_text stage bytes (notices.ShutdownRefused refusal) = codes "SHUTDOWN" ++ refusal_words refusal

@@ -5,15 +5,15 @@ use Rattle.std.specs.Fmt.{decimal}
 use Rattle.std.specs.List.{flat_map, fold}
 use Rattle.cics_script.specs.Advice.Places.{place_text}
 use Rattle.cics_run.specs.Stage.Journal.{line}
-use Rattle.cics_run.specs.Stage.Notes.{notes_of}
+use Rattle.cics_run.specs.Stage.Notices.{notices_of}
 use Rattle.cics_run.specs.Stage.Stages.{Step}
-use Rattle.cics_run.specs.Told.Noted.{note_text}
-use Rattle.cics_run.specs.declared.stage.notes.Note.{Note}
-use Rattle.cics_run.specs.declared.stage.notes.Scope.{Scope}
+use Rattle.cics_run.specs.Told.Noted.{notice_text}
+use Rattle.cics_run.specs.declared.stage.notices.Notice.{Notice}
+use Rattle.cics_run.specs.declared.stage.notices.Scope.{Scope}
 use Rattle.cics_run.specs.declared.stage.stage.Stage.{Stage}
 use Rattle.cics_run.specs.declared.told.remarks.Remark.{Remark}
 use Rattle.cics_run.specs.declared.told.remarks.Remarks.{Remarks}
-use Rattle.cics_run.specs.declared.told.remarks.TheConstants.{MOST}
+use Rattle.cics_run.specs.declared.told.remarks.TheConstants.{MOST_REMARKS}
 
 -- before the first line
 abbrev pub no_remarks : Scope → Remarks
@@ -26,15 +26,15 @@ counted r = record { scope = r.scope; kept = r.kept; more = if nat_lt r.more (2 
 -- the first 64 remarks are kept
 abbrev pub with_remark : Remarks → Remark → Remarks
 with_remark r remark =
-    if nat_lt (length r.kept) MOST then record { scope = r.scope; kept = r.kept ++ remark ∷ []; more = r.more } else counted r
+    if nat_lt (length r.kept) MOST_REMARKS then record { scope = r.scope; kept = r.kept ++ remark ∷ []; more = r.more } else counted r
 
--- the remark on a note of the line with this number
-abbrev pub with_note : Stage → ℕ → List ℕ → Remarks → Note → Remarks
-with_note stage number bytes r note = with_remark r (record { number = number; text = note_text stage bytes note })
+-- the remark on a notice of the line with this number
+abbrev pub with_notice : Stage → ℕ → List ℕ → Remarks → Notice → Remarks
+with_notice stage number bytes r notice = with_remark r (record { number = number; text = notice_text stage bytes notice })
 
 -- the remarks on what a line with this number led to
 abbrev pub remarked : Remarks → ℕ → List ℕ → Step → Remarks
-remarked r number bytes s = fold (with_note s.stage number bytes) r (notes_of r.scope s.events)
+remarked r number bytes s = fold (with_notice s.stage number bytes) r (notices_of r.scope s.events)
 
 -- the line of a remark
 abbrev pub remark_line : Option (Bor (List ℕ)) → Remark → List ℕ

@@ -24,7 +24,7 @@ use Rattle.cics_run.specs.Reads.Written.{findings}
 use Rattle.cics_run.specs.Told.Findings.{found_remarks}
 use Rattle.cics_run.specs.Told.Remarks.{remark_lines}
 use Rattle.cics_run.specs.Told.Waiting.{waiting_line}
-use Rattle.cics_run.specs.declared.stage.notes.Scope.{Scope}
+use Rattle.cics_run.specs.declared.stage.notices.Scope.{Scope}
 use Rattle.cics_run.specs.declared.told.told.TheConstants.{MOST_WAITING}
 
 -- the column of the first byte that is no blank

@@ -15,10 +15,10 @@ use Rattle.cics_run.specs.Session.Lines.{all_lines}
 use Rattle.cics_run.specs.Session.Running.{is_faulty}
 use Rattle.cics_run.specs.Stage.Seen.{Sight}
 use Rattle.cics_run.specs.Stage.Stages.{Step, step, initial_stage, region_of, silent, followed}
-use Rattle.cics_run.specs.Told.Remarks.{no_remarks, with_note, remark_lines}
+use Rattle.cics_run.specs.Told.Remarks.{no_remarks, with_notice, remark_lines}
 use Rattle.cics_run.specs.Told.Told.{TellsFault}
-use Rattle.cics_run.specs.Whole.Requests.{is_played, note_on}
-use Rattle.cics_run.specs.declared.stage.notes.Note.{Note}
+use Rattle.cics_run.specs.Whole.Requests.{is_played, notice_on}
+use Rattle.cics_run.specs.declared.stage.notices.Notice.{Notice}
 use Rattle.cics_run.specs.declared.told.remarks.Remarks.{Remarks}
 use Rattle.cics_run.specs.declared.session.running.Status.{Status}
 use Rattle.cics_run.specs.declared.session.running.Status.TheVariants as status
@@ -51,8 +51,8 @@ tried stage (Ok said) = if is_played said then followed stage (Ok said) else sil
 tried stage (Err fault) = followed stage (Err fault)
 
 -- what is amiss in a line, if it can be read
-abbrev pub amiss_in : Stage → Result Line LineFault → Option Note
-amiss_in stage (Ok said) = note_on stage said
+abbrev pub amiss_in : Stage → Result Line LineFault → Option Notice
+amiss_in stage (Ok said) = notice_on stage said
 amiss_in stage (Err fault) = None
 
 -- the fault that is told of a line: what a load lacks may be defined by a faulty line before it
@@ -61,26 +61,26 @@ told_fault sure (Some (faults.Definition NotThere)) = if sure then Some (faults.
 told_fault sure fault = fault
 
 -- what is told to be amiss in a line: nothing if a faulty line before it may define or attach
-abbrev pub told_note : Bool → Option Note → Option Note
-told_note sure note = if sure then note else None
+abbrev pub told_notice : Bool → Option Notice → Option Notice
+told_notice sure notice = if sure then notice else None
 
 -- the fault that is told of the next line
 abbrev pub next_fault : Checked → List ℕ → Option Fault
 next_fault c bytes = told_fault c.sure (step c.stage bytes).fault
 
 -- what is told to be amiss in a line of which no fault is told
-abbrev pub note_beside : Bool → Option Fault → Option Note → Option Note
-note_beside sure (Some fault) found = None
-note_beside sure None found = told_note sure found
+abbrev pub notice_beside : Bool → Option Fault → Option Notice → Option Notice
+notice_beside sure (Some fault) found = None
+notice_beside sure None found = told_notice sure found
 
 -- what is told to be amiss in the next line
-abbrev pub next_note : Checked → List ℕ → Option Note
-next_note c bytes = note_beside c.sure (next_fault c bytes) (amiss_in c.known (line bytes))
+abbrev pub next_notice : Checked → List ℕ → Option Notice
+next_notice c bytes = notice_beside c.sure (next_fault c bytes) (amiss_in c.known (line bytes))
 
 -- the remarks with that on a line, if there is one
-abbrev pub with_found : Stage → ℕ → List ℕ → Remarks → Option Note → Remarks
+abbrev pub with_found : Stage → ℕ → List ℕ → Remarks → Option Notice → Remarks
 with_found stage number bytes r None = r
-with_found stage number bytes r (Some note) = with_note stage number bytes r note
+with_found stage number bytes r (Some notice) = with_notice stage number bytes r notice
 
 -- one faulty line more, if the line has a fault
 abbrev pub counted : ℕ → Option Fault → ℕ
@@ -102,7 +102,7 @@ checked c bytes =
       number = c.number + 1;
       faulty = counted c.faulty (next_fault c bytes);
       sure = stays_sure c.sure bytes (next_fault c bytes);
-      remarks = with_found known (c.number + 1) bytes c.remarks (next_note c bytes);
+      remarks = with_found known (c.number + 1) bytes c.remarks (next_notice c bytes);
     }
 
 -- some lines, in their order
@@ -160,7 +160,7 @@ IsLike (Running r) stage = (other : RegionValue) × (stage ≡ Running other)
 pub record IsTried (before : Stage) (said : Result Line LineFault) (after : Stage) (found : Found) : Type 0 where
   pub stage : after ≡ (tried before said).stage
   pub fault : found.fault ≡ (tried before said).fault
-  pub note : found.note ≡ amiss_in before said
+  pub notice : found.notice ≡ amiss_in before said
 
 -- A checker stands behind some lines.
 pub record IsBehind (checker : Checker) (c : Checked) : Type 0 where

@@ -13,8 +13,8 @@ use Rattle.cics_dispatch.specs.declared.machine.reasons.Reason.{Reason}
 use Rattle.cics_script.specs.declared.lines.Line.{Line}
 use Rattle.cics_script.specs.declared.lines.Line.TheVariants.{Attach, Clock, Issue, Shutdown}
 use Rattle.cics_run.specs.Told.Instead.{meant_queue}
-use Rattle.cics_run.specs.declared.stage.notes.Note.{Note}
-use Rattle.cics_run.specs.declared.stage.notes.Note.TheVariants as notes
+use Rattle.cics_run.specs.declared.stage.notices.Notice.{Notice}
+use Rattle.cics_run.specs.declared.stage.notices.Notice.TheVariants as notices
 use Rattle.cics_run.specs.declared.stage.stage.Stage.{Stage}
 use Rattle.cics_run.specs.declared.stage.stage.Stage.TheVariants.{Opening, Running}
 
@@ -39,27 +39,27 @@ name_reason m (DeleteqTd queue) None = queue_reason m queue
 name_reason m verb None = None
 
 -- the queue of transient data whose name a command of temporary storage has
-abbrev pub meant_note : Option Bytes → Option Note
-meant_note None = None
-meant_note (Some queue) = Some (notes.Meant queue)
+abbrev pub meant_notice : Option Bytes → Option Notice
+meant_notice None = None
+meant_notice (Some queue) = Some (notices.Meant queue)
 
 -- what a run notes of a command that fails a check, or what its name means
-abbrev pub reason_or_meant : Option Reason → Option Bytes → Option Note
-reason_or_meant None meant = meant_note meant
-reason_or_meant (Some reason) meant = Some (notes.Issued (record { condition = condition_of reason; reason = Some reason }))
+abbrev pub reason_or_meant : Option Reason → Option Bytes → Option Notice
+reason_or_meant None meant = meant_notice meant
+reason_or_meant (Some reason) meant = Some (notices.Issued (record { condition = condition_of reason; reason = Some reason }))
 
 -- the same of a command in a region
-abbrev pub name_note : Machine → Verb → Option Note
-name_note m verb = reason_or_meant (name_reason m verb (file_named verb)) (meant_queue m.units.opening verb)
+abbrev pub name_notice : Machine → Verb → Option Notice
+name_notice m verb = reason_or_meant (name_reason m verb (file_named verb)) (meant_queue m.units.opening verb)
 
 -- without a region there is no command
-abbrev pub command_note : Stage → Verb → Option Note
-command_note (Opening o) verb = None
-command_note (Running r) verb = name_note r.machine verb
+abbrev pub command_notice : Stage → Verb → Option Notice
+command_notice (Opening o) verb = None
+command_notice (Running r) verb = name_notice r.machine verb
 
 -- what is amiss in a line: its label was attached before, or never was; what it names isn't defined,
 -- or is of transient data
-abbrev pub note_on : Stage → Line → Option Note
-note_on stage (Attach label transaction dtimout) = if is_attached stage label then Some (notes.Refused label DuplicateLabel) else None
-note_on stage (Issue label command) = if is_attached stage label then command_note stage command.verb else Some (notes.Refused label NoTask)
-note_on stage line = None
+abbrev pub notice_on : Stage → Line → Option Notice
+notice_on stage (Attach label transaction dtimout) = if is_attached stage label then Some (notices.Refused label DuplicateLabel) else None
+notice_on stage (Issue label command) = if is_attached stage label then command_notice stage command.verb else Some (notices.Refused label NoTask)
+notice_on stage line = None

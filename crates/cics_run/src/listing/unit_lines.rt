@@ -1,6 +1,6 @@
 //! What units of work did, as command lines of a task for each of them.
 
-ghost use Rattle.std.specs.Prelude.{◌≡◌, ◌++◌, ◌<◌, ◌&&◌, ℕ, OnOk, IfOk, length};
+ghost use Rattle.std.specs.Prelude.{◌≡◌, ◌++◌, ◌<◌, ◌&&◌, true, false, ℕ, OnOk, IfOk, length};
 ghost use Rattle.cics_history.specs.Borrowed.{as_op};
 ghost use Rattle.cics_history.specs.Store.{is_normal, is_recoverable};
 ghost use Rattle.cics_run.specs.Listing.Serial.{unit_command_line, verb_for, bytes_in};
@@ -111,6 +111,21 @@ fn delete_of(file: Name8, key: Record, generic: bool) -> Verb
     }
 }
 
+// Returns READ UPDATE of a key.
+fn read_update_of(file: Name8, key: Record) -> Verb
+    ensures { result ≡ Verb.Read file key None None false false true }
+{
+    Verb::Read {
+        file,
+        ridfld: key,
+        key_length: None,
+        length: None,
+        generic: false,
+        gteq: false,
+        update: true,
+    }
+}
+
 // Returns WRITEQ TS, with REWRITE and ITEM if the number of an item is given.
 fn ts_write_of(queue: Name8, from: Record, item: Option<u64>) -> Verb
     ensures { result ≡ Verb.WriteqTs queue from None item }
@@ -160,15 +175,7 @@ fn verb_for(alloc: Global, op: &OpRef<'_>) -> Result<Verb, NoMemory>
         },
         OpRef::Delete(file, _) => delete_of(*file, bytes, false),
         OpRef::DeleteGeneric(file, _) => delete_of(*file, bytes, true),
-        OpRef::ReadUpdate(file, _) => Verb::Read {
-            file: *file,
-            ridfld: bytes,
-            key_length: None,
-            length: None,
-            generic: false,
-            gteq: false,
-            update: true,
-        },
+        OpRef::ReadUpdate(file, _) => read_update_of(*file, bytes),
         OpRef::TsWrite(queue, _) => ts_write_of(*queue, bytes, None),
         OpRef::TsRewrite(queue, item, _) => ts_write_of(*queue, bytes, Some(*item)),
         OpRef::TsDelete(queue) => Verb::DeleteqTs { queue: *queue },

@@ -2,11 +2,9 @@
 
 ghost use Rattle.std.specs.Prelude.{◌≡◌, None, option_map};
 ghost use Rattle.cics_run.specs.Reads.Watching.{watched_in};
-ghost use Rattle.cics_run.specs.Session.Streams.{Rises, RisesAtMost, failures};
-ghost use Rattle.cics_run.specs.Session.Running.{RunsOver, plain, initially_watched, most_reads};
-ghost use Rattle.cics_run.specs.Session.Running.{read_failures, write_failures};
-ghost use Rattle.cics_run.specs.Session.Wanted.{form_of, scope_of};
-ghost use Rattle.cics_run.specs.Session.Standing.{IsNew, KeepsEnd, ended, fault_of};
+ghost use Rattle.cics_run.specs.Session.{RunsOver, Rises, RisesAtMost, failures, plain, fault_of};
+ghost use Rattle.cics_run.specs.Session.{initially_watched, most_reads, read_failures, ended};
+ghost use Rattle.cics_run.specs.Session.{write_failures, form_of, scope_of, IsNew, KeepsEnd};
 
 use crate::reads::Watcher;
 use crate::session::session::Session;
@@ -18,7 +16,7 @@ use std::io::{Read, Write};
 use thiserror::Error;
 
 /// The greatest number of bytes that a script may have.
-pub const LIMIT: usize = 16_777_216;
+pub const MOST_SCRIPT_BYTES: usize = 16_777_216;
 
 /// The greatest number of bytes that are asked for at once.
 pub const CHUNK: usize = 65_536;
@@ -45,8 +43,8 @@ pub enum RunFault {
     /// The writer failed, or took nothing, and wasn't asked again: it has the bytes that it took.
     #[error("write fault")]
     WriteFault,
-    /// The reader has more than `LIMIT` bytes. The journal of the lines that the first `LIMIT`
-    /// bytes complete is written.
+    /// The reader has more than `MOST_SCRIPT_BYTES`. The journal of the lines that the first
+    /// `MOST_SCRIPT_BYTES` bytes complete is written.
     #[error("input too long")]
     InputTooLong,
 }
@@ -153,8 +151,8 @@ pub fn run<R: Read, W: Write>(
 
 /// Runs the script that a source gives, and writes its journal and what follows it.
 ///
-/// It reads at most `LIMIT` bytes, and one more to see whether there are more. Once it has printed
-/// a fault it reads no more. A last line that lacks its LF is run at the input's end.
+/// It reads at most `MOST_SCRIPT_BYTES`, and one more to see whether there are more. Once it has
+/// printed a fault it reads no more. A last line that lacks its LF is run at the input's end.
 ///
 /// Returns how the run ended, or why it stopped: `Status` and `RunFault` say what is written then.
 /// It returns a read or a write fault only if that very call failed, and tries none again.
@@ -184,7 +182,7 @@ pub fn run_over<S: Source, K: Sink>(
     session.journal.told.scope = wanted.scope();
     session.journal.watcher = wanted.watcher(*session.journal.text.allocator());
     let mut buffer = [0u8; CHUNK];
-    let mut room = LIMIT;
+    let mut room = MOST_SCRIPT_BYTES;
     'reads: loop {
         let size = room.min(CHUNK).max(1);
         match source.read(&mut buffer[..size]) {

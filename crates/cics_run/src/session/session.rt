@@ -1,23 +1,18 @@
 //! A run between two reads.
 
 ghost use Rattle.std.specs.Prelude.{◌≡◌, true, false, [], ◌++◌, ◌+◌, ◌<◌, ◌≤◌, ◌^◌, length};
-ghost use Rattle.std.specs.Prelude.{if◌then◌else◌, is_some, option_map};
-ghost use Rattle.std.specs.Prelude.{IfOk, OnOk, OnErr};
+ghost use Rattle.std.specs.Prelude.{if◌then◌else◌, is_some, option_map, IfOk, OnOk, OnErr};
 ghost use Rattle.std.specs.List.{prefix_len, list_all};
 ghost use Rattle.std.specs.Io.BufRead.{strip_last};
-ghost use Rattle.cics_run.specs.Session.Lines.{is_in_line};
+ghost use Rattle.cics_run.specs.Session.{is_in_line, AppendsFront, Prints, stopped_writes, Rises};
+ghost use Rattle.cics_run.specs.Session.{Form, listed, with_reads, are_reads_amiss, form_of};
+ghost use Rattle.cics_run.specs.Session.{text_at_end, amiss_at, IsNew, Ran, next_text};
+ghost use Rattle.cics_run.specs.Session.{WhereverStands, Feeds, Writes, Closes, Finishes};
 ghost use Rattle.cics_run.specs.Stage.Journal.{script_line};
 ghost use Rattle.cics_run.specs.Stage.Stages.{region_of, listing_at, replay_at};
 ghost use Rattle.cics_run.specs.declared.stage.stage.Stage.TheVariants.{Running};
-ghost use Rattle.cics_run.specs.Session.Printing.{AppendsFront, Prints, stopped_writes};
-ghost use Rattle.cics_run.specs.Session.Streams.{Rises};
 ghost use Rattle.std.specs.Io.KnownBytes.{Appends};
-ghost use Rattle.cics_run.specs.Session.Running.{Form, listed, with_reads, are_reads_amiss};
-ghost use Rattle.cics_run.specs.Session.Wanted.{form_of};
-ghost use Rattle.cics_run.specs.Session.Endings.{ending_at, amiss_at};
 ghost use Rattle.cics_run.specs.Reads.Watching.{watched_in};
-ghost use Rattle.cics_run.specs.Session.Standing.{IsNew, Ran, next_text, WhereverStands};
-ghost use Rattle.cics_run.specs.Session.Standing.{Feeds, Writes, Closes, Finishes};
 
 use crate::listing::{push_listing, push_replay, push_serial};
 use crate::reads::Watcher;
@@ -52,7 +47,7 @@ pub struct Session {
 
 // What is printed at the end of a run, and the steps of the run, if those are wanted.
 #[derive(Clone, Copy)]
-struct Ending<'a> {
+struct AtEnd<'a> {
     wanted: Wanted,
     watcher: &'a Option<Watcher>,
 }
@@ -274,11 +269,11 @@ impl Session {
             Ok(true) => return Ok(Status::LineFault),
             Err(stop) => return Err(stop),
         }
-        let ending = Ending {
+        let at_end = AtEnd {
             wanted,
             watcher: &self.journal.watcher,
         };
-        match write_end(&mut self.stage, ending, &mut self.journal.text, sink) {
+        match write_end(&mut self.stage, at_end, &mut self.journal.text, sink) {
             Ok(are_amiss) => {
                 self.journal.is_amiss |= are_amiss;
                 Ok(Status::Done)
@@ -292,20 +287,20 @@ impl Session {
 // amiss that reads saw or missed.
 fn write_end<K: Sink>(
     stage: &mut Stage,
-    ending: Ending<'_>,
+    at_end: AtEnd<'_>,
     pending: &mut Vec<u8>,
     sink: &mut K,
 ) -> Result<bool, Stop>
     ensures stage { OnOk result (stage.new ≡ Running (region_of stage.old)) }
-    ensures amiss { IfOk result (λ are_amiss. are_amiss ≡ amiss_at ending.entry) }
+    ensures amiss { IfOk result (λ are_amiss. are_amiss ≡ amiss_at at_end.entry) }
     ensures ok { OnOk result (Appends (K.contents sink.old) (K.contents sink.new)
-        (pending.old.items ++ ending_at ending.entry stage.old)) }
+        (pending.old.items ++ text_at_end at_end.entry stage.old)) }
     ensures err { OnErr result
         (AppendsFront (K.contents sink.old) (K.contents sink.new)
-        (pending.old.items ++ ending_at ending.entry stage.old)) }
+        (pending.old.items ++ text_at_end at_end.entry stage.old)) }
     ensures failed { Rises (K.failed sink.old) (K.failed sink.new) (stopped_writes result) }
 {
-    match push_ending(stage, ending, pending) {
+    match push_at_end(stage, at_end, pending) {
         Ok(are_amiss) => match write_pending(pending, sink) {
             Ok(()) => Ok(are_amiss),
             Err(stop) => Err(stop),
@@ -316,14 +311,14 @@ fn write_end<K: Sink>(
 
 // Prints what is wanted at the end, and returns whether something is amiss that reads saw or
 // missed. Makes the region if no line has made it yet.
-fn push_ending(stage: &mut Stage, ending: Ending<'_>, out: &mut Vec<u8>) -> Result<bool, NoMemory>
-    ensures amiss { IfOk result (λ are_amiss. are_amiss ≡ amiss_at ending.entry) }
+fn push_at_end(stage: &mut Stage, at_end: AtEnd<'_>, out: &mut Vec<u8>) -> Result<bool, NoMemory>
+    ensures amiss { IfOk result (λ are_amiss. are_amiss ≡ amiss_at at_end.entry) }
     ensures stage { OnOk result (stage.new ≡ Running (region_of stage.old)) }
-    ensures text { OnOk result (out.new.items ≡ out.old.items ++ ending_at ending.entry stage.old) }
+    ensures text { OnOk result (out.new.items ≡ out.old.items ++ text_at_end at_end.entry stage.old) }
 {
     stage.open()?;
     match stage {
-        Stage::Running(region) => push_all_wanted(region, ending, out),
+        Stage::Running(region) => push_all_wanted(region, at_end, out),
         Stage::Opening(_) => unreachable!(),
     }
 }
@@ -371,14 +366,14 @@ fn push_watched(watcher: &Option<Watcher>, out: &mut Vec<u8>) -> Result<bool, No
 
 // Prints what is wanted of the listing of a region, the replay, the reads and the serial run.
 // Returns whether something is amiss that reads saw or missed.
-fn push_all_wanted(region: &Region, ending: Ending<'_>, out: &mut Vec<u8>) -> Result<bool, NoMemory>
+fn push_all_wanted(region: &Region, at_end: AtEnd<'_>, out: &mut Vec<u8>) -> Result<bool, NoMemory>
     ensures text { OnOk result (out.new.items
-        ≡ out.old.items ++ ending_at ending.entry (Running region.now)) }
-    ensures amiss { IfOk result (λ are_amiss. are_amiss ≡ amiss_at ending.entry) }
+        ≡ out.old.items ++ text_at_end at_end.entry (Running region.now)) }
+    ensures amiss { IfOk result (λ are_amiss. are_amiss ≡ amiss_at at_end.entry) }
 {
-    push_listed(region, ending.wanted.options, out)?;
-    let are_amiss = push_watched(ending.watcher, out)?;
-    if ending.wanted.serial {
+    push_listed(region, at_end.wanted.options, out)?;
+    let are_amiss = push_watched(at_end.watcher, out)?;
+    if at_end.wanted.serial {
         push_serial(out, region.units())?;
     }
     Ok(are_amiss)

@@ -2,8 +2,7 @@
 
 ghost use Rattle.std.specs.Prelude.{◌≡◌, [], true, OnOk, OnErr};
 ghost use Rattle.std.specs.Io.KnownBytes.{Appends};
-ghost use Rattle.cics_run.specs.Session.Printing.{AppendsFront, Prints, stopped_writes};
-ghost use Rattle.cics_run.specs.Session.Streams.{Rises, failures};
+ghost use Rattle.cics_run.specs.Session.{AppendsFront, Prints, stopped_writes, Rises, failures};
 ghost use Rattle.cics_run.specs.declared.session.writing.Stop.TheVariants as stops;
 
 use crate::session::streams::{Failed, Sink};

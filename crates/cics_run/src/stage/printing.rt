@@ -10,7 +10,7 @@ ghost use Rattle.cics_run.specs.Stage.Stages.{step, IsPlayed};
 use crate::reads::Watcher;
 use crate::stage::amiss::is_amiss;
 use crate::stage::journal::{push_event, push_fault};
-use crate::stage::notes::{Note, names_undefined, push_noted};
+use crate::stage::notices::{Notice, names_undefined, push_noted};
 use crate::stage::{Fault, Observer, Stage};
 use crate::told::{Remarks, keep_alone};
 use cics_dispatch::{Event, Region, Request};
@@ -25,7 +25,7 @@ pub struct Journal {
     /// Whether an event was amiss.
     pub is_amiss: bool,
     /// What is told of the events of the last line.
-    pub notes: Vec<Note>,
+    pub notices: Vec<Notice>,
     /// What is told of the events of the lines before.
     pub told: Remarks,
     /// The numbers of lines whose command has RESP2 alone, and whose condition is told: at most 64.
@@ -40,7 +40,7 @@ impl Journal {
         ensures { printed_in result ≡ record {
           text = [];
           is_amiss = false;
-          notes = [];
+          notices = [];
           told = no_remarks (record { strict = false; why = false });
           watched = None;
         } }
@@ -48,7 +48,7 @@ impl Journal {
         Journal {
             text: Vec::new(alloc),
             is_amiss: false,
-            notes: Vec::new(alloc),
+            notices: Vec::new(alloc),
             told: Remarks::new(alloc),
             alone: Vec::new(alloc),
             watcher: None,
@@ -75,12 +75,12 @@ impl Journal {
         ensures watched { OnOk result (watched_by self.new
             ≡ watched_on number (watched_by self.old) (step stage.old line.now)) }
     {
-        self.notes.clear();
+        self.notices.clear();
         let fault = stage.run_line(*self.text.allocator(), number, line, self)?;
-        let notes = self.notes.as_slice();
-        if !notes.is_empty() {
-            self.told.add_all(stage, number, line, notes)?;
-            keep_alone(&mut self.alone, number, line, notes)?;
+        let notices = self.notices.as_slice();
+        if !notices.is_empty() {
+            self.told.add_all(stage, number, line, notices)?;
+            keep_alone(&mut self.alone, number, line, notices)?;
         }
         Ok(fault)
     }
@@ -118,7 +118,7 @@ impl Observer for Journal {
         let is_amiss = is_amiss(event);
         self.is_amiss |= is_amiss;
         if is_amiss || self.told.scope.why || names_undefined(event) {
-            push_noted(&mut self.notes, self.told.scope, event)?;
+            push_noted(&mut self.notices, self.told.scope, event)?;
         }
         push_event(&mut self.text, event)
     }

@@ -3,9 +3,8 @@
 ghost use Rattle.std.specs.Prelude.{◌≡◌, Bool, true, is_some};
 ghost use Rattle.cics_dispatch.specs.declared.machine.events.Event.{Event as EventOf};
 ghost use Rattle.cics_run.specs.Stage.Amiss.{is_amiss as is_event_amiss};
-ghost use Rattle.cics_run.specs.Stage.Notes.{noted};
-ghost use Rattle.cics_run.specs.Session.Running.{Played};
-ghost use Rattle.cics_run.specs.Session.Standing.{HasEnd};
+ghost use Rattle.cics_run.specs.Stage.Notices.{noted};
+ghost use Rattle.cics_run.specs.Session.{Played, HasEnd};
 ghost use Rattle.cics_run.specs.Told.Amiss.{ends_amiss};
 
 use crate::session::Session;

@@ -4,7 +4,7 @@ ghost use Rattle.std.specs.Prelude.{OnOk};
 ghost use Rattle.cics_run.specs.Told.Told.{IsLonger};
 
 use crate::session::Session;
-use crate::stage::Note;
+use crate::stage::Notice;
 use crate::told::instead::meant_words;
 use cics_dispatch::Region;
 use cics_names::{Name4, Name8, NoMemory};
@@ -20,9 +20,9 @@ pub fn keep_alone(
     numbers: &mut Vec<u64>,
     number: u64,
     line: &[u8],
-    notes: &[Note],
+    notices: &[Notice],
 ) -> Result<(), NoMemory> {
-    let is_raised = matches!(notes.first(), Some(Note::Issued(_)));
+    let is_raised = matches!(notices.first(), Some(Notice::Issued(_)));
     if is_raised && numbers.len() < ENOUGH && has_resp2_alone(*numbers.allocator(), line)? {
         numbers.push(number)?;
     }

@@ -3,10 +3,10 @@
 ghost use Rattle.std.specs.Prelude.{◌≡◌, ◌++◌, Some, None, OnOk};
 ghost use Rattle.cics_run.specs.Told.Noted.{definition_in, raised_text};
 ghost use Rattle.cics_run.specs.Told.Noted.{issued_text, resumed_text, refusal_words};
-ghost use Rattle.cics_run.specs.Told.Noted.{reason_or_cause, refused_text, note_text};
+ghost use Rattle.cics_run.specs.Told.Noted.{reason_or_cause, refused_text, notice_text};
 ghost use Rattle.cics_script.specs.Lines.{line as line_of};
 
-use crate::stage::{Note, Raised, Stage};
+use crate::stage::{Notice, Raised, Stage};
 use crate::told::causes::{general_text, push_cause};
 use crate::told::instead::{meant_words, push_instead, push_instead_in};
 use crate::told::nearest::nearest_label;
@@ -142,27 +142,32 @@ fn push_refused(
 }
 
 /// Appends what is told of an event of a line. The stage is that behind the line.
-pub fn push_note(out: &mut Vec<u8>, stage: &Stage, line: &[u8], note: &Note) -> Result<(), NoMemory>
+pub fn push_notice(
+    out: &mut Vec<u8>,
+    stage: &Stage,
+    line: &[u8],
+    notice: &Notice,
+) -> Result<(), NoMemory>
     ensures { OnOk result (out.new.items
-        ≡ out.old.items ++ note_text stage.now line.now note.now) }
+        ≡ out.old.items ++ notice_text stage.now line.now notice.now) }
 {
-    match note {
-        Note::Issued(raised) => push_issued(out, stage, line, *raised),
-        Note::Resumed(label, condition) => push_resumed(out, &label.bytes(), *condition),
-        Note::TimedOut(label) => push_parts(
+    match notice {
+        Notice::Issued(raised) => push_issued(out, stage, line, *raised),
+        Notice::Resumed(label, condition) => push_resumed(out, &label.bytes(), *condition),
+        Notice::TimedOut(label) => push_parts(
             out,
             &[
                 Bare(&label.bytes()),
                 Str(" was abended with AKCS, as by a time-out"),
             ],
         ),
-        Note::Refused(label, refusal) => push_refused(out, stage, label, *refusal),
-        Note::Meant(queue) => push_parts(out, &[Bare(&queue.bytes()), Str(meant_words())]),
-        Note::ClockRefused(refusal) => push_parts(
+        Notice::Refused(label, refusal) => push_refused(out, stage, label, *refusal),
+        Notice::Meant(queue) => push_parts(out, &[Bare(&queue.bytes()), Str(meant_words())]),
+        Notice::ClockRefused(refusal) => push_parts(
             out,
             &[Str("CLOCK"), Str(refusal_words(*refusal))],
         ),
-        Note::ShutdownRefused(refusal) => push_parts(
+        Notice::ShutdownRefused(refusal) => push_parts(
             out,
             &[Str("SHUTDOWN"), Str(refusal_words(*refusal))],
         ),

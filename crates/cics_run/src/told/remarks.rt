@@ -3,13 +3,13 @@
 ghost use Rattle.std.specs.Prelude.{◌≡◌, ◌++◌, [], false, OnOk};
 ghost use Rattle.std.specs.List.{fold};
 ghost use Rattle.cics_run.specs.Told.Findings.{with_finding};
-ghost use Rattle.cics_run.specs.Told.Remarks.{counted, with_note, remark_line};
+ghost use Rattle.cics_run.specs.Told.Remarks.{counted, with_notice, remark_line};
 ghost use Rattle.cics_run.specs.Told.Remarks.{remark_lines};
 
 use crate::reads::{Finding, is_amiss};
-use crate::stage::{Note, Scope, Stage};
+use crate::stage::{Notice, Scope, Stage};
 use crate::told::findings::{line_of, push_finding};
-use crate::told::noted::push_note;
+use crate::told::noted::push_notice;
 use cics_names::{Items, NoMemory};
 use cics_script::advice::{Origin, push_place};
 use cics_script::spelling::Part::{Bytes, Number, Str};
@@ -17,7 +17,7 @@ use cics_script::spelling::push_parts;
 use std::alloc::Global;
 
 // How many remarks are kept at most.
-const MOST: usize = 64;
+const MOST_REMARKS: usize = 64;
 
 /// What is told of an event of the line with this number.
 #[derive(Drop)]
@@ -65,23 +65,29 @@ impl Remarks {
         }
     }
 
-    // Adds the remark on a note. Beyond 64 it only counts.
-    fn add(&mut self, stage: &Stage, number: u64, line: &[u8], note: &Note) -> Result<(), NoMemory>
-        ensures { OnOk result (self.new ≡ with_note stage.now number line.now self.old note.now) }
+    // Adds the remark on a notice. Beyond 64 it only counts.
+    fn add(
+        &mut self,
+        stage: &Stage,
+        number: u64,
+        line: &[u8],
+        notice: &Notice,
+    ) -> Result<(), NoMemory>
+        ensures { OnOk result (self.new ≡ with_notice stage.now number line.now self.old notice.now) }
     {
-        if self.kept.len() >= MOST {
+        if self.kept.len() >= MOST_REMARKS {
             self.count();
             return Ok(());
         }
         let mut text = Vec::new(stage.allocator());
-        push_note(&mut text, stage, line, note)?;
+        push_notice(&mut text, stage, line, notice)?;
         self.kept.push(Remark {
             number,
             text: Items::from_vec(text),
         })
     }
 
-    /// Adds a remark on each note of the line with this number. The stage is that behind the line.
+    /// Adds a remark on each notice of the line with this number. The stage is that behind the line.
     ///
     /// Errors: `NoMemory`.
     #[cold]
@@ -90,13 +96,13 @@ impl Remarks {
         stage: &Stage,
         number: u64,
         line: &[u8],
-        notes: &[Note],
+        notices: &[Notice],
     ) -> Result<(), NoMemory>
         ensures { OnOk result (self.new
-            ≡ fold (with_note stage.now number line.now) self.old notes.now) }
+            ≡ fold (with_notice stage.now number line.now) self.old notices.now) }
     {
-        for note in notes {
-            self.add(stage, number, line, note)?;
+        for notice in notices {
+            self.add(stage, number, line, notice)?;
         }
         Ok(())
     }
@@ -108,7 +114,7 @@ impl Remarks {
         if !is_amiss(found) {
             return Ok(());
         }
-        if self.kept.len() >= MOST {
+        if self.kept.len() >= MOST_REMARKS {
             self.count();
             return Ok(());
         }

@@ -3,21 +3,19 @@
 
 ghost use Rattle.std.specs.Prelude.{⊤, ◌≡◌, ◌++◌, ◌+◌, ◌<◌, ◌≤◌, ◌^◌, OnOk, IfOk, Ok};
 ghost use Rattle.std.specs.Io.KnownBytes.{Appends};
-ghost use Rattle.cics_run.specs.Session.Running.{write_failures};
-ghost use Rattle.cics_run.specs.Session.Printing.{stopped_writes};
-ghost use Rattle.cics_run.specs.Session.Streams.{Rises, failures};
+ghost use Rattle.cics_run.specs.Session.{write_failures, stopped_writes, Rises, failures};
 ghost use Rattle.cics_script.specs.Lines.{line as line_of};
 ghost use Rattle.cics_run.specs.Told.Remarks.{remark_lines};
 ghost use Rattle.cics_run.specs.Whole.Checks.{Checked, IsBehind, checked, count_line};
 ghost use Rattle.cics_run.specs.Stage.Stages.{IsPlayed};
-ghost use Rattle.cics_run.specs.Whole.Checks.{Checks, tried, IsTried, told_fault, told_note, with_found};
+ghost use Rattle.cics_run.specs.Whole.Checks.{Checks, tried, IsTried, told_fault, told_notice, with_found};
 ghost use Rattle.cics_run.specs.Whole.Checks.{status_of, TellsBehind};
 
 use crate::session::{RunFault, Sink, Status, Stop, ended, write_pending, write_printed};
-use crate::stage::{Fault, Note, Observer, Stage};
+use crate::stage::{Fault, Notice, Observer, Stage};
 use crate::told::{Remarks, push_remarks, push_told};
 use crate::whole::next_line;
-use crate::whole::requests::{is_played, note_on};
+use crate::whole::requests::{is_played, notice_on};
 use cics_dispatch::{Event, Region, Request};
 use cics_names::NoMemory;
 use cics_script::advice::Origin;
@@ -66,7 +64,7 @@ impl Observer for Nobody {
 #[derive(Clone, Copy)]
 struct Found {
     fault: Option<Fault>,
-    note: Option<Note>,
+    notice: Option<Notice>,
 }
 
 /// A check between two lines.
@@ -100,10 +98,10 @@ fn told_fault(sure: bool, fault: Option<Fault>) -> Option<Fault>
 
 // Returns what is told to be amiss in a line: nothing if a faulty line before it may define or
 // attach.
-fn told_note(sure: bool, note: Option<Note>) -> Option<Note>
-    ensures { result ≡ told_note sure note }
+fn told_notice(sure: bool, notice: Option<Notice>) -> Option<Notice>
+    ensures { result ≡ told_notice sure notice }
 {
-    if sure { note } else { None }
+    if sure { notice } else { None }
 }
 
 // Plays a line that was read, if a check does, and returns its fault.
@@ -121,9 +119,9 @@ fn play(stage: &mut Stage, said: Line) -> Result<Option<Fault>, NoMemory>
 fn try_read(stage: &mut Stage, said: Line) -> Result<Found, NoMemory>
     ensures { IfOk result (IsTried stage.old (Ok said) stage.new) }
 {
-    let note = note_on(stage, &said);
+    let notice = notice_on(stage, &said);
     let fault = play(stage, said)?;
-    Ok(Found { fault, note })
+    Ok(Found { fault, notice })
 }
 
 // Tries a line: plays it if it is a definition or an ATTACH, and returns what is found in it.
@@ -135,7 +133,7 @@ fn try_line(alloc: Global, stage: &mut Stage, line: &[u8]) -> Result<Found, NoMe
         Err(LineFault::NoMemory) => Err(NoMemory),
         Err(fault) => Ok(Found {
             fault: Some(Fault::Line(fault)),
-            note: None,
+            notice: None,
         }),
     }
 }
@@ -172,7 +170,7 @@ impl Checker {
         self.number += 1;
         let found = try_line(self.alloc, &mut self.stage, line)?;
         let Some(fault) = told_fault(self.sure, found.fault) else {
-            return self.keep(line, found.note);
+            return self.keep(line, found.notice);
         };
         self.faulty += 1;
         self.sure &= adds_nothing(line);
@@ -184,16 +182,16 @@ impl Checker {
     }
 
     // Keeps what is amiss in the line, if no faulty line before it may mend that.
-    fn keep(&mut self, line: &[u8], note: Option<Note>) -> Result<(), NoMemory>
+    fn keep(&mut self, line: &[u8], notice: Option<Notice>) -> Result<(), NoMemory>
         ensures { OnOk result (self.new ≡ record self.old {
           remarks = with_found self.old.stage self.old.number line.now self.old.remarks
-              (told_note self.old.sure note);
+              (told_notice self.old.sure notice);
         }) }
     {
-        match told_note(self.sure, note) {
-            Some(note) => {
+        match told_notice(self.sure, notice) {
+            Some(notice) => {
                 self.remarks
-                    .add_all(&self.stage, self.number, line, &[note])
+                    .add_all(&self.stage, self.number, line, &[notice])
             }
             None => Ok(()),
         }

@@ -1,11 +1,10 @@
 //! A script that is read whole.
 
 ghost use Rattle.std.specs.Prelude.{◌≡◌, ◌++◌, [], OnOk};
-ghost use Rattle.cics_run.specs.Session.Running.{most_reads, read_failures};
-ghost use Rattle.cics_run.specs.Session.Streams.{Rises, RisesAtMost, failures};
+ghost use Rattle.cics_run.specs.Session.{most_reads, read_failures, Rises, RisesAtMost, failures};
 ghost use Rattle.cics_run.specs.Whole.Reads.{Reads};
 
-use crate::session::{CHUNK, LIMIT, RunFault, Source};
+use crate::session::{CHUNK, MOST_SCRIPT_BYTES, RunFault, Source};
 use cics_names::NoMemory;
 
 // Adds the bytes of a source to the end of a text.
@@ -16,7 +15,8 @@ fn push_chunk(script: &mut Vec<u8>, chunk: &[u8]) -> Result<(), NoMemory>
     Ok(())
 }
 
-/// Reads a script to its end: at most `LIMIT` bytes, and one more to see whether there are more.
+/// Reads a script to its end: at most `MOST_SCRIPT_BYTES`, and one more to see whether there are
+/// more.
 ///
 /// `script` must be empty.
 ///
@@ -30,7 +30,7 @@ pub fn read_script<S: Source>(source: &mut S, script: &mut Vec<u8>) -> Result<()
     ensures asked { RisesAtMost (S.asked source.old) (S.asked source.new) most_reads }
 {
     let mut buffer = [0u8; CHUNK];
-    let mut room = LIMIT;
+    let mut room = MOST_SCRIPT_BYTES;
     'reads: loop {
         let size = room.min(CHUNK).max(1);
         match source.read(&mut buffer[..size]) {

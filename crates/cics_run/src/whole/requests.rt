@@ -2,10 +2,10 @@
 
 ghost use Rattle.std.specs.Prelude.{◌≡◌};
 ghost use Rattle.cics_names.specs.Commands.{file_named};
-ghost use Rattle.cics_run.specs.Whole.Requests.{is_played, is_attached, name_reason, name_note};
-ghost use Rattle.cics_run.specs.Whole.Requests.{command_note, note_on};
+ghost use Rattle.cics_run.specs.Whole.Requests.{is_played, is_attached, name_reason, name_notice};
+ghost use Rattle.cics_run.specs.Whole.Requests.{command_notice, notice_on};
 
-use crate::stage::{Note, Raised, Stage};
+use crate::stage::{Notice, Raised, Stage};
 use crate::told::meant_queue;
 use cics_dispatch::{Reason, Refused, Region};
 use cics_names::{Name8, Verb};
@@ -49,24 +49,24 @@ fn name_reason(region: &Region, verb: &Verb) -> Option<Reason>
 
 // Returns what a run notes of a command whose file or queue isn't defined, or that the name of a
 // queue of temporary storage is one of transient data.
-fn name_note(region: &Region, verb: &Verb) -> Option<Note>
-    ensures { result ≡ name_note region.now.machine verb.now }
+fn name_notice(region: &Region, verb: &Verb) -> Option<Notice>
+    ensures { result ≡ name_notice region.now.machine verb.now }
 {
     match name_reason(region, verb) {
-        Some(reason) => Some(Note::Issued(Raised {
+        Some(reason) => Some(Notice::Issued(Raised {
             condition: reason.condition(),
             reason: Some(reason),
         })),
-        None => Some(Note::Meant(meant_queue(region.units().opening(), verb)?)),
+        None => Some(Notice::Meant(meant_queue(region.units().opening(), verb)?)),
     }
 }
 
 // Returns what is amiss in the name that a command has.
-fn command_note(stage: &Stage, verb: &Verb) -> Option<Note>
-    ensures { result ≡ command_note stage.now verb.now }
+fn command_notice(stage: &Stage, verb: &Verb) -> Option<Notice>
+    ensures { result ≡ command_notice stage.now verb.now }
 {
     match stage {
-        Stage::Running(region) => name_note(region, verb),
+        Stage::Running(region) => name_notice(region, verb),
         Stage::Opening(_) => None,
     }
 }
@@ -74,17 +74,17 @@ fn command_note(stage: &Stage, verb: &Verb) -> Option<Note>
 /// Returns what is amiss in a line, by what was attached and defined before it: its label was
 /// attached before, or never was, or the file or queue that it names isn't defined, or is one of
 /// transient data and not of temporary storage.
-pub fn note_on(stage: &Stage, line: &Line) -> Option<Note>
-    ensures { result ≡ note_on stage.now line.now }
+pub fn notice_on(stage: &Stage, line: &Line) -> Option<Notice>
+    ensures { result ≡ notice_on stage.now line.now }
 {
     match line {
         Line::Attach(label, _, _) if is_attached(stage, label) => {
-            Some(Note::Refused(*label, Refused::DuplicateLabel))
+            Some(Notice::Refused(*label, Refused::DuplicateLabel))
         }
         Line::Issue(label, _) if !is_attached(stage, label) => {
-            Some(Note::Refused(*label, Refused::NoTask))
+            Some(Notice::Refused(*label, Refused::NoTask))
         }
-        Line::Issue(_, command) => command_note(stage, &command.verb),
+        Line::Issue(_, command) => command_notice(stage, &command.verb),
         _ => None,
     }
 }

@@ -1,7 +1,7 @@
 use Rattle.std.proofs.Common.{arith, refl, ◌≡◌, Bool, false, [], ◌++◌, ◌+◌, ◌<◌, ◌≤◌, length, take, drop, length-append, subst, sym, length-take-le, length-take, length-drop}
 use Rattle.std.specs.Io.KnownBytes.{Appends}
 use Rattle.cics_run.specs.Session.Running.{journal, is_stopped}
-use Rattle.cics_run.specs.declared.session.running.TheConstants.{LIMIT}
+use Rattle.cics_run.specs.declared.session.running.TheConstants.{MOST_SCRIPT_BYTES}
 use Rattle.cics_run.specs.Session.Wanted.{form_of}
 use Rattle.cics_run.proofs.OfSession.Known.{consumes-append, consumes-nothing}
 use Rattle.cics_run.proofs.OfSession.Counting.{rises-first, rises-rises, rises-nothing}
@@ -56,9 +56,9 @@ returns-in-Ok-clause-whole_run g c =
     let n = c.in-Ok.field-0 in
     let got = c.read.new.buffer in
     let fits : n ≤ length got = c.in-Ok.ensures.bound.0 in
-    let full : length bytes ≡ LIMIT = omega (arith, room, c.if-room-eq0.true) in
+    let full : length bytes ≡ MOST_SCRIPT_BYTES = omega (arith, room, c.if-room-eq0.true) in
     let one : n ≡ 1 = omega (arith, fits, c.in-Ok.field-0-test.1, c.read.auto.buffer, length-take c.max-size.result c.reads.buffer, c.max-size.ensures, c.min.ensures, c.if-room-eq0.true) in
-    let (over, front) = one_more bytes got n LIMIT full one fits in (
+    let (over, front) = one_more bytes got n MOST_SCRIPT_BYTES full one fits in (
       bytes ++ take n got,
       consumes-append _ _ _ bytes _ read c.in-Ok.ensures.bytes.0,
       omega (arith, over),

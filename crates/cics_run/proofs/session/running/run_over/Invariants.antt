@@ -2,7 +2,7 @@ use Rattle.std.proofs.Common.{◌≡◌, ℕ, List, [], ◌+◌, ◌≤◌, leng
 use Rattle.std.specs.Io.KnownBytes.{Consumes}
 use Rattle.cics_run.specs.Session.Standing.{Stands}
 use Rattle.cics_run.specs.Session.Streams.{Rises}
-use Rattle.cics_run.specs.declared.session.running.TheConstants.{LIMIT, CHUNK}
+use Rattle.cics_run.specs.declared.session.running.TheConstants.{MOST_SCRIPT_BYTES, CHUNK}
 use Rattle.cics_run.specs.Session.Wanted.{form_of}
 use Rattle.cics_run.proofs.session.running.run_over.Given as goal
 
@@ -12,7 +12,7 @@ invariant-reads g l = (bytes : List ℕ) × Consumes (g.S.Source.remaining l.fn.
     × (((reads : ℕ) × Rises (g.S.Source.asked l.fn.source) (g.S.Source.asked l.source) reads × (reads ≤ length bytes))
     × Rises (g.S.Source.failed l.fn.source) (g.S.Source.failed l.source) 0
     × Rises (g.K.Sink.failed l.fn.sink) (g.K.Sink.failed l.sink) 0)
-    × (length bytes + l.room ≡ LIMIT) × (length l.buffer ≡ CHUNK)
+    × (length bytes + l.room ≡ MOST_SCRIPT_BYTES) × (length l.buffer ≡ CHUNK)
 
 abbrev pub decreases-reads : goal.decreases-reads
 decreases-reads g l = l.room

@@ -1,5 +1,5 @@
 use Rattle.std.proofs.Common.{arith, ◌<◌, length}
-use Rattle.cics_run.proofs.OfSession.Ending.{closes-at}
+use Rattle.cics_run.proofs.OfSession.AtEnd.{closes-at}
 use Rattle.cics_run.proofs.session.session.Session.end_input.Goals as goal
 
 pub returns-clause-closes : goal.returns-clause-closes

@@ -1,6 +1,6 @@
 use Rattle.std.proofs.Common.{refl, ap, ◌||◌}
 use Rattle.cics_run.specs.Session.Wanted.{form_of}
-use Rattle.cics_run.proofs.OfSession.Ending.{front-output, fault-written, end-written, end-front}
+use Rattle.cics_run.proofs.OfSession.AtEnd.{front-output, fault-written, end-written, end-front}
 use Rattle.cics_run.proofs.session.session.Session.finish.Goals as goal
 
 pub returns-in-Ok-true-clause-finishes : goal.returns-in-Ok-true-clause-finishes

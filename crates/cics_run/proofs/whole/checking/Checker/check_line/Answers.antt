@@ -1,6 +1,6 @@
 use Rattle.std.proofs.Common.{◌+◌, ap, sym, ◌∙◌, refl, arith}
 use Rattle.std.specs.Prelude.{◌&&◌}
-use Rattle.cics_run.specs.Whole.Checks.{told_note, with_found}
+use Rattle.cics_run.specs.Whole.Checks.{told_notice, with_found}
 use Rattle.cics_run.proofs.OfWhole.Checking.{behind-told, behind-kept, kept-text, kept-faulty, tried-fault, tells-fault, tells-nothing}
 use Rattle.cics_run.proofs.whole.checking.Checker.check_line.Goals as goal
 
@@ -25,7 +25,7 @@ pub returns-in_default-clause-tells : goal.returns-in_default-clause-tells
 returns-in_default-clause-tells c k at =
     let old = c.args.self.now in
     let mid = record old { stage = c.try_line.new.stage; number = old.number + 1 } in
-    let kept = with_found mid.stage mid.number c.args.line.now mid.remarks (told_note mid.sure c.in_ok-found.found.note) in
+    let kept = with_found mid.stage mid.number c.args.line.now mid.remarks (told_notice mid.sure c.in_ok-found.found.notice) in
     let same = tried-fault k old c.try_line.new.stage c.args.line.now c.in_ok-found.found at c.in_ok-found.ensures in
     tells-nothing c.args.file old k c.args.line.now old.text.items c.keep.new.self.text.items c.in_ok-found.found.fault c.keep.result at same (sym c.told_fault.ensures ∙ c.in_default.is)
     (kept-text mid c.keep.new.self kept c.keep.result c.keep.ensures)
@@ -34,5 +34,5 @@ pub returns-in_default-clause-faulty : goal.returns-in_default-clause-faulty
 returns-in_default-clause-faulty c =
     let old = c.args.self.now in
     let mid = record old { stage = c.try_line.new.stage; number = old.number + 1 } in
-    let kept = with_found mid.stage mid.number c.args.line.now mid.remarks (told_note mid.sure c.in_ok-found.found.note) in
+    let kept = with_found mid.stage mid.number c.args.line.now mid.remarks (told_notice mid.sure c.in_ok-found.found.notice) in
     kept-faulty mid c.keep.new.self kept c.keep.result (omega (arith, c.requires.faulty)) c.keep.ensures

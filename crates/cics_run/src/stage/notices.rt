@@ -1,9 +1,9 @@
 //! Which events of a run are told to a person at its end.
 
 ghost use Rattle.std.specs.Prelude.{◌≡◌, OnOk};
-ghost use Rattle.cics_run.specs.Stage.Notes.{raised_by, noted_abend, noted_late, is_no_task};
-ghost use Rattle.cics_run.specs.Stage.Notes.{refused_note, noted_refusal, noted_on, with_note};
-ghost use Rattle.cics_run.specs.Stage.Notes.{is_undefined, names_undefined};
+ghost use Rattle.cics_run.specs.Stage.Notices.{raised_by, noted_abend, noted_late, is_no_task};
+ghost use Rattle.cics_run.specs.Stage.Notices.{refused_notice, noted_refusal, noted_on, with_notice};
+ghost use Rattle.cics_run.specs.Stage.Notices.{is_undefined, names_undefined};
 
 use crate::stage::amiss::is_time_out;
 use cics_dispatch::{Event, Outcome, Reason, Refused, Subject};
@@ -28,7 +28,7 @@ pub struct Raised {
 
 /// What is told of an event.
 #[derive(Clone, Copy, PartialEq, Eq)]
-pub enum Note {
+pub enum Notice {
     /// A condition came up as a task issued the line's command.
     Issued(Raised),
     /// A condition came up as the waiting command of a task resumed.
@@ -60,19 +60,19 @@ fn raised_by(outcome: &Outcome) -> Option<Condition>
     }
 }
 
-// Returns the note on an abend without a condition.
-fn noted_abend(scope: Scope, label: Name8, code: AbendCode) -> Option<Note>
+// Returns the notice on an abend without a condition.
+fn noted_abend(scope: Scope, label: Name8, code: AbendCode) -> Option<Notice>
     ensures { result ≡ noted_abend scope label code }
 {
     if scope.strict && is_time_out(code) {
-        Some(Note::TimedOut(label))
+        Some(Notice::TimedOut(label))
     } else {
         None
     }
 }
 
-// Returns the note on an outcome without a condition.
-fn noted_late(scope: Scope, label: Name8, outcome: &Outcome) -> Option<Note>
+// Returns the notice on an outcome without a condition.
+fn noted_late(scope: Scope, label: Name8, outcome: &Outcome) -> Option<Notice>
     ensures { result ≡ noted_late scope label outcome.now }
 {
     match outcome {
@@ -89,41 +89,41 @@ fn is_no_task(refusal: Refused) -> bool
 }
 
 // Returns what is told of a refused request.
-fn refused_note(subject: Subject, refusal: Refused) -> Note
-    ensures { result ≡ refused_note subject refusal }
+fn refused_notice(subject: Subject, refusal: Refused) -> Notice
+    ensures { result ≡ refused_notice subject refusal }
 {
     match subject {
-        Subject::Task(label) => Note::Refused(label, refusal),
-        Subject::Clock => Note::ClockRefused(refusal),
-        Subject::Shutdown => Note::ShutdownRefused(refusal),
+        Subject::Task(label) => Notice::Refused(label, refusal),
+        Subject::Clock => Notice::ClockRefused(refusal),
+        Subject::Shutdown => Notice::ShutdownRefused(refusal),
     }
 }
 
-// Returns the note on a refused request, if it is told.
-fn noted_refusal(scope: Scope, subject: Subject, refusal: Refused) -> Option<Note>
+// Returns the notice on a refused request, if it is told.
+fn noted_refusal(scope: Scope, subject: Subject, refusal: Refused) -> Option<Notice>
     ensures { result ≡ noted_refusal scope subject refusal }
 {
     if scope.strict || is_no_task(refusal) {
-        Some(refused_note(subject, refusal))
+        Some(refused_notice(subject, refusal))
     } else {
         None
     }
 }
 
 // Returns what is told of an event that is amiss, or of one of a run with `why`.
-fn noted_on(scope: Scope, event: &Event) -> Option<Note>
+fn noted_on(scope: Scope, event: &Event) -> Option<Notice>
     ensures { result ≡ noted_on scope event.now }
 {
     match event {
         Event::Issued(label, outcome, reason) => match raised_by(outcome) {
-            Some(condition) => Some(Note::Issued(Raised {
+            Some(condition) => Some(Notice::Issued(Raised {
                 condition,
                 reason: *reason,
             })),
             None => noted_late(scope, *label, outcome),
         },
         Event::Woken(woken) => match raised_by(&woken.outcome) {
-            Some(condition) => Some(Note::Resumed(woken.label, condition)),
+            Some(condition) => Some(Notice::Resumed(woken.label, condition)),
             None => noted_late(scope, woken.label, &woken.outcome),
         },
         Event::Expired(expired) => noted_abend(scope, expired.label, expired.code),
@@ -159,11 +159,11 @@ pub fn names_undefined(event: &Event) -> bool
 /// - with `strict` any other refused request, and an abend with the code of a time-out;
 /// - with `why` also a condition other than NORMAL that a task handles.
 #[cold]
-pub fn push_noted(notes: &mut Vec<Note>, scope: Scope, event: &Event) -> Result<(), NoMemory>
-    ensures { OnOk result (notes.new.items ≡ with_note notes.old.items (noted_on scope event.now)) }
+pub fn push_noted(notices: &mut Vec<Notice>, scope: Scope, event: &Event) -> Result<(), NoMemory>
+    ensures { OnOk result (notices.new.items ≡ with_notice notices.old.items (noted_on scope event.now)) }
 {
-    if let Some(note) = noted_on(scope, event) {
-        notes.push(note)?;
+    if let Some(notice) = noted_on(scope, event) {
+        notices.push(notice)?;
     }
     Ok(())
 }

@@ -94,12 +94,12 @@ front-output form bytes before now front = front-longer before now (journal_of f
 whole-fault : (form : Form) (p : Played) → has_fault p ≡ true → whole form p ≡ journal_of form p
 whole-fault form p fault =
     let j = journal_of form p in
-    let ends = form.ending p.stage (p.watched form.reads) in subst (λ b. cond b j (j ++ ends) ≡ j) (sym fault) refl
+    let ends = form.at_end p.stage (p.watched form.reads) in subst (λ b. cond b j (j ++ ends) ≡ j) (sym fault) refl
 
-whole-going : (form : Form) (p : Played) → has_fault p ≡ false → whole form p ≡ journal_of form p ++ form.ending p.stage (p.watched form.reads)
+whole-going : (form : Form) (p : Played) → has_fault p ≡ false → whole form p ≡ journal_of form p ++ form.at_end p.stage (p.watched form.reads)
 whole-going form p going =
     let j = journal_of form p in
-    let ends = form.ending p.stage (p.watched form.reads) in subst (λ b. cond b j (j ++ ends) ≡ j ++ ends) (sym going) refl
+    let ends = form.at_end p.stage (p.watched form.reads) in subst (λ b. cond b j (j ++ ends) ≡ j ++ ends) (sym going) refl
 
 -- the last line was a fault, and nothing is pending
 pub fault-written : (form : Form) (bytes : List ℕ) (before now : Option (List ℕ)) (s : Session) → IsClosed form bytes before now s true → s.journal.text.items ≡ []
@@ -116,16 +116,16 @@ fault-written form bytes before now s closed none =
 -- the text of a whole run: the journal, and behind it the listing
 output-going : (form : Form) (bytes : List ℕ) (stage : Stage) (watched : Option Watched) → has_fault (play (all_lines bytes)) ≡ false → (play (all_lines bytes)).stage ≡ stage
     → watched ≡ (play (all_lines bytes)).watched form.reads
-    → output form bytes ≡ journal_of form (play (all_lines bytes)) ++ form.ending stage watched
+    → output form bytes ≡ journal_of form (play (all_lines bytes)) ++ form.at_end stage watched
 output-going form bytes stage watched going same noted =
-    whole-going form (play (all_lines bytes)) going ∙ (λ i. journal_of form (play (all_lines bytes)) ++ form.ending (same i) (sym noted i))
+    whole-going form (play (all_lines bytes)) going ∙ (λ i. journal_of form (play (all_lines bytes)) ++ form.at_end (same i) (sym noted i))
 
 pub end-written : (form : Form) (bytes : List ℕ) (before old now : Option (List ℕ)) (s t : Session) → IsClosed form bytes before old s false
-    → Appends old now (s.journal.text.items ++ form.ending s.stage (watched_by s.journal)) → t.stage ≡ Running (region_of s.stage) → t.journal.is_amiss ≡ (s.journal.is_amiss || are_reads_amiss (watched_by s.journal)) → t.journal.told ≡ s.journal.told
+    → Appends old now (s.journal.text.items ++ form.at_end s.stage (watched_by s.journal)) → t.stage ≡ Running (region_of s.stage) → t.journal.is_amiss ≡ (s.journal.is_amiss || are_reads_amiss (watched_by s.journal)) → t.journal.told ≡ s.journal.told
     → Appends before now (output form bytes) × (is_faulty bytes ≡ false) × HasEnd form.reads t (play (all_lines bytes)) × HasTold form.scope t (play (all_lines bytes))
 end-written form bytes before old now s t closed took opened same told =
     let j = journal_of form (play (all_lines bytes)) in
-    let ends = form.ending s.stage (watched_by s.journal) in
+    let ends = form.at_end s.stage (watched_by s.journal) in
     let all = prints-prints before old now [] s.journal.text.items [] j ends closed.printed (prints-written old now s.journal.text.items ends took) in (
       subst (Appends before now) (sym (output-going form bytes s.stage (watched_by s.journal) closed.fault closed.stage closed.watched)) (prints-all before now [] (j ++ ends) all),
       closed.fault,
@@ -137,7 +137,7 @@ end-written form bytes before old now s t closed took opened same told =
     )
 
 pub end-front : (form : Form) (bytes : List ℕ) (before old now : Option (List ℕ)) (s : Session) → IsClosed form bytes before old s false
-    → AppendsFront old now (s.journal.text.items ++ form.ending s.stage (watched_by s.journal)) → AppendsFront before now (output form bytes)
+    → AppendsFront old now (s.journal.text.items ++ form.at_end s.stage (watched_by s.journal)) → AppendsFront before now (output form bytes)
 end-front form bytes before old now s closed front =
     subst (AppendsFront before now) (sym (output-going form bytes s.stage (watched_by s.journal) closed.fault closed.stage closed.watched))
-    (prints-front before old now [] s.journal.text.items (journal_of form (play (all_lines bytes))) (form.ending s.stage (watched_by s.journal)) closed.printed front)
+    (prints-front before old now [] s.journal.text.items (journal_of form (play (all_lines bytes))) (form.at_end s.stage (watched_by s.journal)) closed.printed front)
