@@ -7,7 +7,7 @@ use Rattle.std.proofs.lemmas.List.Elements.{All-head, All-tail}
 use Rattle.std.proofs.Math.Nat.{min-le_left, le-min}
 use Rattle.cics_names.specs.Keyed.{Bytes, is_same}
 use Rattle.cics_names.specs.KeyedLaws.{is_same-self, is_same-eq}
-use Rattle.cics_dispatch.specs.declared.notes.notes.WaitNote.{WaitNote}
+use Rattle.cics_dispatch.specs.declared.notes.groups.WaitNote.{WaitNote}
 use Rattle.cics_dispatch.specs.Machine.Machine.{Machine, Task, Suspended, task_at, is_waiting, not_waiting}
 use Rattle.cics_dispatch.specs.Machine.Waits.{AreApart}
 use Rattle.cics_dispatch.specs.Machine.Waking.{is_late, first_late}

@@ -6,7 +6,7 @@ use Rattle.cics_names.specs.Keyed.{Bytes, is_same}
 use Rattle.cics_names.specs.KeyedLaws.{is_same-self, is_same-eq}
 use Rattle.cics_history.specs.declared.resources.Resource.{Resource}
 use Rattle.cics_history.specs.State.{OpeningState}
-use Rattle.cics_dispatch.specs.declared.notes.notes.WaitNote.{WaitNote}
+use Rattle.cics_dispatch.specs.declared.notes.groups.WaitNote.{WaitNote}
 use Rattle.cics_dispatch.specs.Machine.Machine.{Machine, Task, Suspended, task_at, is_waiting, not_waiting}
 use Rattle.cics_dispatch.specs.Notes.Notes.{is_unit}
 use Rattle.cics_history.specs.Events.{is_live, may_act}

@@ -10,9 +10,9 @@ use Rattle.std.proofs.lemmas.Bool.{true≢false, eqb-true, eq-eqb}
 use Rattle.std.proofs.lemmas.List.{length-map}
 use Rattle.std.proofs.lemmas.Option.{slice_get_within}
 use Rattle.cics_history.specs.declared.resources.Resource.{Resource}
-use Rattle.cics_dispatch.specs.declared.notes.notes.WaitNote.{WaitNote}
-use Rattle.cics_dispatch.specs.declared.notes.notes.Parked.{Parked}
-use Rattle.cics_dispatch.specs.declared.notes.notes.Parked.TheVariants.{Group as OfGroup, Row as OfRow}
+use Rattle.cics_dispatch.specs.declared.notes.groups.WaitNote.{WaitNote}
+use Rattle.cics_dispatch.specs.declared.notes.groups.Parked.{Parked}
+use Rattle.cics_dispatch.specs.declared.notes.groups.Parked.TheVariants.{Group as OfGroup, Row as OfRow}
 use Rattle.cics_names.specs.Keyed.{Bytes}
 use Rattle.cics_dispatch.specs.Notes.Notes.{of_group, blocker_by, blocker_in, given_up, forgotten, new_note, alone, in_group, count, AreClosed, IsOpenAt, IsFirstOpen, KeepsResources, KeepsBlockers}
 use Rattle.cics_dispatch.specs.Notes.Filed.{has, IsShown, IsParked, KeepParked, IsAlone, AreParked, IsFiled, IsLeft, IsPut, IsNotOf, IsReopening}

@@ -10,7 +10,7 @@ use Rattle.std.proofs.Common.{◌⊎◌, inl, inr, zero, suc, sym, ap, ◌∙◌
 use Rattle.std.proofs.lemmas.Bool.{true≢false}
 use Rattle.std.proofs.lemmas.List.{length-set}
 use Rattle.std.proofs.lemmas.Option.{slice_get_within, slice_get_past, get_or_from_slice_get}
-use Rattle.cics_dispatch.specs.declared.notes.notes.WaitNote.{WaitNote}
+use Rattle.cics_dispatch.specs.declared.notes.groups.WaitNote.{WaitNote}
 use Rattle.cics_names.specs.Keyed.{Bytes}
 use Rattle.cics_dispatch.specs.Notes.Notes.{of_group, blocker_by, blocker_in, new_note, in_group, AreClosed}
 use Rattle.cics_dispatch.specs.Notes.Firsts.{IsFirstBelow}

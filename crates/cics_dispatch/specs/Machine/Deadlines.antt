@@ -1,7 +1,7 @@
 -- The deadline of a waiting command: the last clock at which its task hasn't waited too long. The
 -- notes have it at the index of the command's note.
 use Rattle.std.specs.Prelude.{◌≡◌, ℕ, ◌+◌, ◌-◌, min, if◌then◌else◌, nat_lt, Option, Some, None, List, [], ◌∷◌}
-use Rattle.cics_dispatch.specs.declared.notes.notes.WaitNote.{WaitNote}
+use Rattle.cics_dispatch.specs.declared.notes.groups.WaitNote.{WaitNote}
 use Rattle.cics_dispatch.specs.Machine.Machine.{Task, Suspended, task_at}
 use Rattle.cics_dispatch.specs.Notes.Notes.{never}
 

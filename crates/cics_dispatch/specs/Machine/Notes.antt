@@ -9,7 +9,7 @@ use Rattle.cics_history.specs.Holding.{uses_of}
 use Rattle.cics_history.specs.declared.ops.Op.{Op}
 use Rattle.cics_dispatch.specs.declared.machine.findings.WaitLook.{WaitLook}
 use Rattle.cics_dispatch.specs.declared.machine.findings.WaitLook.TheVariants.{MayGoOn, IsBlocked as Blocked}
-use Rattle.cics_dispatch.specs.declared.notes.notes.WaitNote.{WaitNote}
+use Rattle.cics_dispatch.specs.declared.notes.groups.WaitNote.{WaitNote}
 use Rattle.cics_dispatch.specs.Machine.Machine.{Machine, Task, Suspended, task_at}
 use Rattle.cics_dispatch.specs.Machine.Waking.{may_go_on, first_free}
 use Rattle.cics_dispatch.specs.Machine.Settled.{reads_queue, needed_by, IsBlocked, IsInTime}

@@ -6,10 +6,10 @@ use Rattle.std.specs.BTreeSet.{BTreeSet, contains}
 use Rattle.std.specs.Ordering.{nat_cmp}
 use Rattle.std.specs.declared.alloc.Global.{Global}
 use Rattle.cics_history.specs.declared.resources.Resource.{Resource}
-use Rattle.cics_dispatch.specs.declared.notes.notes.WaitNote.{WaitNote}
-use Rattle.cics_dispatch.specs.declared.notes.notes.Parked.{Parked}
-use Rattle.cics_dispatch.specs.declared.notes.notes.Parked.TheVariants.{Group as OfGroup, Row as OfRow}
-use Rattle.cics_dispatch.specs.declared.notes.notes.Groups.{Groups}
+use Rattle.cics_dispatch.specs.declared.notes.groups.WaitNote.{WaitNote}
+use Rattle.cics_dispatch.specs.declared.notes.groups.Parked.{Parked}
+use Rattle.cics_dispatch.specs.declared.notes.groups.Parked.TheVariants.{Group as OfGroup, Row as OfRow}
+use Rattle.cics_dispatch.specs.declared.notes.groups.Groups.{Groups}
 use Rattle.cics_dispatch.specs.Notes.Notes.{of_group, given_up, forgotten, count}
 
 -- the index is one of these

@@ -2,7 +2,7 @@
 use Rattle.std.specs.Prelude.{◌≡◌, ◌<◌, ◌≤◌, ◌-◌, ◌^◌, ◌==◌, ℕ, suc, length, Bool, true, false, if◌then◌else◌, Option, Some, None, is_some, unwrap_or, take, List, [], ◌∷◌, slice_get, slice_set}
 use Rattle.cics_names.specs.Keyed.{Bytes}
 use Rattle.cics_history.specs.declared.resources.Resource.{Resource}
-use Rattle.cics_dispatch.specs.declared.notes.notes.WaitNote.{WaitNote}
+use Rattle.cics_dispatch.specs.declared.notes.groups.WaitNote.{WaitNote}
 
 -- rows has the notes of the earliest waiting commands, in order, None for one that waits no more;
 -- resources and blockers have for each wait group the one resource that its commands use, and its

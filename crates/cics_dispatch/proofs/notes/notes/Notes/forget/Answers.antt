@@ -1,6 +1,6 @@
 use Rattle.std.proofs.Common.{rules, ◌≡◌, ◌∙◌, ℕ, Some, None, map, slice_get, nat_eq, ap, sym}
 use Rattle.std.specs.Map.{lookup}
-use Rattle.cics_dispatch.specs.declared.notes.notes.Parked.{Parked}
+use Rattle.cics_dispatch.specs.declared.notes.groups.Parked.{Parked}
 use Rattle.cics_dispatch.specs.Notes.Notes.{forgotten, given_up}
 use Rattle.cics_dispatch.specs.Notes.Filed.{IsNotOf}
 use Rattle.cics_dispatch.proofs.OfNotes.FiledNotes.{rows_none, groups_none, rows_unnoted, groups_unnoted, not_alone, not_grouped, none_alone, none_grouped, filed_reopened, other_lists}

@@ -2,8 +2,8 @@ use Rattle.std.proofs.Common.{◌<◌, length, Some, ap, sym, subst, ◌∙◌, 
 use Rattle.std.proofs.lemmas.Option.{slice_get_read, slice_get_within}
 use Rattle.cics_dispatch.specs.Notes.Filed.{IsShown}
 use Rattle.cics_dispatch.proofs.OfNotes.ShownNotes.{shown_passed, closed_all_shown, closed_before_shown, looks, looks_less, key_zero, key_above, passed_row}
-use Rattle.cics_dispatch.proofs.notes.notes.Groups.first_open.Goals as goal
-use Rattle.cics_dispatch.proofs.notes.notes.Groups.first_open.Goals.{In-Some}
+use Rattle.cics_dispatch.proofs.notes.groups.Groups.first_open.Goals as goal
+use Rattle.cics_dispatch.proofs.notes.groups.Groups.first_open.Goals.{In-Some}
 
 -- the first key is that of a row
 within : (c : In-Some) → c.in-Some.at < length c.loop-at.self.rows.items

@@ -1,7 +1,7 @@
 use Rattle.std.proofs.Common.{◌≡◌, ◌<◌, ℕ, Some, slice_get}
 use Rattle.cics_dispatch.specs.Notes.Filed.{AreShown, Reopens, IsNotOf}
-use Rattle.cics_dispatch.specs.declared.notes.notes.Parked.{Parked}
-use Rattle.cics_dispatch.proofs.notes.notes.Groups.reopen.Given as goal
+use Rattle.cics_dispatch.specs.declared.notes.groups.Parked.{Parked}
+use Rattle.cics_dispatch.proofs.notes.groups.Groups.reopen.Given as goal
 
 -- what comes before this index isn't blocked by the unit any more
 abbrev pub invariant-loop-place : goal.invariant-loop-place

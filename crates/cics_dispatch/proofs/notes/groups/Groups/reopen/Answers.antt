@@ -1,10 +1,10 @@
 use Rattle.std.proofs.Common.{inl, inr, ◌≡◌, ◌<◌, ◌+◌, ℕ, length, Some, slice_get, ap, sym, subst, ◌∙◌, arith}
 use Rattle.std.proofs.lemmas.Option.{slice_get-get_or, slice_get_within}
-use Rattle.cics_dispatch.specs.declared.notes.notes.Parked.{Parked}
+use Rattle.cics_dispatch.specs.declared.notes.groups.Parked.{Parked}
 use Rattle.cics_dispatch.specs.Notes.Filed.{IsNotOf}
 use Rattle.cics_dispatch.proofs.OfNotes.ShownNotes.{less_or_same}
 use Rattle.cics_dispatch.proofs.OfNotes.FiledNotes.{reopening_more, not_of_kept, some_same}
-use Rattle.cics_dispatch.proofs.notes.notes.Groups.reopen.Goals as goal
+use Rattle.cics_dispatch.proofs.notes.groups.Groups.reopen.Goals as goal
 
 pub loop-place-preserved : goal.loop-place-preserved
 loop-place-preserved c =

@@ -1,7 +1,7 @@
 use Rattle.std.proofs.Common.{◌≡◌}
 use Rattle.cics_dispatch.specs.Notes.Filed.{AreShown}
 use Rattle.cics_dispatch.proofs.OfNotes.ShownNotes.{looks}
-use Rattle.cics_dispatch.proofs.notes.notes.Groups.first_open.Given as goal
+use Rattle.cics_dispatch.proofs.notes.groups.Groups.first_open.Given as goal
 
 -- only keys have changed, and each command that has to be looked at is shown yet
 abbrev pub invariant-loop-at : goal.invariant-loop-at

@@ -2,10 +2,10 @@ use Rattle.std.proofs.Common.{◌≡◌, ◌∙◌, ap, Some, nat_eq, rules}
 use Rattle.std.specs.Prelude.{Vec, unwrap_or}
 use Rattle.std.specs.Map.{lookup}
 use Rattle.std.specs.declared.alloc.Global.{Global}
-use Rattle.cics_dispatch.specs.declared.notes.notes.Parked.{Parked}
+use Rattle.cics_dispatch.specs.declared.notes.groups.Parked.{Parked}
 use Rattle.cics_dispatch.proofs.OfNotes.FiledNotes.{list_same, list_more, list_added}
-use Rattle.cics_dispatch.proofs.notes.notes.park.Goals as goal
-use Rattle.cics_dispatch.proofs.notes.notes.park.Goals.{After-or_insert}
+use Rattle.cics_dispatch.proofs.notes.groups.park.Goals as goal
+use Rattle.cics_dispatch.proofs.notes.groups.park.Goals.{After-or_insert}
 
 -- the list before is the unit's, if it has one
 own : (c : After-or_insert) (l : Vec Parked Global) → lookup (nat_eq c.args.unit) c.args.parked.now.entries ≡ Some l → c.or_insert.result.now ≡ l

@@ -2,8 +2,8 @@ use Rattle.std.proofs.Common.{◌≡◌, ◌<◌, ℕ, Some, None, length, slice
 use Rattle.std.proofs.lemmas.Option.{slice_get_read}
 use Rattle.cics_dispatch.proofs.OfNotes.ShownNotes.{member_within, shown_group, of_group_here, of_group_past, of_group_at}
 use Rattle.cics_dispatch.proofs.OfNotes.FiledNotes.{reopening_group, same_unit, other_unit, none_some}
-use Rattle.cics_dispatch.proofs.notes.notes.Groups.reopen_group.Goals as goal
-use Rattle.cics_dispatch.proofs.notes.notes.Groups.reopen_group.Goals.{After-index}
+use Rattle.cics_dispatch.proofs.notes.groups.Groups.reopen_group.Goals as goal
+use Rattle.cics_dispatch.proofs.notes.groups.Groups.reopen_group.Goals.{After-index}
 
 -- the group is one of these
 module _ (c : After-index) where

@@ -1,11 +1,11 @@
 use Rattle.std.proofs.Common.{◌≡◌, ◌<◌, Some, None, length, slice_get, slice_set, ap, sym, subst, ◌∙◌, arith, refl}
 use Rattle.std.proofs.lemmas.Option.{slice_get_read}
-use Rattle.cics_dispatch.specs.declared.notes.notes.WaitNote.{WaitNote}
+use Rattle.cics_dispatch.specs.declared.notes.groups.WaitNote.{WaitNote}
 use Rattle.cics_dispatch.specs.Notes.Filed.{IsShown}
 use Rattle.cics_dispatch.proofs.OfNotes.ShownNotes.{shown_row, one, row_within}
 use Rattle.cics_dispatch.proofs.OfNotes.FiledNotes.{reopening_row, row_opened, same_unit, other_unit, some_same}
-use Rattle.cics_dispatch.proofs.notes.notes.Groups.reopen_row.Goals as goal
-use Rattle.cics_dispatch.proofs.notes.notes.Groups.reopen_row.Goals.{In-Some}
+use Rattle.cics_dispatch.proofs.notes.groups.Groups.reopen_row.Goals as goal
+use Rattle.cics_dispatch.proofs.notes.groups.Groups.reopen_row.Goals.{In-Some}
 
 there : (c : In-Some) → slice_get c.args.self.now.rows.items c.args.at ≡ Some (Some c.in-Some.note)
 there c =
