@@ -1,6 +1,7 @@
 pub mod Steps
 pub mod Runs
 pub mod Past
+pub mod Touches
 pub mod Findings
 pub mod Seeing
 pub mod Skews

@@ -48,7 +48,7 @@ module _ {K X : Type 0} (R : K → K → Ordering) where
 -- ---- The last step of a turn and of a task
 
 -- a value that is chosen and then changed
-map-cond : {A B : Type 0} (f : A → B) (b : Bool) (x : A) (o : Option A) → cond b (Some (f x)) (option_map f o) ≡ option_map f (cond b (Some x) o)
+pub map-cond : {A B : Type 0} (f : A → B) (b : Bool) (x : A) (o : Option A) → cond b (Some (f x)) (option_map f o) ≡ option_map f (cond b (Some x) o)
 map-cond f true x o = refl
 map-cond f false x o = refl
 
@@ -111,7 +111,7 @@ cells_ordered = λ i x y. ordered x y i
 pub cells_total : IsTotalOrder cell_cmp
 cells_total = record { antisymm = turned; trans = rising; congr = tied }
 
-both : (a b : Ordering) → is_eq (ordering_then a b) ≡ (is_eq a && is_eq b)
+pub both : (a b : Ordering) → is_eq (ordering_then a b) ≡ (is_eq a && is_eq b)
 both Less b = refl
 both Equal b = refl
 both Greater b = refl
@@ -125,39 +125,42 @@ same-tie (Item q n) (Item p m) = both (bytes_cmp q p) (nat_cmp n m) ∙ ap (λ b
 
 -- ---- The last change of a cell
 
--- the last of some changes that passes a test, with one more
-newest : (p : Mark → Bool) (ks : List Mark) (k : Mark) → find p (reverse (ks ++ k ∷ [])) ≡ cond (p k) (Some k) (find p (reverse ks))
+-- the last of some elements that passes a test, with one more
+newest : {X : Type 0} (p : X → Bool) (ks : List X) (k : X) → find p (reverse (ks ++ k ∷ [])) ≡ cond (p k) (Some k) (find p (reverse ks))
 newest p ks k = grind (arith, common_steps)
 
 -- what is chosen twice
-join : {A : Type 0} (a b c : Bool) (k o : A) → cond (b && c) k (cond (a && c) k o) ≡ cond ((a || b) && c) k o
+pub join : {A : Type 0} (a b c : Bool) (k o : A) → cond (b && c) k (cond (a && c) k o) ≡ cond ((a || b) && c) k o
 join true true true k o = refl
 join true true false k o = refl
 join true false true k o = refl
 join true false false k o = refl
 join false b c k o = refl
 
-module _ (p : Mark → Bool) (q : Cell) where
-  last_of : List (Cell × List Mark) → Option Mark
-  last_of m = find p (reverse (marks_at q m))
+-- a list by its key, with one more element at a key
+module _ {K X : Type 0} (R : K → K → Ordering) (total : IsTotalOrder R) (p : X → Bool) (q : K) where
+  abbrev pub list_at : K → List (K × List X) → List X
+  list_at x m = unwrap_or (lookup (is_at (R x)) m) []
 
-  same_marks : (m : List (Cell × List Mark)) (x : Cell) → is_eq (cell_cmp q x) ≡ true → marks_at x m ≡ marks_at q m
-  same_marks m x e = sym (λ i. unwrap_or (lookup (λ z. is_eq (tied q x z ((Equal-is _).0 e) i)) m) [])
+  same_list : (m : List (K × List X)) (x : K) → is_eq (R q x) ≡ true → list_at x m ≡ list_at q m
+  same_list m x e = sym (λ i. unwrap_or (lookup (λ z. is_eq (total.congr q x z ((Equal-is _).0 e) i)) m) [])
 
-  chosen : (k : Mark) (m : List (Cell × List Mark)) (x : Cell) (b : Bool) → is_eq (cell_cmp q x) ≡ b
-      → find p (reverse (unwrap_or (cond b (Some (marks_at x m ++ k ∷ [])) (lookup (is_at (cell_cmp q)) m)) [])) ≡ cond (b && p k) (Some k) (find p (reverse (marks_at q m)))
-  chosen k m x true e = ap (λ (l : List Mark). find p (reverse (l ++ k ∷ []))) (same_marks m x e) ∙ newest p (marks_at q m) k
+  chosen : (k : X) (m : List (K × List X)) (x : K) (b : Bool) → is_eq (R q x) ≡ b
+      → find p (reverse (unwrap_or (cond b (Some (list_at x m ++ k ∷ [])) (lookup (is_at (R q)) m)) [])) ≡ cond (b && p k) (Some k) (find p (reverse (list_at q m)))
+  chosen k m x true e = ap (λ (l : List X). find p (reverse (l ++ k ∷ []))) (same_list m x e) ∙ newest p (list_at q m) k
   chosen k m x false e = refl
 
-  at_one : (k : Mark) (m : List (Cell × List Mark)) (x : Cell) → find p (reverse (marks_at q (put_mark k m x))) ≡ cond (same_cell q x && p k) (Some k) (find p (reverse (marks_at q m)))
-  at_one k m x =
-      ap (λ (o : Option (List Mark)). find p (reverse (unwrap_or o []))) (lookup-inserted cell_cmp cells_total q x (marks_at x m ++ k ∷ []) m)
-      ∙ chosen k m x (is_eq (cell_cmp q x)) refl ∙ ap (λ b. cond (b && p k) (Some k) (find p (reverse (marks_at q m)))) (same-tie q x)
+  pub newest_put : (k : X) (m : List (K × List X)) (x : K) → find p (reverse (list_at q (insert_entry R m x (list_at x m ++ k ∷ [])))) ≡ cond (is_eq (R q x) && p k) (Some k) (find p (reverse (list_at q m)))
+  newest_put k m x =
+      ap (λ (o : Option (List X)). find p (reverse (unwrap_or o []))) (lookup-inserted R total q x (list_at x m ++ k ∷ []) m)
+      ∙ chosen k m x (is_eq (R q x)) refl
 
+module _ (p : Mark → Bool) (q : Cell) where
   at_all : (k : Mark) (xs : List Cell) (m : List (Cell × List Mark)) → find p (reverse (marks_at q (fold (put_mark k) m xs))) ≡ cond (list_any (same_cell q) xs && p k) (Some k) (find p (reverse (marks_at q m)))
   at_all k [] m = refl
   at_all k (x ∷ xs) m =
-      at_all k xs (put_mark k m x) ∙ ap (cond (list_any (same_cell q) xs && p k) (Some k)) (at_one k m x)
+      at_all k xs (put_mark k m x)
+      ∙ ap (cond (list_any (same_cell q) xs && p k) (Some k)) (newest_put cell_cmp cells_total p q k m x ∙ ap (λ b. cond (b && p k) (Some k) (find p (reverse (marks_at q m)))) (same-tie q x))
       ∙ join (same_cell q x) (list_any (same_cell q) xs) (p k) (Some k) (find p (reverse (marks_at q m)))
 
 -- the last change of a cell that stands

@@ -1,5 +1,5 @@
 -- The steps of a run: the cells that a step looks at, and those that it changes.
-use Rattle.std.specs.Prelude.{Bool, true, false, not, ◌&&◌, ◌||◌, ◌==◌, Option, Some, None, List, []}
+use Rattle.std.specs.Prelude.{Bool, true, false, not, ◌&&◌, ◌||◌, ◌==◌, if◌then◌else◌, Option, Some, None, List, []}
 use Rattle.std.specs.List.{list_any}
 use Rattle.cics_names.specs.Keyed.{Bytes, is_same, is_below}
 use Rattle.cics_run.specs.declared.reads.steps.Cell.{Cell}
@@ -57,6 +57,19 @@ abbrev pub views : Act → Cell → Bool
 views (Look spot) x = covers spot x
 views (LookForUpdate f k) x = same_cell (Record f k) x
 views act x = false
+
+-- the only cell that a spot covers, if it names no two keys
+abbrev pub only_of : Spot → Option Cell
+only_of (spots.Keys f (In k) (In l)) = if is_same k l then Some (Record f k) else None
+only_of (spots.Keys f (Out k) to) = None
+only_of (spots.Keys f (In k) (Out l)) = None
+only_of (spots.Item q n) = Some (Item q n)
+
+-- the only cell that a task looks at which does this, if it names no two keys
+abbrev pub single : Act → Option Cell
+single (Look spot) = only_of spot
+single (LookForUpdate f k) = Some (Record f k)
+single act = None
 
 -- the cells that it changes
 abbrev pub altered : Act → List Cell

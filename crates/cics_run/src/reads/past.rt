@@ -1,9 +1,9 @@
 //! The steps of a run so far, with what is known by turn, by task and by cell.
 
 ghost use Rattle.std.specs.Prelude.{◌≡◌, ◌∷◌, [], ◌||◌, not, IfOk, OnOk, Some, option_map};
-ghost use Rattle.std.specs.Prelude.{reverse};
+ghost use Rattle.std.specs.Prelude.{reverse, length, slice_get};
 ghost use Rattle.std.specs.List.{find, fold, flat_map, filter};
-ghost use Rattle.std.specs.Option.{option_copied};
+ghost use Rattle.std.specs.Option.{option_copied, option_to_list};
 ghost use Rattle.std.specs.BTreeMap.{insert_entry};
 ghost use Rattle.std.specs.Ordering.{nat_cmp};
 ghost use Rattle.cics_names.specs.Keyed.{bytes_cmp};
@@ -11,8 +11,10 @@ ghost use Rattle.cics_run.specs.Reads.Runs.{fate_by, fate_of, is_by, is_no_step,
 ghost use Rattle.cics_run.specs.Reads.Runs.{last_in, near, next_place};
 ghost use Rattle.cics_run.specs.Reads.Past.{latest_of, put_mark, mark_of, is_standing, cells};
 ghost use Rattle.cics_run.specs.Reads.Skews.{number_of};
+ghost use Rattle.cics_run.specs.Reads.Touches.{points, put_number, put_point, put_span, spans_of, numbers_at};
+ghost use Rattle.cics_run.specs.Reads.Touches.{covers_at, newer};
 ghost use Rattle.cics_run.specs.Reads.Findings.{of_another, with_seen, seen_in};
-ghost use Rattle.cics_run.specs.Reads.Steps.{cells_of, looks_at, view_ends};
+ghost use Rattle.cics_run.specs.Reads.Steps.{cells_of, looks_at, single, view_ends};
 
 use crate::reads::found::{Fate, Pair, Seen};
 use crate::reads::steps::{Act, Cell, Place, Step, is_same};
@@ -37,6 +39,13 @@ pub struct Mark {
     pub lasts: bool,
 }
 
+/// A task, and a cell that it looked at or changed.
+#[derive(PartialEq, Eq, PartialOrd, Ord, Drop)]
+pub struct Touched {
+    pub task: Name8,
+    pub cell: Cell,
+}
+
 // What is known of the steps by turn, by task and by cell.
 #[derive(Drop)]
 struct Kept {
@@ -47,6 +56,10 @@ struct Kept {
     tasks: BTreeMap<Name8, Latest>,
     // The changes of each cell, in order.
     marks: BTreeMap<Cell, Items<Mark>>,
+    // The number of each task's last step at each cell, but for looks at several keys.
+    points: BTreeMap<Touched, u64>,
+    // The numbers of each task's looks at several keys, in order.
+    spans: BTreeMap<Name8, Items<u64>>,
 }
 
 /// The steps of a run so far.
@@ -61,6 +74,7 @@ pub struct Past {
 impl Model for Past {
     ghost use Rattle.std.specs.Prelude.{◌≡◌, reverse};
     ghost use Rattle.cics_run.specs.Reads.Runs.{Run};
+    ghost use Rattle.cics_run.specs.Reads.Touches.{points_of, spans_of, IsNumbered};
     ghost use Rattle.cics_run.specs.Reads.Past.{turns_of, tasks_of, marks_of};
 
     ghost Value = { Run };
@@ -71,6 +85,9 @@ impl Model for Past {
       by_turn : p.kept.turns.entries ≡ turns_of (reverse p.steps);
       by_task : p.kept.tasks.entries ≡ tasks_of (reverse p.steps);
       by_cell : p.kept.marks.entries ≡ marks_of (reverse p.steps);
+      by_point : p.kept.points.entries ≡ points_of (reverse p.steps);
+      by_span : p.kept.spans.entries ≡ spans_of (reverse p.steps);
+      numbered : IsNumbered (reverse p.steps);
     } };
 }
 
@@ -99,7 +116,46 @@ fn put_mark(
     marks.entry(cell)?.or_insert(Items::new(alloc)).push(mark)
 }
 
+// Adds a look of a task at several keys.
+fn put_number(
+    alloc: Global,
+    spans: &mut BTreeMap<Name8, Items<u64>>,
+    task: Name8,
+    number: u64,
+) -> Result<(), NoMemory>
+    ensures { OnOk result (spans.new.entries ≡ put_number task number spans.old.entries) }
+{
+    spans.entry(task)?.or_insert(Items::new(alloc)).push(number)
+}
+
 impl Kept {
+    // Adds a step at a cell.
+    fn put_point(&mut self, place: &Place, cell: Cell) -> Result<(), NoMemory>
+        ensures { OnOk result (self.new ≡ record (self.old) { points = self.new.points }
+            × (self.new.points.entries ≡ put_point place.now self.old.points.entries cell)) }
+    {
+        let task = place.task;
+        self.points.insert(Touched { task, cell }, place.at)?;
+        Ok(())
+    }
+
+    // Adds a look: at a single cell, or at several keys.
+    fn add_look(&mut self, look: &Step) -> Result<(), NoMemory>
+        ensures { OnOk result (self.new ≡ record (self.old) {
+          points = self.new.points;
+          spans = self.new.spans;
+        } × (self.new.points.entries ≡ fold (put_point look.now.place) self.old.points.entries (option_to_list (single look.now.act)))
+            × (self.new.spans.entries ≡ put_span look.now self.old.spans.entries)) }
+    {
+        match look.act.single()? {
+            Some(cell) => self.put_point(&look.place, cell),
+            None if matches!(look.act, Act::Look(_)) => {
+                put_number(self.alloc, &mut self.spans, look.place.task, look.place.at)
+            }
+            None => Ok(()),
+        }
+    }
+
     // Adds what is kept of a step.
     fn add(&mut self, step: &Step) -> Result<(), NoMemory>
         ensures turns { OnOk result (self.new.turns.entries ≡ insert_entry nat_cmp
@@ -108,6 +164,10 @@ impl Kept {
             self.old.tasks.entries step.now.place.task (latest_of step.now)) }
         ensures marks { OnOk result (self.new.marks.entries
             ≡ fold (put_mark (mark_of step.now)) self.old.marks.entries (cells_of step.now)) }
+        ensures points { OnOk result (self.new.points.entries
+            ≡ fold (put_point step.now.place) self.old.points.entries (points step.now)) }
+        ensures spans { OnOk result (self.new.spans.entries
+            ≡ put_span step.now self.old.spans.entries) }
     {
         let Place { at, turn, task, .. } = step.place;
         let fate = fate_by(&step.act);
@@ -120,8 +180,9 @@ impl Kept {
         };
         for cell in step.act.cells() {
             put_mark(alloc, &mut self.marks, cell.copy()?, mark)?;
+            self.put_point(&step.place, cell.copy()?)?;
         }
-        Ok(())
+        self.add_look(step)
     }
 }
 
@@ -148,12 +209,35 @@ fn keep_seen(
     }
 }
 
-// Returns the last of some steps by which a task looked at a cell or changed it.
-fn near<'a>(steps: &'a [Step], task: &Name8, cell: &Cell) -> Option<&'a Step>
-    ensures { option_copied result ≡ near task.now cell.now (reverse steps.now) }
+// Returns whether the step of a number looks at a cell.
+fn covers_at(steps: &[Step], cell: &Cell, number: u64) -> bool
+    ensures { result ≡ covers_at steps.now cell.now number }
 {
-    steps.iter().rev().find(|step| is_same(task, &step.place.task)
-        && (step.act.looks_at(cell) || step.changes(cell)))
+    match steps.get(number as usize) {
+        Some(step) => step.act.looks_at(cell),
+        None => false,
+    }
+}
+
+// Returns the last of some numbers of steps whose step looks at a cell.
+fn newest_look<'a>(steps: &[Step], numbers: &'a [u64], cell: &Cell) -> Option<&'a u64>
+    ensures { option_copied result ≡ find (covers_at steps.now cell.now) (reverse numbers.now) }
+{
+    numbers
+        .iter()
+        .rev()
+        .find(|number| covers_at(steps, cell, **number))
+}
+
+// Returns the greater of two numbers, if there are such.
+fn newer(one: Option<u64>, other: Option<u64>) -> Option<u64>
+    ensures { result ≡ newer one other }
+{
+    match (one, other) {
+        (Some(one), Some(other)) => Some(one.max(other)),
+        (Some(one), None) => Some(one),
+        (None, other) => other,
+    }
 }
 
 impl Past {
@@ -168,6 +252,8 @@ impl Past {
                 turns: BTreeMap::new(alloc),
                 tasks: BTreeMap::new(alloc),
                 marks: BTreeMap::new(alloc),
+                points: BTreeMap::new(alloc),
+                spans: BTreeMap::new(alloc),
             },
         }
     }
@@ -245,11 +331,35 @@ impl Past {
         }
     }
 
-    /// Returns the last step by which a task looked at a cell or changed it.
-    pub fn near(&self, task: &Name8, cell: &Cell) -> Option<&Step>
-        ensures { option_copied result ≡ near task.now cell.now self.now }
+    // Returns the step of a number.
+    fn step(&self, number: u64) -> Option<&Step>
+        ensures { option_copied result ≡ slice_get (reverse self.now) number }
     {
-        near(self.steps.as_slice(), task, cell)
+        self.steps().get(number as usize)
+    }
+
+    // Returns the number of the last look of a task at several keys that covers a cell.
+    fn span(&self, at: &Touched) -> Option<u64>
+        ensures { result ≡ find (covers_at (reverse self.now) at.now.cell)
+            (reverse (numbers_at at.now.task (spans_of self.now))) }
+    {
+        match self.kept.spans.get(&at.task) {
+            Some(numbers) => newest_look(self.steps(), numbers.as_slice(), &at.cell).copied(),
+            None => None,
+        }
+    }
+
+    /// Returns the last step by which a task looked at a cell or changed it.
+    ///
+    /// Cost: O(log steps + looks of the task at several keys since its last other step there).
+    pub fn near(&self, at: &Touched) -> Option<&Step>
+        ensures { option_copied result ≡ near at.now.task at.now.cell self.now }
+    {
+        let point = self.kept.points.get(at).copied();
+        match newer(point, self.span(at)) {
+            Some(number) => self.step(number),
+            None => None,
+        }
     }
 
     /// Returns whether what a task did is no step.
@@ -261,7 +371,8 @@ impl Past {
         let Act::LookForUpdate(file, key) = act else {
             return Ok(false);
         };
-        match self.near(task, &Cell::Record(*file, key.copy()?)) {
+        let cell = Cell::Record(*file, key.copy()?);
+        match self.near(&Touched { task: *task, cell }) {
             Some(step) => Ok(matches!(step.act, Act::Look(_))),
             None => Ok(false),
         }
@@ -305,8 +416,9 @@ impl Past {
         }
     }
 
-    /// Adds a step.
+    /// Adds a step, whose number is how many there are.
     pub fn with_step(self, step: Step) -> Result<Past, NoMemory>
+        requires { step.place.at ≡ length self }
         ensures { IfOk result (λ past. past ≡ step ∷ self) }
     {
         let Past {

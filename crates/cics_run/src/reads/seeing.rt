@@ -4,7 +4,7 @@ ghost use Rattle.std.specs.Prelude.{◌≡◌, ◌++◌, OnOk};
 ghost use Rattle.cics_run.specs.Reads.Findings.{seen_at, is_dirty, dirty_at, replaced_at, lost_at};
 
 use crate::reads::found::{Fate, Lost, Pair, Seen};
-use crate::reads::past::Past;
+use crate::reads::past::{Past, Touched};
 use crate::reads::steps::{Act, Cell, Step};
 use cics_names::{Items, NoMemory};
 
@@ -36,7 +36,11 @@ fn push_replaced(
 ) -> Result<(), NoMemory>
     ensures { OnOk result (found.new ≡ found.old ++ replaced_at past.now change.now cell.now) }
 {
-    match (past.near(&change.place.task, cell), past.last(cell)) {
+    let at = Touched {
+        task: change.place.task,
+        cell: cell.copy()?,
+    };
+    match (past.near(&at), past.last(cell)) {
         (Some(look), Some(missed))
             if matches!(look.act, Act::Look(_) | Act::LookForUpdate(..))
                 && look.place.at < missed.place.at => {

@@ -3,7 +3,7 @@
 ghost use Rattle.std.specs.Prelude.{◌≡◌, IfOk, Some};
 ghost use Rattle.cics_names.specs.Keyed.{is_same};
 ghost use Rattle.cics_run.specs.Reads.Steps.{same_cell, is_from, is_upto, views, altered, key_of};
-ghost use Rattle.cics_run.specs.Reads.Steps.{view_ends, is_adding, is_lasting, changes};
+ghost use Rattle.cics_run.specs.Reads.Steps.{view_ends, single, is_adding, is_lasting, changes};
 ghost use Rattle.cics_run.specs.declared.reads.steps.Cell.TheVariants.{Record as RecordCell};
 
 use cics_names::{Items, Name8, NoMemory, Record};
@@ -174,6 +174,26 @@ impl Act {
                 Ok(Some((Cell::Item(*queue, *number), Cell::Item(*queue, *number))))
             }
             Act::LookForUpdate(file, key) => records(*file, key, key),
+            _ => Ok(None),
+        }
+    }
+
+    /// Returns the only cell that it looks at, if it names no two keys.
+    ///
+    /// Errors: `NoMemory`.
+    pub fn single(&self) -> Result<Option<Cell>, NoMemory>
+        ensures { IfOk result (λ cell. cell ≡ single self.now) }
+    {
+        match self {
+            Act::Look(
+                Spot::Keys {
+                    file,
+                    from: Bound::In(first),
+                    to: Bound::In(last),
+                },
+            ) if first.cmp(last).is_eq() => Ok(Some(Cell::Record(*file, first.copy()?))),
+            Act::Look(Spot::Item(queue, number)) => Ok(Some(Cell::Item(*queue, *number))),
+            Act::LookForUpdate(file, key) => Ok(Some(Cell::Record(*file, key.copy()?))),
             _ => Ok(None),
         }
     }
