@@ -1,8 +1,9 @@
 # Writes a script that is made against the program: what it has much of is looked through, or kept.
 #
-#   awk -v called=NAME -v count=N -f hostile.awk
+#   awk -v called=NAME -v count=N -f lines.awk -f hostile.awk
 #
-# The same NAME and N give the same script on every machine. NAME is one of these:
+# The same NAME and N give the same script on every machine. Those whose names begin with
+# `colliding` read N names that colliding.c prints. NAME is one of these:
 #
 #   prefix-definitions  N prefixes of temporary storage queues are defined
 #   prefixed-items      N items are written to queues that no one of N prefixes covers
@@ -33,51 +34,22 @@
 #   turns               N tasks run N turns, one after the other
 #   one-task            one task of N lines
 #   loaded              two tasks of three lines each, and N loaded records
-
-function say(label, command) {
-    print label " EXEC CICS " command
-}
-
-function attach(label, limit) {
-    print "ATTACH " label " TRANSID('LOAD')" (limit ? " DTIMOUT(" limit ")" : "")
-}
-
-function key(number) {
-    return sprintf("%08d", number)
-}
-
-function letters(number, text, digits) {
-    digits = "ABCDEFGHIJKLMNOPQRSTUVWXYZ0123456789"
-    for (text = ""; length(text) < 4; number = int(number / 36))
-        text = substr(digits, number % 36 + 1, 1) text
-    return text
-}
-
-function define(name, length_of_key, recovery) {
-    print "DEFINE FILE('" name "') KEYLENGTH(" length_of_key ") " recovery
-}
-
-function load(name, record) {
-    print "LOAD FILE('" name "') FROM('" record "')"
-}
-
-function value(label, verb, number) {
-    say(label, verb " RESOURCE('" key(number) "') LENGTH(8)")
-}
-
-function on_record(label, verb, number, options) {
-    say(label, verb " FILE('FILE') RIDFLD('" key(number) "')" options)
-}
-
-function records(most, number) {
-    define("FILE", 8, "RECOVERABLE")
-    for (number = 1; number <= most; number++) load("FILE", key(number))
-}
-
-function long(bytes, text) {
-    for (text = "a"; length(text) < bytes; text = text text);
-    return substr(text, 1, bytes)
-}
+#   colliding-labels    N tasks are attached, and the hashes of their labels collide
+#   colliding-waits     the same, and all wait
+#   colliding-queues    N temporary storage queues are written to, and the hashes of their names
+#                       collide
+#   physical-reads      a PHYSICAL queue of N records is read to its end
+#   crossed-values      a unit enqueues on two values and releases them in the same order, N times
+#   generic-waits       a generic delete waits for N tasks, that end one after the other
+#   one-moment          N tasks time out at once
+#   released-chain      N tasks in a chain of waits, that end from its front
+#   rewritten-items     one item of a recoverable queue is rewritten N times, and rolled back
+#   cut-items           an item of 32,000 bytes is read as one byte N times
+#   resets              a browse in a file of N records is reset N times
+#   written-back        N records are written with falling keys, deleted with rising ones, and
+#                       rolled back
+#   prefix-owners       N tasks own a prefix of keys each, and another writes beside them N times
+#   emptied-ends        N reads of a file's last record: behind it an open unit deleted N records
 
 function prefixes(number) {
     for (number = 0; number < count; number++)
@@ -92,10 +64,10 @@ function prefixed_items(number) {
 }
 
 function files(number) {
-    for (number = 0; number < count; number++) define("F" sprintf("%07d", number), 1, "RECOVERABLE")
+    for (number = 0; number < count; number++) define(name_of(number), 1, "RECOVERABLE")
     attach("T")
     for (number = 0; number < count; number++)
-        say("T", "WRITE FILE('F" sprintf("%07d", number) "') RIDFLD('a') FROM('a')")
+        say("T", "WRITE FILE('" name_of(number) "') RIDFLD('a') FROM('a')")
 }
 
 function queues(number) {
@@ -138,15 +110,15 @@ function emptied_deletes(number) {
 
 function in_each_file(command, number) {
     for (number = 0; number < count; number++) {
-        define("F" sprintf("%07d", number), 1, "RECOVERABLE")
-        load("F" sprintf("%07d", number), "a")
+        define(name_of(number), 1, "RECOVERABLE")
+        load(name_of(number), "a")
     }
     attach("T")
     for (number = count - 1; number >= 0; number--) {
         if (command == "STARTBR")
-            say("T", "STARTBR FILE('F" sprintf("%07d", number) "') RIDFLD('a')")
+            say("T", "STARTBR FILE('" name_of(number) "') RIDFLD('a')")
         else
-            say("T", "READ FILE('F" sprintf("%07d", number) "') RIDFLD('a') UPDATE")
+            say("T", "READ FILE('" name_of(number) "') RIDFLD('a') UPDATE")
     }
 }
 
@@ -343,6 +315,123 @@ function loaded(number) {
     }
 }
 
+function colliding_labels(waits, number, label) {
+    attach("T")
+    if (waits) value("T", "ENQ", 0)
+    for (number = 0; number < count; number++) {
+        label = next_name()
+        attach(label)
+        if (waits) value(label, "ENQ", 0)
+    }
+}
+
+function colliding_queues(number) {
+    attach("T")
+    for (number = 0; number < count; number++)
+        say("T", "WRITEQ TS QUEUE('" next_name() "') FROM('x')")
+}
+
+function physical_reads(number) {
+    print "DEFINE TDQUEUE('WORK') PHYSICAL"
+    attach("T")
+    for (number = 0; number < count; number++) say("T", "WRITEQ TD QUEUE('WORK') FROM('x')")
+    for (number = 0; number < count; number++) say("T", "READQ TD QUEUE('WORK')")
+}
+
+function crossed_values(number) {
+    attach("T")
+    attach("U")
+    value("U", "ENQ", 0)
+    for (number = 1; number <= count; number++) {
+        value("T", "ENQ", 2 * number)
+        value("T", "ENQ", 2 * number + 1)
+        value("T", "DEQ", 2 * number)
+        value("T", "DEQ", 2 * number + 1)
+    }
+}
+
+function generic_waits(number) {
+    records(count)
+    attach("W")
+    for (number = 1; number <= count; number++) {
+        attach("T" number)
+        on_record("T" number, "READ", number, " UPDATE")
+    }
+    say("W", "DELETE FILE('FILE') RIDFLD('0') GENERIC")
+    for (number = 1; number <= count; number++) say("T" number, "RETURN")
+}
+
+function one_moment(number) {
+    attach("H")
+    value("H", "ENQ", 0)
+    for (number = 1; number <= count; number++) {
+        attach("T" number, 1)
+        value("T" number, "ENQ", 0)
+    }
+    print "CLOCK 1"
+}
+
+function released_chain(number) {
+    rings("chain")
+    for (number = 0; number < count; number++) say("C" number, "RETURN")
+}
+
+function rewritten_items(number) {
+    print "DEFINE TSPREFIX('WORK')"
+    attach("T")
+    say("T", "WRITEQ TS QUEUE('WORK') FROM('x')")
+    for (number = 0; number < count; number++)
+        say("T", "WRITEQ TS QUEUE('WORK') FROM('" number "') ITEM(1) REWRITE")
+    say("T", "SYNCPOINT ROLLBACK")
+}
+
+function cut_items(number) {
+    attach("T")
+    say("T", "WRITEQ TS QUEUE('WORK') FROM('" long(32000) "')")
+    for (number = 0; number < count; number++)
+        say("T", "READQ TS QUEUE('WORK') ITEM(1) LENGTH(1) RESP(R)")
+}
+
+function resets(number) {
+    records(count)
+    attach("T")
+    on_record("T", "STARTBR", 1)
+    for (number = 0; number < count; number++)
+        on_record("T", "RESETBR", (number * 7919) % count + 1)
+}
+
+function written_back(number) {
+    records(0)
+    attach("T")
+    for (number = count; number > 0; number--)
+        on_record("T", "WRITE", number, " FROM('" key(number) "')")
+    for (number = 1; number <= count; number++) on_record("T", "DELETE", number)
+    say("T", "SYNCPOINT ROLLBACK")
+}
+
+function prefix_owners(number) {
+    records(0)
+    attach("U")
+    for (number = 0; number < count; number++) {
+        attach("T" number)
+        say("T" number, "DELETE FILE('FILE') RIDFLD('" sprintf("%07d", number) "') GENERIC RESP(R)")
+    }
+    for (number = 0; number < count; number++)
+        on_record("U", "WRITE", 10 * count + number, " FROM('" key(10 * count + number) "')")
+}
+
+function emptied_ends(number) {
+    records(count)
+    attach("T")
+    attach("U")
+    for (number = 2; number <= count; number++) on_record("T", "DELETE", number)
+    for (number = 0; number < count; number++) {
+        say("U", "STARTBR FILE('FILE') RIDFLD(X'FFFFFFFFFFFFFFFF')")
+        say("U", "READPREV FILE('FILE')")
+        say("U", "ENDBR FILE('FILE')")
+    }
+}
+
 BEGIN {
     if (called == "prefix-definitions") prefixes()
     else if (called == "prefixed-items") prefixed_items()
@@ -371,8 +460,18 @@ BEGIN {
     else if (called == "turns") turns()
     else if (called == "one-task") one_task()
     else if (called == "loaded") loaded()
-    else {
-        print "no such script: " called > "/dev/stderr"
-        exit 1
-    }
+    else if (called ~ /^colliding-(labels|waits)$/) colliding_labels(called ~ /waits/)
+    else if (called == "colliding-queues") colliding_queues()
+    else if (called == "physical-reads") physical_reads()
+    else if (called == "crossed-values") crossed_values()
+    else if (called == "generic-waits") generic_waits()
+    else if (called == "one-moment") one_moment()
+    else if (called == "released-chain") released_chain()
+    else if (called == "rewritten-items") rewritten_items()
+    else if (called == "cut-items") cut_items()
+    else if (called == "resets") resets()
+    else if (called == "written-back") written_back()
+    else if (called == "prefix-owners") prefix_owners()
+    else if (called == "emptied-ends") emptied_ends()
+    else no_such()
 }
