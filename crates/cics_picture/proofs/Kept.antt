@@ -10,7 +10,7 @@ use Rattle.std.specs.List.{fold, list_any}
 use Rattle.cics_picture.specs.declared.bars.Standing.{Standing}
 use Rattle.cics_picture.specs.declared.bars.Lane.{Lane}
 use Rattle.cics_picture.specs.declared.bars.Bar.{Bar}
-use Rattle.cics_picture.specs.declared.events.Kind.{Kind}
+use Rattle.cics_picture.specs.declared.events.RowKind.{RowKind}
 use Rattle.cics_picture.specs.Lanes.{lane_x, row_y, row_lane}
 use Rattle.cics_picture.specs.Bars.{nobody, new_lane, new_lanes, nobodies, lane_at, noted, lanes_behind, gone, lane_behind, ended, is_bar_of}
 use Rattle.cics_picture.specs.Drawings.{Drawn, nothing_drawn, Row, with_row, Printed, rows_of, turned, turned_from, any_caught, word_if, with_text, with_end, with_line, drawn, finished}
@@ -23,7 +23,7 @@ pub set-other : (ls : List Lane) (i j : ℕ) (l : Lane) → j ≢ i → lane_at 
 set-other ls i j l other = unwrap_or-slice_get (slice_set ls i l) j new_lane ∙ get_or-set_other ls i j l new_lane other ∙ sym (unwrap_or-slice_get ls j new_lane)
 
 -- there are as many lanes as before
-behind-long : (ls : List Lane) (row : ℕ) (k : Kind) (o : Option ℕ) → length (lanes_behind ls row k o) ≡ length ls
+behind-long : (ls : List Lane) (row : ℕ) (k : RowKind) (o : Option ℕ) → length (lanes_behind ls row k o) ≡ length ls
 behind-long ls row k None = refl
 behind-long ls row k (Some i) = length-set ls i (noted (lane_at ls i) row k)
 
@@ -54,8 +54,8 @@ unfolding new_lanes
 all-long = refl
 
 -- a lane keeps behind events what each of its own leaves
-module _ {X : Type 0} (f : Lane → X) (same : (l : Lane) (row : ℕ) (k : Kind) → f (noted l row k) ≡ f l) (lane : ℕ) where
-  pub behind-keeps : (ls : List Lane) (row : ℕ) (k : Kind) (o : Option ℕ) → lane < length ls → f (lane_at (lanes_behind ls row k o) lane) ≡ f (lane_at ls lane)
+module _ {X : Type 0} (f : Lane → X) (same : (l : Lane) (row : ℕ) (k : RowKind) → f (noted l row k) ≡ f l) (lane : ℕ) where
+  pub behind-keeps : (ls : List Lane) (row : ℕ) (k : RowKind) (o : Option ℕ) → lane < length ls → f (lane_at (lanes_behind ls row k o) lane) ≡ f (lane_at ls lane)
   behind-keeps ls row k None within = refl
   behind-keeps ls row k (Some i) within =
       elim (lane == i) as (λ b. (lane == i) ≡ b → f (lane_at (lanes_behind ls row k (Some i)) lane) ≡ f (lane_at ls lane)) [

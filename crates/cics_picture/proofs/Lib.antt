@@ -1,4 +1,3 @@
-pub mod Chains
 pub mod Markup
 pub mod WellFormed
 pub mod Counted

@@ -6,8 +6,8 @@ use Rattle.std.proofs.lemmas.Bool.Decides.{nat_tests}
 use Rattle.std.specs.Prelude.{is_some, nat_lt}
 use Rattle.std.specs.List.{fold}
 use Rattle.cics_names.specs.Keyed.{Bytes}
-use Rattle.cics_picture.specs.declared.events.Kind.{Kind}
-use Rattle.cics_picture.specs.declared.events.Kind.TheVariants as kind
+use Rattle.cics_picture.specs.declared.events.RowKind.{RowKind}
+use Rattle.cics_picture.specs.declared.events.RowKind.TheVariants as kind
 use Rattle.cics_picture.specs.declared.events.Told.{Told}
 use Rattle.cics_picture.specs.Lanes.{lane_of, lane_x, row_y, with_task, tasks_behind}
 use Rattle.cics_picture.specs.Elements.{mark, arrow}
@@ -16,7 +16,7 @@ use Rattle.cics_picture.specs.Arrows.{attached, rows_drawn, TellsWait, DrawsArro
 use Rattle.cics_picture.proofs.Counted.{rows-counted}
 
 -- a task is attached where there is room
-one-task : (tasks : List Bytes) (task : Option Bytes) (k : Kind) → length tasks + length (with_task [] task k) ≤ 16 → with_task tasks task k ≡ tasks ++ with_task [] task k
+one-task : (tasks : List Bytes) (task : Option Bytes) (k : RowKind) → length tasks + length (with_task [] task k) ≤ 16 → with_task tasks task k ≡ tasks ++ with_task [] task k
 one-task tasks None kind.Attached few = sym (append-nil tasks)
 one-task tasks (Some label) kind.Attached few =
     let room : nat_lt (length tasks) 16 ≡ true = grind (arith, few, nat_tests) in

@@ -1,24 +1,25 @@
 -- Every picture is the text of a document.
 use Rattle.std.proofs.Common.{◌≡◌, ℕ, zero, suc, Bool, true, false, cond, ◌==◌, ◌+◌, ◌-◌, ◌*◌, ◌/◌, nat_lt, List, [], ◌∷◌, ◌++◌, ap, sym, ◌∙◌, append_assoc, length, map, Option, Some, None}
 use Rattle.std.specs.List.{fold, flat_map}
-use Rattle.cics_picture.specs.declared.bars.Look.{Look}
+use Rattle.std.specs.Fmt.{decimal}
+use Rattle.cics_picture.specs.declared.bars.Fill.{Fill}
 use Rattle.cics_picture.specs.declared.xml.names.Tag.{Tag}
 use Rattle.cics_picture.specs.declared.xml.names.Tag.TheVariants as tag
 use Rattle.cics_picture.specs.declared.xml.names.Key.TheVariants as key
 use Rattle.cics_picture.specs.Xml.Characters.{shown}
-use Rattle.cics_picture.specs.Xml.Documents.{Document, Empty, attribute, number_of, numeral, moved_to, element, said, end_text}
+use Rattle.cics_picture.specs.Xml.Documents.{Document, Empty, attribute, number_of, moved_to, element, said, end_text}
 use Rattle.cics_picture.specs.Xml.Reading.{document_of}
 use Rattle.cics_picture.proofs.OfXml.ReadBack.{read_back}
-use Rattle.cics_picture.specs.declared.events.Kind.{Kind}
-use Rattle.cics_picture.specs.declared.events.Kind.TheVariants as kind
+use Rattle.cics_picture.specs.declared.events.RowKind.{RowKind}
+use Rattle.cics_picture.specs.declared.events.RowKind.TheVariants as kind
 use Rattle.cics_picture.specs.declared.events.Told.{Told}
 use Rattle.cics_picture.specs.Events.{class_of, shape_of}
 use Rattle.cics_names.specs.Keyed.{Bytes}
 use Rattle.cics_picture.specs.Lanes.{most_lanes, lane_of, tasks_behind, row_lane, lane_x, row_y}
 use Rattle.cics_picture.specs.declared.bars.Standing.{Standing}
 use Rattle.cics_picture.specs.declared.bars.Bar.{Bar}
-use Rattle.cics_picture.specs.Bars.{nobodies, lane_at, new_blocker, is_caught, look_of, look_class, bar_text}
-use Rattle.cics_picture.specs.Elements.{dot_shape, ring_shape, stays_shape, shows_shape, class, words, number_words, shape, stroke, field, spoken, namespace, picture_start, moved_start, tip, head, cut}
+use Rattle.cics_picture.specs.Bars.{nobodies, lane_at, new_blocker, is_caught, fill_of, fill_class, bar_text}
+use Rattle.cics_picture.specs.Elements.{dot_shape, ring_shape, stays_shape, shows_shape, class, words, shape, stroke, field, spoken, namespace, picture_start, moved_start, tip, head, cut}
 use Rattle.cics_picture.specs.Drawings.{Drawn, nothing_drawn, label_text, arrow_to, beside, side_mark, lane_marks, marks_of, row_number, waited, line_text, told_text, Row, with_row, rows_of, Printed, drawn, moved_if, ring_if, stays_if, link_if, shows_if, turned, turned_from, any_caught, word_if, with_text, with_end, with_line, finished}
 use Rattle.cics_picture.specs.Sheets.{style_text, bands, lane_lines, headings, legend_item, answers_legend, ways_legend, ends_legend, region_legend, sign_item, units_legend, heading, ground, bars_text, moved_texts, whole_sheet, sheet, width_of, height_of}
 use Rattle.cics_picture.specs.declared.style.TheConstants.{STYLE}
@@ -28,10 +29,6 @@ use lib.Chars.{codes}
 at-place : (name : List ℕ) (x y : ℕ) (bytes : List ℕ) → IsMarkup (words name x y bytes)
 unfolding words
 at-place name x y bytes = itself (element tag.Text (class name ∷ number_of key.X x ∷ number_of key.Y y ∷ []) (said bytes))
-
-number-there : (name : List ℕ) (x y n : ℕ) → IsMarkup (number_words name x y n)
-unfolding number_words
-number-there name x y n = itself (element tag.Text (class name ∷ number_of key.X x ∷ number_of key.Y y ∷ []) (numeral n))
 
 shape-there : (name path : List ℕ) (x y : ℕ) → IsMarkup (shape name path x y)
 unfolding shape
@@ -67,7 +64,7 @@ moved-arrow lane y None = nothing
 moved-arrow lane y (Some holder) =
     either (nat_lt holder most_lanes) _ _ (behind _ _ (arrow-to lane y (Some holder)) (shape-there (codes "fw") dot_shape (lane_x lane) y)) nothing
 
-at-side : (tasks : List Bytes) (lane y : ℕ) (t : Told) (k : Kind) → IsMarkup (beside tasks lane y t k)
+at-side : (tasks : List Bytes) (lane y : ℕ) (t : Told) (k : RowKind) → IsMarkup (beside tasks lane y t k)
 at-side tasks lane y t kind.Attached = at-place (codes "b m") (lane_x lane) 98 (label_text t.task)
 at-side tasks lane y t kind.Waiting = arrow-to lane y (lane_of tasks t.blocker)
 at-side tasks lane y t kind.Normal = nothing
@@ -81,7 +78,7 @@ at-side tasks lane y t kind.Condition = nothing
 at-side tasks lane y t kind.Clock = nothing
 at-side tasks lane y t kind.Down = nothing
 
-at-left : (y : ℕ) (k : Kind) (task : Option Bytes) → IsMarkup (side_mark y k task)
+at-left : (y : ℕ) (k : RowKind) (task : Option Bytes) → IsMarkup (side_mark y k task)
 at-left y k None = shape-there (class_of k) (shape_of k) 66 y
 at-left y k (Some label) = nothing
 
@@ -89,7 +86,7 @@ in-lane : (tasks : List Bytes) (y : ℕ) (t : Told) (lane : Option ℕ) → IsMa
 in-lane tasks y t None = at-left y t.kind t.task
 in-lane tasks y t (Some lane) = behind _ _ (at-side tasks lane y t t.kind) (shape-there (class_of t.kind) (shape_of t.kind) (lane_x lane) y)
 
-all-marks : (tasks : List Bytes) (y : ℕ) (t : Told) (k : Kind) → IsMarkup (marks_of tasks y t k)
+all-marks : (tasks : List Bytes) (y : ℕ) (t : Told) (k : RowKind) → IsMarkup (marks_of tasks y t k)
 all-marks tasks y t kind.Clock = stroke-there (codes "clk") 66 y (66 + 60 * length tasks) y
 all-marks tasks y t kind.Down = stroke-there (codes "dwn") 66 y (66 + 60 * length tasks) y
 all-marks tasks y t kind.Attached = in-lane tasks y t (lane_of tasks t.task)
@@ -104,7 +101,7 @@ all-marks tasks y t kind.Refused = in-lane tasks y t (lane_of tasks t.task)
 all-marks tasks y t kind.Condition = in-lane tasks y t (lane_of tasks t.task)
 
 number-drawn : (y number : ℕ) → IsMarkup (row_number y number)
-number-drawn y number = either (number == 0) _ _ nothing (number-there (codes "d e") 52 y number)
+number-drawn y number = either (number == 0) _ _ nothing (at-place (codes "d e") 52 y (decimal number))
 
 row : (y number : ℕ) (line asked : List ℕ) (t : Told) → IsMarkup (line_text y number line asked ++ told_text y t)
 row y number line asked t =
@@ -170,7 +167,7 @@ columns : IsMarkup headings
 unfolding headings
 columns = behind _ _ (at-place (codes "d s") 78 98 _) (at-place (codes "d s") 744 98 _)
 
-meaning : (x : ℕ) (k : Kind) (text : List ℕ) → IsMarkup (legend_item x k text)
+meaning : (x : ℕ) (k : RowKind) (text : List ℕ) → IsMarkup (legend_item x k text)
 unfolding legend_item
 meaning x k text = behind _ _ (shape-there (class_of k) (shape_of k) x 52) (at-place (codes "d s") (x + 14) 56 text)
 
@@ -215,23 +212,23 @@ moved d p =
     let q = within tag.G (moved_to (60 * length d.tasks) 0 ∷ []) (headings ++ d.texts) (behind _ _ columns p) in
     (q.0, ap (λ t. moved_start (60 * length d.tasks) ++ t) (sym (append_assoc headings d.texts (end_text tag.G))) ∙ q.1)
 
-all-bars : (looks : List Look) (bars : List Bar) → IsMarkup (flat_map (bar_text looks) bars)
-all-bars looks [] = nothing
-all-bars looks (b ∷ bars) = behind _ _ (field-there (look_class (look_of looks b.unit)) b.x b.y 14 b.height) (all-bars looks bars)
+all-bars : (fills : List Fill) (bars : List Bar) → IsMarkup (flat_map (bar_text fills) bars)
+all-bars fills [] = nothing
+all-bars fills (b ∷ bars) = behind _ _ (field-there (fill_class (fill_of fills b.unit)) b.x b.y 14 b.height) (all-bars fills bars)
 
-whole : (d : Drawn) (looks : List Look) (title : List ℕ) → IsDrawn d → IsMarkup (whole_sheet d looks title)
+whole : (d : Drawn) (fills : List Fill) (title : List ℕ) → IsDrawn d → IsMarkup (whole_sheet d fills title)
 unfolding picture_start
-whole d looks title p =
-    let bars = bars_text looks d in
-    let inside = behind _ _ (under d title) (behind _ _ (all-bars looks d.bars) (behind _ _ p.0 (moved d p.1))) in
+whole d fills title p =
+    let bars = bars_text fills d in
+    let inside = behind _ _ (under d title) (behind _ _ (all-bars fills d.bars) (behind _ _ p.0 (moved d p.1))) in
     let q = within tag.Svg (namespace ∷ number_of key.Width (width_of d) ∷ number_of key.Height (height_of d) ∷ [])
     (ground d title ++ (bars ++ (d.marks ++ moved_texts d))) inside in
     let tail = append_assoc (ground d title) (bars ++ (d.marks ++ moved_texts d)) (end_text tag.Svg)
     ∙ ap (λ t. ground d title ++ t) (append_assoc bars (d.marks ++ moved_texts d) (end_text tag.Svg) ∙ ap (λ t. bars ++ t) (append_assoc d.marks (moved_texts d) (end_text tag.Svg))) in
     (q.0, ap (λ t. picture_start (width_of d) (height_of d) ++ t) (sym tail) ∙ q.1)
 
-pub sheet_read : (lines : List Printed) (looks : List Look) (title : List ℕ) → (d : Document) × (document_of (sheet (drawn lines) looks title) ≡ Some d)
-sheet_read lines looks title =
+pub sheet_read : (lines : List Printed) (fills : List Fill) (title : List ℕ) → (d : Document) × (document_of (sheet (drawn lines) fills title) ≡ Some d)
+sheet_read lines fills title =
     let d = drawn lines in
-    let p = whole (finished d) looks title (end-drawn (row_y d.rows) nobodies d (lines-drawn lines nothing_drawn (nothing, nothing))) in
+    let p = whole (finished d) fills title (end-drawn (row_y d.rows) nobodies d (lines-drawn lines nothing_drawn (nothing, nothing))) in
     (p.0, ap document_of p.1 ∙ read_back p.0)

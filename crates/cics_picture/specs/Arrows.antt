@@ -1,7 +1,7 @@
 -- Each wait has an arrow, from the lane of the task that waits to the lane of its blocker.
 use Rattle.std.specs.Prelude.{◌≡◌, ℕ, true, ◌+◌, ◌≤◌, List, [], ◌∷◌, ◌++◌, length, Some, is_some}
 use Rattle.std.specs.List.{fold, flat_map}
-use Rattle.cics_picture.specs.declared.events.Kind.TheVariants.{Waiting}
+use Rattle.cics_picture.specs.declared.events.RowKind.TheVariants.{Waiting}
 use Rattle.cics_names.specs.Keyed.{Bytes}
 use Rattle.cics_picture.specs.Lanes.{most_lanes, lane_of, tasks_behind, lane_x, row_y}
 use Rattle.cics_picture.specs.Elements.{mark, arrow}

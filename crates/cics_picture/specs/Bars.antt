@@ -1,10 +1,10 @@
 -- The bars of units of work. Each stands in the lane of its task, from the row at which the unit
 -- begins to the row at which it ends.
 use Rattle.std.specs.Prelude.{ℕ, ◌-◌, ◌==◌, Bool, true, false, not, ◌&&◌, if◌then◌else◌, Option, Some, None, unwrap_or, slice_get, slice_set, replicate, List, [], ◌∷◌}
-use Rattle.cics_picture.specs.declared.events.Kind.{Kind}
-use Rattle.cics_picture.specs.declared.events.Kind.TheVariants.{Waiting}
-use Rattle.cics_picture.specs.declared.bars.Look.{Look}
-use Rattle.cics_picture.specs.declared.bars.Look.TheVariants.{Open, Filled, Hollow}
+use Rattle.cics_picture.specs.declared.events.RowKind.{RowKind}
+use Rattle.cics_picture.specs.declared.events.RowKind.TheVariants.{Waiting}
+use Rattle.cics_picture.specs.declared.bars.Fill.{Fill}
+use Rattle.cics_picture.specs.declared.bars.Fill.TheVariants.{Open, Filled, Hollow}
 use Rattle.cics_picture.specs.declared.bars.Standing.{Standing}
 use Rattle.cics_picture.specs.declared.bars.Lane.{Lane}
 use Rattle.cics_picture.specs.declared.bars.Bar.{Bar}
@@ -33,16 +33,16 @@ abbrev pub lane_at : List Lane → ℕ → Lane
 lane_at lanes lane = unwrap_or (slice_get lanes lane) new_lane
 
 -- the row at which a lane's task last waited, behind an event at a row
-abbrev pub asked_behind : ℕ → ℕ → Kind → ℕ
+abbrev pub asked_behind : ℕ → ℕ → RowKind → ℕ
 asked_behind before row Waiting = row
 asked_behind before row kind = before
 
 -- a lane behind an event of its own
-abbrev pub noted : Lane → ℕ → Kind → Lane
+abbrev pub noted : Lane → ℕ → RowKind → Lane
 noted l row k = record l { last = row_y row; asked = asked_behind l.asked row k }
 
 -- the lanes behind an event of one of them, or of none, at a row
-abbrev pub lanes_behind : List Lane → ℕ → Kind → Option ℕ → List Lane
+abbrev pub lanes_behind : List Lane → ℕ → RowKind → Option ℕ → List Lane
 lanes_behind lanes row k None = lanes
 lanes_behind lanes row k (Some lane) = slice_set lanes lane (noted (lane_at lanes lane) row k)
 
@@ -81,23 +81,23 @@ new_blocker None now = None
 new_blocker (Some before) None = None
 new_blocker (Some before) (Some now) = if before == now then None else Some now
 
--- the look of a unit's bar
-abbrev pub look_of : List Look → ℕ → Look
-look_of looks unit = unwrap_or (slice_get looks unit) Open
+-- the fill of a unit's bar
+abbrev pub fill_of : List Fill → ℕ → Fill
+fill_of fills unit = unwrap_or (slice_get fills unit) Open
 
--- the class of a look
-abbrev pub look_class : Look → List ℕ
-look_class Open = codes "uo"
-look_class Filled = codes "uf"
-look_class Hollow = codes "uh"
+-- the class of a fill
+abbrev pub fill_class : Fill → List ℕ
+fill_class Open = codes "uo"
+fill_class Filled = codes "uf"
+fill_class Hollow = codes "uh"
 
 -- a bar of a class
 abbrev pub bar_of : List ℕ → Bar → List ℕ
 bar_of name b = field name b.x b.y 14 b.height
 
 -- the bar of a unit
-abbrev pub bar_text : List Look → Bar → List ℕ
-bar_text looks b = bar_of (look_class (look_of looks b.unit)) b
+abbrev pub bar_text : List Fill → Bar → List ℕ
+bar_text fills b = bar_of (fill_class (fill_of fills b.unit)) b
 
 -- a filled bar
 abbrev pub filled : Bar → List ℕ

@@ -1,10 +1,11 @@
 -- What the rows of a picture draw: one row for each event, in order.
 use Rattle.std.specs.Prelude.{ℕ, ◌==◌, nat_lt, ◌+◌, ◌-◌, ◌*◌, max, min, Bool, true, false, if◌then◌else◌, List, [], ◌∷◌, ◌++◌, length, slice_get, slice_set, Option, Some, None, unwrap_or}
 use Rattle.std.specs.List.{fold, flat_map}
+use Rattle.std.specs.Fmt.{decimal}
 use Rattle.cics_names.specs.Keyed.{Bytes}
 use Rattle.cics_script.specs.Texts.{bare}
-use Rattle.cics_picture.specs.declared.events.Kind.{Kind}
-use Rattle.cics_picture.specs.declared.events.Kind.TheVariants.{Attached, Waiting, Clock, Down}
+use Rattle.cics_picture.specs.declared.events.RowKind.{RowKind}
+use Rattle.cics_picture.specs.declared.events.RowKind.TheVariants.{Attached, Waiting, Clock, Down}
 use Rattle.cics_picture.specs.declared.drawing.Drawing.{Drawing}
 use Rattle.cics_picture.specs.declared.bars.Standing.{Standing}
 use Rattle.cics_picture.specs.declared.bars.Lane.{Lane}
@@ -12,7 +13,7 @@ use Rattle.cics_picture.specs.declared.bars.Bar.{Bar}
 use Rattle.cics_picture.specs.declared.events.Told.{Told}
 use Rattle.cics_picture.specs.Events.{class_of}
 use Rattle.cics_picture.specs.Lanes.{most_lanes, lane_of, tasks_behind, row_lane, lane_x, row_y}
-use Rattle.cics_picture.specs.Elements.{words, number_words, shape, dot_shape, ring_shape, stays_shape, shows_shape, mark, stroke, arrow, link, cut}
+use Rattle.cics_picture.specs.Elements.{words, shape, dot_shape, ring_shape, stays_shape, shows_shape, mark, stroke, arrow, link, cut}
 use Rattle.cics_picture.specs.Bars.{new_lanes, nobodies, lane_at, lanes_behind, gone, lane_behind, ended, new_blocker, is_caught}
 use lib.Chars.{codes}
 
@@ -47,13 +48,13 @@ label_text None = []
 label_text (Some label) = bare label
 
 -- beside its mark an attached task has a heading, and a wait an arrow
-abbrev pub beside : List Bytes → ℕ → ℕ → Told → Kind → List ℕ
+abbrev pub beside : List Bytes → ℕ → ℕ → Told → RowKind → List ℕ
 beside tasks lane y told Attached = words (codes "b m") (lane_x lane) 98 (label_text told.task)
 beside tasks lane y told Waiting = arrow_to lane (lane_of tasks told.blocker) y
 beside tasks lane y told kind = []
 
 -- an event of no task has its mark to the left of the lanes
-abbrev pub side_mark : ℕ → Kind → Option Bytes → List ℕ
+abbrev pub side_mark : ℕ → RowKind → Option Bytes → List ℕ
 side_mark y kind None = mark kind 66 y
 side_mark y kind (Some label) = []
 
@@ -63,12 +64,12 @@ lane_marks tasks y told None = side_mark y told.kind told.task
 lane_marks tasks y told (Some lane) = beside tasks lane y told told.kind ++ mark told.kind (lane_x lane) y
 
 -- a line across the lanes
-abbrev pub across : List Bytes → ℕ → Kind → List ℕ
+abbrev pub across : List Bytes → ℕ → RowKind → List ℕ
 across tasks y kind = stroke (class_of kind) 66 y (66 + 60 * length tasks) y
 
 -- A clock, a shutdown and a fault have a line across the lanes. An event of a task has its marks if
 -- that has a lane, and a refused clock or shutdown one beside the lanes.
-abbrev pub marks_of : List Bytes → ℕ → Told → Kind → List ℕ
+abbrev pub marks_of : List Bytes → ℕ → Told → RowKind → List ℕ
 marks_of tasks y told Clock = across tasks y Clock
 marks_of tasks y told Down = across tasks y Down
 marks_of tasks y told kind = lane_marks tasks y told (lane_of tasks told.task)
@@ -80,7 +81,7 @@ row_marks tasks y told = marks_of tasks y told told.kind
 -- the number of the script's line, to the left of the lanes; 0 is that of an event without a line,
 -- and isn't shown
 abbrev pub row_number : ℕ → ℕ → List ℕ
-row_number y number = if number == 0 then [] else number_words (codes "d e") 52 y number
+row_number y number = if number == 0 then [] else words (codes "d e") 52 y (decimal number)
 
 -- the line with which the task of a lane last waited; if it never waited, that of the first row
 abbrev pub waited : List (List ℕ) → List Lane → Option ℕ → List ℕ

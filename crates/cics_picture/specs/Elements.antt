@@ -4,8 +4,8 @@ use Rattle.cics_picture.specs.declared.xml.names.Tag.{Tag}
 use Rattle.cics_picture.specs.declared.xml.names.Tag.TheVariants as tag
 use Rattle.cics_picture.specs.declared.xml.names.Key.TheVariants as key
 use Rattle.cics_picture.specs.Xml.Characters.{shown}
-use Rattle.cics_picture.specs.Xml.Documents.{Attribute, attribute, number_of, numeral, moved_to, Empty, element, said, document_text, start_text}
-use Rattle.cics_picture.specs.declared.events.Kind.{Kind}
+use Rattle.cics_picture.specs.Xml.Documents.{Attribute, attribute, number_of, moved_to, Empty, element, said, document_text, start_text}
+use Rattle.cics_picture.specs.declared.events.RowKind.{RowKind}
 use Rattle.cics_picture.specs.Events.{class_of, shape_of}
 use Rattle.cics_picture.specs.Lanes.{lane_x}
 use Rattle.cics_picture.specs.declared.style.TheConstants.{NAMESPACE}
@@ -18,10 +18,6 @@ class name = attribute key.Class (map shown name)
 -- words at a place
 unfoldable pub words : List ℕ → ℕ → ℕ → List ℕ → List ℕ
 words name x y bytes = document_text (element tag.Text (class name ∷ number_of key.X x ∷ number_of key.Y y ∷ []) (said bytes))
-
--- a number at a place
-unfoldable pub number_words : List ℕ → ℕ → ℕ → ℕ → List ℕ
-number_words name x y n = document_text (element tag.Text (class name ∷ number_of key.X x ∷ number_of key.Y y ∷ []) (numeral n))
 
 -- a shape round a place
 unfoldable pub shape : List ℕ → List ℕ → ℕ → ℕ → List ℕ
@@ -55,7 +51,7 @@ unfoldable pub moved_start : ℕ → List ℕ
 moved_start x = start_text tag.G (moved_to x 0 ∷ [])
 
 -- the mark of an event
-abbrev pub mark : Kind → ℕ → ℕ → List ℕ
+abbrev pub mark : RowKind → ℕ → ℕ → List ℕ
 mark kind x y = shape (class_of kind) (shape_of kind) x y
 
 -- where the arrow or the line to a lane ends: at the side of the lane that it comes from

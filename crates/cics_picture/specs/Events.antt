@@ -1,11 +1,11 @@
 -- The kinds of rows, and how each is drawn.
 use Rattle.std.specs.Prelude.{ℕ, List}
-use Rattle.cics_picture.specs.declared.events.Kind.{Kind}
-use Rattle.cics_picture.specs.declared.events.Kind.TheVariants as kind
+use Rattle.cics_picture.specs.declared.events.RowKind.{RowKind}
+use Rattle.cics_picture.specs.declared.events.RowKind.TheVariants as kind
 use lib.Chars.{codes}
 
 -- the class that gives a kind its colour
-abbrev pub class_of : Kind → List ℕ
+abbrev pub class_of : RowKind → List ℕ
 class_of kind.Attached = codes "mr"
 class_of kind.Normal = codes "mk"
 class_of kind.Waiting = codes "mw"
@@ -22,7 +22,7 @@ class_of kind.Down = codes "dwn"
 -- The shape of a kind, as a path round its place. In the order of the cases: a ring, a dot, an
 -- hourglass, an arrowhead, a tick in a ring, an arrow back in a ring, a foot, a cross in a ring, a
 -- barred ring, a triangle. The lines across the lanes have a stroke each.
-abbrev pub shape_of : Kind → List ℕ
+abbrev pub shape_of : RowKind → List ℕ
 shape_of kind.Attached = codes "M-6 0a6 6 0 1 0 12 0a6 6 0 1 0 -12 0z"
 shape_of kind.Normal = codes "M-5 0a5 5 0 1 0 10 0a5 5 0 1 0 -10 0z"
 shape_of kind.Waiting = codes "M-5 -6h10l-10 12h10z"

@@ -1,8 +1,8 @@
 -- Which tasks have lanes, and where these are.
 use Rattle.std.specs.Prelude.{ℕ, ◌+◌, ◌*◌, nat_lt, if◌then◌else◌, List, [], ◌∷◌, ◌++◌, length, Option, Some, None}
 use Rattle.cics_names.specs.Keyed.{Bytes, is_same}
-use Rattle.cics_picture.specs.declared.events.Kind.{Kind}
-use Rattle.cics_picture.specs.declared.events.Kind.TheVariants.{Attached}
+use Rattle.cics_picture.specs.declared.events.RowKind.{RowKind}
+use Rattle.cics_picture.specs.declared.events.RowKind.TheVariants.{Attached}
 use Rattle.cics_picture.specs.declared.events.Told.{Told}
 
 -- The first sixteen tasks have lanes, in the order in which they are attached.
@@ -29,7 +29,7 @@ with_lane tasks None = tasks
 with_lane tasks (Some label) = if nat_lt (length tasks) most_lanes then tasks ++ (label ∷ []) else tasks
 
 -- a task that is attached is given a lane
-abbrev pub with_task : List Bytes → Option Bytes → Kind → List Bytes
+abbrev pub with_task : List Bytes → Option Bytes → RowKind → List Bytes
 with_task tasks task Attached = with_lane tasks task
 with_task tasks task kind = tasks
 

@@ -1,11 +1,11 @@
 -- The whole picture of what was drawn.
 use Rattle.std.specs.Prelude.{ℕ, zero, suc, ◌+◌, ◌*◌, ◌/◌, List, [], ◌++◌, length}
 use Rattle.std.specs.List.{flat_map}
-use Rattle.cics_picture.specs.declared.bars.Look.{Look}
+use Rattle.cics_picture.specs.declared.bars.Fill.{Fill}
 use Rattle.cics_picture.specs.declared.xml.names.Tag.TheVariants as tag
 use Rattle.cics_picture.specs.Xml.Documents.{end_text}
-use Rattle.cics_picture.specs.declared.events.Kind.{Kind}
-use Rattle.cics_picture.specs.declared.events.Kind.TheVariants as kind
+use Rattle.cics_picture.specs.declared.events.RowKind.{RowKind}
+use Rattle.cics_picture.specs.declared.events.RowKind.TheVariants as kind
 use Rattle.cics_picture.specs.Lanes.{lane_x, row_y}
 use Rattle.cics_picture.specs.Elements.{words, cut, mark, shape, bar_shape, ring_shape, stays_shape, shows_shape, stroke, field, spoken, picture_start, moved_start}
 use Rattle.cics_picture.specs.Bars.{bar_text}
@@ -42,7 +42,7 @@ unfoldable pub headings : List ℕ
 headings = words (codes "d s") 78 98 (codes "script") ++ words (codes "d s") 744 98 (codes "journal")
 
 -- what a mark means
-unfoldable pub legend_item : ℕ → Kind → List ℕ → List ℕ
+unfoldable pub legend_item : ℕ → RowKind → List ℕ → List ℕ
 legend_item x kind text = mark kind x 52 ++ words (codes "d s") (x + 14) 56 text
 
 -- what the marks of answers mean
@@ -107,14 +107,14 @@ abbrev pub moved_texts : Drawn → List ℕ
 moved_texts d = moved_start (60 * length d.tasks) ++ (headings ++ (d.texts ++ end_text tag.G))
 
 -- the bars of units
-abbrev pub bars_text : List Look → Drawn → List ℕ
-bars_text looks d = flat_map (bar_text looks) d.bars
+abbrev pub bars_text : List Fill → Drawn → List ℕ
+bars_text fills d = flat_map (bar_text fills) d.bars
 
 -- the picture of what is finished
-abbrev pub whole_sheet : Drawn → List Look → List ℕ → List ℕ
-whole_sheet d looks title =
-    picture_start (width_of d) (height_of d) ++ (ground d title ++ (bars_text looks d ++ (d.marks ++ (moved_texts d ++ end_text tag.Svg))))
+abbrev pub whole_sheet : Drawn → List Fill → List ℕ → List ℕ
+whole_sheet d fills title =
+    picture_start (width_of d) (height_of d) ++ (ground d title ++ (bars_text fills d ++ (d.marks ++ (moved_texts d ++ end_text tag.Svg))))
 
--- the picture of a run whose units' bars look so
-abbrev pub sheet : Drawn → List Look → List ℕ → List ℕ
-sheet d looks title = whole_sheet (finished d) looks title
+-- the picture of a run whose units' bars are filled so
+abbrev pub sheet : Drawn → List Fill → List ℕ → List ℕ
+sheet d fills title = whole_sheet (finished d) fills title

@@ -5,8 +5,8 @@ ghost use Rattle.std.specs.Prelude.{◌≡◌, ◌++◌, ◌-◌, ◌<◌, ◌�
 ghost use Rattle.std.specs.List.{flat_map};
 ghost use Rattle.cics_picture.specs.Lanes.{most_lanes, row_y};
 ghost use Rattle.cics_picture.specs.Bars.{new_lanes, nobodies, lane_at, lanes_behind, has_same};
-ghost use Rattle.cics_picture.specs.Bars.{noted, gone, lane_behind, ended, is_caught, look_of};
-ghost use Rattle.cics_picture.specs.Bars.{new_blocker, look_class, bar_text};
+ghost use Rattle.cics_picture.specs.Bars.{noted, gone, lane_behind, ended, is_caught, fill_of};
+ghost use Rattle.cics_picture.specs.Bars.{new_blocker, fill_class, bar_text};
 ghost use Rattle.cics_picture.specs.Drawings.{drawn_of, moved_if, ring_if, stays_if, shows_if};
 ghost use Rattle.cics_picture.specs.Drawings.{turned, turned_from};
 ghost use Rattle.cics_picture.specs.Drawings.{any_caught};
@@ -14,7 +14,7 @@ ghost use Rattle.cics_picture.specs.Drawings.{word_if, with_end, finished};
 
 use crate::drawing::Drawing;
 use crate::elements::{push_arrow, push_field, push_link, push_shape, push_words};
-use crate::events::Kind;
+use crate::events::RowKind;
 use crate::lanes::{MOST_LANES, lane_x, row_y};
 use cics_names::{Items, NoMemory};
 use cics_script::spelling::Part;
@@ -54,10 +54,10 @@ pub struct Bar {
     pub height: u64,
 }
 
-/// How the bar of a unit looks: light if the unit is open, filled if it committed, hollow if it was
-/// backed out.
+/// How the bar of a unit is filled: lightly if the unit is open, wholly if it committed, not at all
+/// if it was backed out.
 #[derive(Clone, Copy, PartialEq, Eq)]
-pub enum Look {
+pub enum Fill {
     Open,
     Filled,
     Hollow,
@@ -91,12 +91,12 @@ pub fn lane_at(lanes: &[Lane], lane: usize) -> Lane
 }
 
 // Returns a lane after an event of its own at a row.
-fn noted(before: Lane, row: u64, kind: Kind) -> Lane
+fn noted(before: Lane, row: u64, kind: RowKind) -> Lane
     requires { row ≤ 100000 }
     ensures { result ≡ noted before row kind }
 {
     let asked = match kind {
-        Kind::Waiting => row,
+        RowKind::Waiting => row,
         _ => before.asked,
     };
     Lane {
@@ -108,7 +108,7 @@ fn noted(before: Lane, row: u64, kind: Kind) -> Lane
 }
 
 /// Notes the row of an event in its lane, if it has one. If the task waits, that is noted too.
-pub fn note_row(lanes: &mut [Lane; MOST_LANES], lane: Option<usize>, row: u64, kind: Kind)
+pub fn note_row(lanes: &mut [Lane; MOST_LANES], lane: Option<usize>, row: u64, kind: RowKind)
     requires lane { IfSome lane (λ l. l < most_lanes) }
     requires row { row ≤ 100000 }
     ensures { lanes.new ≡ lanes_behind lanes.old row kind lane }
@@ -364,34 +364,34 @@ impl Drawing {
     }
 }
 
-// Returns the look of a unit's bar.
-fn look_of(looks: &[Look], unit: u64) -> Look
-    ensures { result ≡ look_of looks.now unit }
+// Returns the fill of a unit's bar.
+fn fill_of(fills: &[Fill], unit: u64) -> Fill
+    ensures { result ≡ fill_of fills.now unit }
 {
-    match looks.get(unit as usize) {
-        Some(look) => *look,
-        None => Look::Open,
+    match fills.get(unit as usize) {
+        Some(fill) => *fill,
+        None => Fill::Open,
     }
 }
 
-// Returns the class of a look.
-fn look_class(look: Look) -> &'static str
-    ensures { result.now ≡ look_class look }
+// Returns the class of a fill.
+fn fill_class(fill: Fill) -> &'static str
+    ensures { result.now ≡ fill_class fill }
 {
-    match look {
-        Look::Open => "uo",
-        Look::Filled => "uf",
-        Look::Hollow => "uh",
+    match fill {
+        Fill::Open => "uo",
+        Fill::Filled => "uf",
+        Fill::Hollow => "uh",
     }
 }
 
-/// Puts the bars of units. `looks` has that of each unit's bar, by the unit's number.
-pub fn push_bars(out: &mut Vec<u8>, looks: &[Look], bars: &[Bar]) -> Result<(), NoMemory>
+/// Puts the bars of units. `fills` has that of each unit's bar, by the unit's number.
+pub fn push_bars(out: &mut Vec<u8>, fills: &[Fill], bars: &[Bar]) -> Result<(), NoMemory>
     ensures { OnOk result (out.new.items
-        ≡ out.old.items ++ flat_map (bar_text looks.now) bars.now) }
+        ≡ out.old.items ++ flat_map (bar_text fills.now) bars.now) }
 {
     for bar in bars {
-        let class = look_class(look_of(looks, bar.unit));
+        let class = fill_class(fill_of(fills, bar.unit));
         push_field(out, class.as_bytes(), (bar.x, bar.y), (14, bar.height))?;
     }
     Ok(())

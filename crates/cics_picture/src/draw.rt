@@ -5,6 +5,7 @@
 //! rows show what the run prints, in order.
 
 mod drawing;
+mod laws;
 mod notes;
 mod picture;
 mod reads;
@@ -12,8 +13,9 @@ mod recording;
 mod standings;
 mod titles;
 
+pub use drawing::draw_script;
 pub(crate) use drawing::run_line;
-pub use drawing::{bars_tell_outcomes, draw_script, rows_are_the_journal, waits_name_blockers};
+pub use laws::{bars_tell_outcomes, rows_are_the_journal, waits_name_blockers};
 pub(crate) use picture::run_status;
 pub use picture::{NoPicture, run_picture};
 pub(crate) use recording::{fault_text, kind_of, text_of};

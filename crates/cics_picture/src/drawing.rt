@@ -8,7 +8,7 @@ use crate::lanes::MOST_LANES;
 use cics_names::{Items, Name8, NoMemory, Record};
 
 /// How many rows a picture has at most.
-pub const LIMIT: u64 = 100_000;
+pub const MOST_ROWS: u64 = 100_000;
 
 /// The rows so far: their number, and the script's line of each, empty if a row has none.
 ///
@@ -32,7 +32,7 @@ pub struct Drawing {
 pub enum Undrawn {
     /// A request for memory was refused.
     NoMemory,
-    /// It would have more than `LIMIT` rows.
+    /// It would have more than `MOST_ROWS` rows.
     TooManyRows,
 }
 

@@ -9,7 +9,7 @@ ghost use Rattle.cics_picture.specs.Elements.{picture_start, moved_start, mark};
 ghost use Rattle.cics_picture.specs.Elements.{tip, head};
 ghost use Rattle.cics_picture.specs.Elements.{arrow, link, cut};
 
-use crate::events::Kind;
+use crate::events::RowKind;
 use crate::lanes::lane_x;
 use crate::style::NAMESPACE;
 use crate::xml::{Attribute, Key, Tag, push_element, push_parted, push_start};
@@ -163,7 +163,7 @@ pub fn push_moved_start(out: &mut Vec<u8>, x: u64) -> Result<(), NoMemory>
 }
 
 /// Puts the mark of an event.
-pub fn push_mark(out: &mut Vec<u8>, kind: Kind, x: u64, y: u64) -> Result<(), NoMemory>
+pub fn push_mark(out: &mut Vec<u8>, kind: RowKind, x: u64, y: u64) -> Result<(), NoMemory>
     ensures { OnOk result (out.new.items ≡ out.old.items ++ mark kind x y) }
 {
     push_shape(

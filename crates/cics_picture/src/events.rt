@@ -8,7 +8,7 @@ use cics_names::{Name8, Record};
 /// What a task was told, or what the region did. `Committed` and `BackedOut` are the answers of
 /// SYNCPOINT and ROLLBACK, `Down` is a shutdown or a line's fault.
 #[derive(Clone, Copy, PartialEq, Eq)]
-pub enum Kind {
+pub enum RowKind {
     Attached,
     Normal,
     Waiting,
@@ -27,7 +27,7 @@ pub enum Kind {
 #[derive(Drop)]
 pub struct Told {
     /// The kind, which gives the row its mark.
-    pub kind: Kind,
+    pub kind: RowKind,
     /// The label of the task, if it is an event of one.
     pub task: Option<Name8>,
     /// The label of the task that blocks it, if it has to wait.
@@ -38,24 +38,24 @@ pub struct Told {
     pub note: Record,
 }
 
-impl Kind {
+impl RowKind {
     /// Returns the class that gives the kind its colour.
     pub fn class(self) -> &'static str
         ensures { result.now ≡ class_of self }
     {
         match self {
-            Kind::Attached => "mr",
-            Kind::Normal => "mk",
-            Kind::Waiting => "mw",
-            Kind::Woken => "mg",
-            Kind::Committed => "mf",
-            Kind::BackedOut => "mc",
-            Kind::Ended => "mf",
-            Kind::Abended => "ma",
-            Kind::Refused => "mc",
-            Kind::Condition => "mc",
-            Kind::Clock => "clk",
-            Kind::Down => "dwn",
+            RowKind::Attached => "mr",
+            RowKind::Normal => "mk",
+            RowKind::Waiting => "mw",
+            RowKind::Woken => "mg",
+            RowKind::Committed => "mf",
+            RowKind::BackedOut => "mc",
+            RowKind::Ended => "mf",
+            RowKind::Abended => "ma",
+            RowKind::Refused => "mc",
+            RowKind::Condition => "mc",
+            RowKind::Clock => "clk",
+            RowKind::Down => "dwn",
         }
     }
 
@@ -64,18 +64,18 @@ impl Kind {
         ensures { result.now ≡ shape_of self }
     {
         match self {
-            Kind::Attached => "M-6 0a6 6 0 1 0 12 0a6 6 0 1 0 -12 0z",
-            Kind::Normal => "M-5 0a5 5 0 1 0 10 0a5 5 0 1 0 -10 0z",
-            Kind::Waiting => "M-5 -6h10l-10 12h10z",
-            Kind::Woken => "M-4 -6l10 6l-10 6z",
-            Kind::Committed => "M-8 0a8 8 0 1 0 16 0a8 8 0 1 0 -16 0zM-4 0l3 3l5 -6",
-            Kind::BackedOut => "M-8 0a8 8 0 1 0 16 0a8 8 0 1 0 -16 0zM4 4v-4h-8l3 -3m-3 3l3 3",
-            Kind::Ended => "M-9 0h18",
-            Kind::Abended => "M-8 0a8 8 0 1 0 16 0a8 8 0 1 0 -16 0zM-3 -3l6 6m0 -6l-6 6",
-            Kind::Refused => "M-5 0a5 5 0 1 0 10 0a5 5 0 1 0 -10 0zM-3 3l6 -6",
-            Kind::Condition => "M0 -6l6 10h-12z",
-            Kind::Clock => "M-9 0h18",
-            Kind::Down => "M-9 0h18",
+            RowKind::Attached => "M-6 0a6 6 0 1 0 12 0a6 6 0 1 0 -12 0z",
+            RowKind::Normal => "M-5 0a5 5 0 1 0 10 0a5 5 0 1 0 -10 0z",
+            RowKind::Waiting => "M-5 -6h10l-10 12h10z",
+            RowKind::Woken => "M-4 -6l10 6l-10 6z",
+            RowKind::Committed => "M-8 0a8 8 0 1 0 16 0a8 8 0 1 0 -16 0zM-4 0l3 3l5 -6",
+            RowKind::BackedOut => "M-8 0a8 8 0 1 0 16 0a8 8 0 1 0 -16 0zM4 4v-4h-8l3 -3m-3 3l3 3",
+            RowKind::Ended => "M-9 0h18",
+            RowKind::Abended => "M-8 0a8 8 0 1 0 16 0a8 8 0 1 0 -16 0zM-3 -3l6 6m0 -6l-6 6",
+            RowKind::Refused => "M-5 0a5 5 0 1 0 10 0a5 5 0 1 0 -10 0zM-3 3l6 -6",
+            RowKind::Condition => "M0 -6l6 10h-12z",
+            RowKind::Clock => "M-9 0h18",
+            RowKind::Down => "M-9 0h18",
         }
     }
 }

@@ -5,7 +5,7 @@ ghost use Rattle.cics_names.specs.Keyed.{is_same};
 ghost use Rattle.cics_picture.specs.Lanes.{lane_from, lane_of, with_lane, tasks_behind};
 ghost use Rattle.cics_picture.specs.Lanes.{lane_x, row_y, most_lanes};
 
-use crate::events::{Kind, Told};
+use crate::events::{RowKind, Told};
 use cics_names::{Items, Name8, NoMemory};
 
 /// How many tasks have lanes at most.
@@ -65,7 +65,7 @@ pub fn give_lane(tasks: &mut Items<Name8>, told: &Told) -> Result<(), NoMemory>
     ensures err { OnErr result (tasks.new ≡ tasks.old) }
 {
     match told.kind {
-        Kind::Attached => push_lane(tasks, told.task),
+        RowKind::Attached => push_lane(tasks, told.task),
         _ => Ok(()),
     }
 }

@@ -20,9 +20,9 @@ mod sheet;
 mod style;
 pub mod xml;
 
-pub use bars::{Look, NOBODY, Standing};
-pub use drawing::{Drawing, LIMIT, Undrawn};
-pub use events::{Kind, Told};
+pub use bars::{Fill, NOBODY, Standing};
+pub use drawing::{Drawing, MOST_ROWS, Undrawn};
+pub use events::{RowKind, Told};
 pub use lanes::MOST_LANES;
 pub use sheet::{
     bars_span_units, new_blockers_have_signs, push_sheet, sheets_are_documents, units_have_bars,

@@ -33,5 +33,5 @@ mod written;
 
 pub use lines::{Sheet, Unwritten};
 pub use pages::page_script;
-pub use recording::{Pager, Step};
+pub use recording::{PageStep, Pager};
 pub use written::{NoPage, run_page};

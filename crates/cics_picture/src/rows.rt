@@ -13,9 +13,9 @@ ghost use Rattle.cics_picture.specs.Drawings.{row, rows_from, printed, with_line
 ghost use Rattle.cics_picture.specs.declared.drawing.Undrawn.TheVariants.{TooManyRows};
 
 use crate::bars::{Lane, Standing, lane_at, new_lanes, note_row};
-use crate::drawing::{Drawing, LIMIT, Undrawn};
+use crate::drawing::{Drawing, MOST_ROWS, Undrawn};
 use crate::elements::{cut, push_arrow, push_cut_words, push_mark, push_stroke, push_words};
-use crate::events::{Kind, Told};
+use crate::events::{RowKind, Told};
 use crate::lanes::{give_lane, lane_of, lane_x, row_y};
 use cics_names::{Items, Name8, NoMemory, Record};
 use cics_script::spelling::Part;
@@ -48,8 +48,8 @@ fn push_beside(
         ++ beside tasks.now place.0 place.1 told.now told.now.kind) }
 {
     match told.kind {
-        Kind::Attached => push_label(out, place.0, told.task),
-        Kind::Waiting => match lane_of(tasks, told.blocker) {
+        RowKind::Attached => push_label(out, place.0, told.task),
+        RowKind::Waiting => match lane_of(tasks, told.blocker) {
             Some(holder) => push_arrow(out, place.0, holder, place.1),
             None => Ok(()),
         },
@@ -58,7 +58,7 @@ fn push_beside(
 }
 
 // Puts a line across the lanes.
-fn push_across(out: &mut Vec<u8>, lanes: usize, y: u64, kind: Kind) -> Result<(), NoMemory>
+fn push_across(out: &mut Vec<u8>, lanes: usize, y: u64, kind: RowKind) -> Result<(), NoMemory>
     requires { lanes ≤ most_lanes }
     ensures { OnOk result (out.new.items
         ≡ out.old.items ++ stroke (class_of kind) 66 y (66 + 60 * lanes) y) }
@@ -94,8 +94,8 @@ fn push_marks(out: &mut Vec<u8>, tasks: &[Name8], y: u64, told: &Told) -> Result
     ensures { OnOk result (out.new.items ≡ out.old.items ++ row_marks tasks.now y told.now) }
 {
     match told.kind {
-        Kind::Clock => push_across(out, tasks.len(), y, Kind::Clock),
-        Kind::Down => push_across(out, tasks.len(), y, Kind::Down),
+        RowKind::Clock => push_across(out, tasks.len(), y, RowKind::Clock),
+        RowKind::Down => push_across(out, tasks.len(), y, RowKind::Down),
         _ => push_lane_marks(out, tasks, y, told),
     }
 }
@@ -205,7 +205,7 @@ impl Drawing {
         let mut number = number;
         let mut line = line;
         for told in rows {
-            if self.rows == LIMIT {
+            if self.rows == MOST_ROWS {
                 return Err(Undrawn::TooManyRows);
             }
             self.push_row(number, line, told)?;

@@ -2,29 +2,27 @@
 
 ghost use Rattle.std.specs.Prelude.{◌≡◌, ◌++◌, ◌∷◌, ◌<◌, ◌≤◌, [], List, ℕ, true, Some, slice_get};
 ghost use Rattle.std.specs.Prelude.{Contains, OnOk};
-ghost use Rattle.cics_picture.specs.declared.bars.Look.{Look};
-ghost use Rattle.cics_picture.specs.Xml.Documents.{Document};
-ghost use Rattle.cics_picture.specs.Xml.Reading.{document_of};
+ghost use Rattle.cics_picture.specs.declared.bars.Fill.{Fill};
+ghost use Rattle.cics_picture.specs.Xml.{Document, document_of};
 ghost use Rattle.cics_picture.specs.Lanes.{most_lanes};
 ghost use Rattle.cics_picture.specs.Drawings.{drawn_of, Printed, Row, drawn, finished, turn_signs};
 ghost use Rattle.cics_picture.specs.Spans.{Lives, bar_from_to, acts_at, rows_behind, HasPart};
 ghost use Rattle.cics_picture.specs.Arrows.{TellsWait, DrawsArrow};
-ghost use Rattle.cics_picture.specs.Sheets.{style_text, bands, lane_lines, ground};
-ghost use Rattle.cics_picture.specs.Sheets.{heading};
-ghost use Rattle.cics_picture.specs.Sheets.{meaning_text, answers_legend, ways_legend};
-ghost use Rattle.cics_picture.specs.Sheets.{ends_legend, region_legend, units_legend};
-ghost use Rattle.cics_picture.specs.Sheets.{width_of, height_of, moved_texts, whole_sheet, sheet};
+ghost use Rattle.cics_picture.specs.Sheets.{style_text, bands, lane_lines, ground, heading};
+ghost use Rattle.cics_picture.specs.Sheets.{meaning_text, answers_legend, ways_legend, sheet};
+ghost use Rattle.cics_picture.specs.Sheets.{ends_legend, region_legend, units_legend, width_of};
+ghost use Rattle.cics_picture.specs.Sheets.{height_of, moved_texts, whole_sheet};
 ghost use Rattle.cics_picture.specs.Bars.{is_bar_of, lane_at};
 ghost use Rattle.cics_picture.specs.declared.bars.Standing.{Standing};
 ghost use Rattle.std.specs.List.{flat_map, list_any};
 
-use crate::bars::{Look, push_bars};
+use crate::bars::{Fill, push_bars};
 use crate::drawing::Drawing;
 use crate::elements::{
     cut, push_cut_words, push_field, push_mark, push_moved_start, push_picture_start, push_shape,
     push_spoken, push_stroke, push_words,
 };
-use crate::events::Kind;
+use crate::events::RowKind;
 use crate::lanes::lane_x;
 use crate::style::STYLE;
 use crate::xml::{Tag, push_end};
@@ -36,15 +34,15 @@ use cics_script::spelling::Part;
 #[derive(Clone, Copy)]
 enum Meaning<'a> {
     // A kind of event, and its words.
-    Mark(u16, Kind, &'a str),
+    Mark(u16, RowKind, &'a str),
     // A class, a path, and words.
     Sign(u16, &'a str, &'a str, &'a str),
 }
 
 /// Every picture is well formed: it is read back as a document, whatever the lines and texts are.
 pub fn sheets_are_documents()
-    ensures { (lines : List Printed) (looks : List Look) (title : List ℕ)
-        → (d : Document) × (document_of (sheet (drawn lines) looks title) ≡ Some d) }
+    ensures { (lines : List Printed) (fills : List Fill) (title : List ℕ)
+        → (d : Document) × (document_of (sheet (drawn lines) fills title) ≡ Some d) }
 {}
 
 /// The row of an event WAITING draws exactly one arrow: from the lane of its task to that of the
@@ -154,18 +152,18 @@ fn push_marks_legend(out: &mut Vec<u8>) -> Result<(), NoMemory>
     push_meanings(
         out,
         &[
-            Meaning::Mark(24, Kind::Attached, "attached"),
-            Meaning::Mark(114, Kind::Normal, "answered"),
-            Meaning::Mark(204, Kind::Condition, "another condition"),
-            Meaning::Mark(354, Kind::Refused, "refused"),
-            Meaning::Mark(444, Kind::Waiting, "waits"),
-            Meaning::Mark(514, Kind::Woken, "goes on"),
-            Meaning::Mark(604, Kind::Committed, "syncpoint"),
-            Meaning::Mark(704, Kind::BackedOut, "rollback"),
-            Meaning::Mark(804, Kind::Ended, "ended"),
-            Meaning::Mark(884, Kind::Abended, "abended"),
-            Meaning::Mark(974, Kind::Clock, "clock"),
-            Meaning::Mark(1054, Kind::Down, "shutdown or fault"),
+            Meaning::Mark(24, RowKind::Attached, "attached"),
+            Meaning::Mark(114, RowKind::Normal, "answered"),
+            Meaning::Mark(204, RowKind::Condition, "another condition"),
+            Meaning::Mark(354, RowKind::Refused, "refused"),
+            Meaning::Mark(444, RowKind::Waiting, "waits"),
+            Meaning::Mark(514, RowKind::Woken, "goes on"),
+            Meaning::Mark(604, RowKind::Committed, "syncpoint"),
+            Meaning::Mark(704, RowKind::BackedOut, "rollback"),
+            Meaning::Mark(804, RowKind::Ended, "ended"),
+            Meaning::Mark(884, RowKind::Abended, "abended"),
+            Meaning::Mark(974, RowKind::Clock, "clock"),
+            Meaning::Mark(1054, RowKind::Down, "shutdown or fault"),
         ],
     )
 }
@@ -249,31 +247,31 @@ fn push_moved_texts(out: &mut Vec<u8>, drawing: &Drawing) -> Result<(), NoMemory
 fn push_whole_sheet(
     out: &mut Vec<u8>,
     drawing: &Drawing,
-    looks: &[Look],
+    fills: &[Fill],
     title: &[u8],
 ) -> Result<(), NoMemory>
     ensures { OnOk result (out.new.items
-        ≡ out.old.items ++ whole_sheet (drawn_of drawing.now) looks.now title.now) }
+        ≡ out.old.items ++ whole_sheet (drawn_of drawing.now) fills.now title.now) }
 {
     push_picture_start(out, width_of(drawing), height_of(drawing))?;
     push_ground(out, drawing, title)?;
-    push_bars(out, looks, drawing.bars.as_slice())?;
+    push_bars(out, fills, drawing.bars.as_slice())?;
     out.extend_from_slice(&drawing.marks)?;
     push_moved_texts(out, drawing)?;
     push_end(out, Tag::Svg)
 }
 
-/// Puts the whole picture of what was drawn, with a title. `looks` has that of each unit's bar, by
+/// Puts the whole picture of what was drawn, with a title. `fills` has that of each unit's bar, by
 /// the unit's number. The bars of open units end here, so nothing more may be drawn.
 pub fn push_sheet(
     out: &mut Vec<u8>,
     drawing: &mut Drawing,
-    looks: &[Look],
+    fills: &[Fill],
     title: &[u8],
 ) -> Result<(), NoMemory>
     ensures { OnOk result (out.new.items
-        ≡ out.old.items ++ sheet (drawn_of drawing.old) looks.now title.now) }
+        ≡ out.old.items ++ sheet (drawn_of drawing.old) fills.now title.now) }
 {
     drawing.finish()?;
-    push_whole_sheet(out, drawing, looks, title)
+    push_whole_sheet(out, drawing, fills, title)
 }

@@ -35,7 +35,7 @@ use Rattle.cics_dispatch.proofs.OfMachine.TaskPlaces.{place_of_task}
 use Rattle.cics_dispatch.proofs.OfMachine.Remembered.{not_refused}
 use Rattle.cics_run.specs.Stage.Stages.{step, followed, region_of}
 use Rattle.cics_run.specs.declared.stage.stage.Stage.{Stage}
-use Rattle.cics_picture.specs.declared.events.Kind.{Kind}
+use Rattle.cics_picture.specs.declared.events.RowKind.{RowKind}
 use Rattle.cics_picture.specs.declared.events.Told.{Told}
 use Rattle.cics_picture.specs.Drawings.{Row, row, rows_from, rows_of}
 use Rattle.cics_picture.proofs.Waits.{wait-drawn}
@@ -175,7 +175,7 @@ module _ (rows : List Row) (number : ℕ) (stage : Stage) (line : List ℕ) (w :
   no-fault : (step stage line).fault ≡ None
   no-fault = ap (λ r. (followed stage r).fault) w.read
 
-  abbrev normal : Kind
+  abbrev normal : RowKind
   normal = normal_of (step stage line).asked
 
   abbrev more : List Told

@@ -9,7 +9,7 @@ use Rattle.cics_run.specs.Stage.Stages.{step, Step}
 use Rattle.cics_run.specs.declared.stage.stage.Fault.{Fault}
 use Rattle.cics_run.specs.Session.Running.{Played, has_fault, next}
 use Rattle.cics_run.proofs.OfSession.Playing.{next-going, fault-fold}
-use Rattle.cics_picture.specs.declared.events.Kind.{Kind}
+use Rattle.cics_picture.specs.declared.events.RowKind.{RowKind}
 use Rattle.cics_picture.specs.declared.events.Told.{Told}
 use Rattle.cics_picture.specs.Drawings.{rows_from, rows_of, all_rows, events_of}
 use Rattle.cics_picture.specs.Draw.Recording.{recorded}
@@ -25,7 +25,7 @@ rows-shown : (told : List Told) (number : ℕ) (line : List ℕ) → events_of (
 rows-shown [] number line = refl
 rows-shown (t ∷ told) number line = ap (λ more. line_of t.text ++ more) (rows-shown told 0 [])
 
-events-shown : (answered : Kind) (events : List Happened) → lines_of (events_told answered events) ≡ flat_map (λ h. event_line h.event) events
+events-shown : (answered : RowKind) (events : List Happened) → lines_of (events_told answered events) ≡ flat_map (λ h. event_line h.event) events
 events-shown answered [] = refl
 events-shown answered (h ∷ events) = ap (λ more. event_line h.event ++ more) (events-shown answered events)
 

@@ -5,16 +5,16 @@ use Rattle.cics_run.specs.Stage.Seen.{after_events, after_fault, after_request}
 use Rattle.cics_run.specs.Stage.Stages.{Asked, Step}
 use Rattle.cics_run.specs.declared.stage.stage.Fault.{Fault}
 use Rattle.cics_picture.specs.declared.events.Told.{Told}
-use Rattle.cics_picture.specs.declared.events.Kind.{Kind}
-use Rattle.cics_picture.specs.declared.events.Kind.TheVariants as kind
+use Rattle.cics_picture.specs.declared.events.RowKind.{RowKind}
+use Rattle.cics_picture.specs.declared.events.RowKind.TheVariants as kind
 use Rattle.cics_picture.specs.Draw.Recording.{answered_as, told_of, fault_told, Recorded, recorder_sight, nothing_recorded, recorded}
 
 -- what the rows of events tell
-abbrev pub events_told : Kind → List Happened → List Told
+abbrev pub events_told : RowKind → List Happened → List Told
 events_told answered events = map (λ h. told_of answered h.event) events
 
 -- the kind of the answer NORMAL to what a line asks
-abbrev pub normal_of : Option Asked → Kind
+abbrev pub normal_of : Option Asked → RowKind
 normal_of None = kind.Normal
 normal_of (Some asked) = answered_as asked.request
 

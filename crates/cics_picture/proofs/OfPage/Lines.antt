@@ -2,12 +2,12 @@
 use Rattle.std.proofs.Common.{◌≡◌, ℕ, Bool, true, false, ◌+◌, Option, None, Some, List, [], ◌∷◌, ◌++◌, length, refl, ap, ◌∙◌, subst, append_assoc}
 use Rattle.std.specs.Fmt.{decimal}
 use Rattle.cics_history.specs.declared.ops.UnitState.{UnitState}
-use Rattle.cics_picture.specs.declared.events.Kind.{Kind}
-use Rattle.cics_picture.specs.declared.events.Kind.TheVariants as kind
+use Rattle.cics_picture.specs.declared.events.RowKind.{RowKind}
+use Rattle.cics_picture.specs.declared.events.RowKind.TheVariants as kind
 use Rattle.cics_picture.specs.declared.xml.names.Tag.TheVariants as tag
 use Rattle.cics_picture.specs.declared.xml.names.Key.TheVariants as key
 use Rattle.cics_picture.specs.declared.page.notes.Note.{Note}
-use Rattle.cics_picture.specs.declared.page.recording.Step.{Step}
+use Rattle.cics_picture.specs.declared.page.recording.PageStep.{PageStep}
 use Rattle.cics_picture.specs.Xml.Characters.{text_of}
 use Rattle.cics_picture.specs.Xml.Documents.{Attribute, attribute, start_text}
 use Rattle.cics_picture.specs.Elements.{spoken, cut}
@@ -20,7 +20,7 @@ use Rattle.cics_picture.proofs.OfPage.Notes.{spoken-read, note-read, notes-read,
 use lib.Chars.{codes}
 
 -- the class of a step has no character that is written otherwise
-kind-plain : (k : Option Kind) → text_of (kind_class k) ≡ kind_class k
+kind-plain : (k : Option RowKind) → text_of (kind_class k) ≡ kind_class k
 kind-plain (Some kind.Attached) = refl
 kind-plain (Some kind.Normal) = refl
 kind-plain (Some kind.Woken) = refl
@@ -40,7 +40,7 @@ woken-plain false = refl
 woken-plain true = refl
 
 -- the attributes of a step
-abbrev attributes : ℕ → Step → List Attribute
+abbrev attributes : ℕ → PageStep → List Attribute
 attributes number s = attribute key.Id (codes "s" ++ decimal number) ∷ attribute key.Class (woken_class s.is_woken ++ kind_class s.kind) ∷ []
 
 -- two values in a start tag
@@ -48,7 +48,7 @@ shape : (t c : List ℕ)
     → ((t ++ codes "\"") ++ ((codes " class=\"" ++ (c ++ codes "\"")) ++ [])) ++ codes ">" ≡ t ++ (codes "\" class=\"" ++ (c ++ codes "\">"))
 shape t c = simp (append_assoc) refl
 
-div-starts : (number : ℕ) (s : Step) → start_text tag.Div (attributes number s) ≡ div number s
+div-starts : (number : ℕ) (s : PageStep) → start_text tag.Div (attributes number s) ≡ div number s
 div-starts number s =
     let t = text_of (decimal number) in
     let w = woken_class s.is_woken in
@@ -57,13 +57,13 @@ div-starts number s =
     ap (λ rest. codes "<div id=\"s" ++ rest) (shape t (text_of (w ++ k)) ∙ ap (λ c. t ++ (codes "\" class=\"" ++ (c ++ codes "\">"))) plain
     ∙ ap (λ rest. t ++ (codes "\" class=\"" ++ rest)) (append_assoc w k (codes "\">")))
 
-step-read : (outcomes : List UnitState) (number : ℕ) (code : List ℕ) (s : Step) → IsMarkup code → IsMarkup (step_text outcomes number code s)
+step-read : (outcomes : List UnitState) (number : ℕ) (code : List ℕ) (s : PageStep) → IsMarkup code → IsMarkup (step_text outcomes number code s)
 step-read outcomes number code s p =
     subst (λ start. IsMarkup (start ++ (code ++ (codes "\n" ++ rest outcomes s)))) (div-starts number s)
     (element-of tag.Div (attributes number s) _ (more tag.Div _ _ p (more tag.Div _ _ line-end (more tag.Div _ _ (spoken-read tag.Samp s.text)
     (more tag.Div _ _ line-end (more tag.Div _ _ (notes-read outcomes s.notes) (closed tag.Div)))))))
 
-steps-read : (outcomes : List UnitState) (number : ℕ) (code : List ℕ) (steps : List Step) → IsMarkup code → IsMarkup (steps_text outcomes number code steps)
+steps-read : (outcomes : List UnitState) (number : ℕ) (code : List ℕ) (steps : List PageStep) → IsMarkup code → IsMarkup (steps_text outcomes number code steps)
 steps-read outcomes number code [] p = nothing
 steps-read outcomes number code (s ∷ steps) p = behind _ _ (step-read outcomes number code s p) (steps-read outcomes (number + 1) [] steps nothing)
 
@@ -71,7 +71,7 @@ defined-read : (outcomes : List UnitState) (defined : Option Note) → IsMarkup 
 defined-read outcomes None = nothing
 defined-read outcomes (Some n) = note-read outcomes n
 
-inside-read : (outcomes : List UnitState) (number : ℕ) (line : List ℕ) (defined : Option Note) (steps : List Step) → IsMarkup (inside_text outcomes number line defined steps)
+inside-read : (outcomes : List UnitState) (number : ℕ) (line : List ℕ) (defined : Option Note) (steps : List PageStep) → IsMarkup (inside_text outcomes number line defined steps)
 inside-read outcomes number line defined [] = behind _ _ (spoken-read tag.Code line) (behind _ _ line-end (defined-read outcomes defined))
 inside-read outcomes number line defined (s ∷ steps) = steps-read outcomes number (spoken tag.Code line) (s ∷ steps) (spoken-read tag.Code line)
 

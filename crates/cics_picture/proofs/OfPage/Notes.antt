@@ -2,6 +2,7 @@
 use Rattle.std.proofs.Common.{◌≡◌, ℕ, Bool, true, false, ◌==◌, cond, List, [], ◌∷◌, ◌++◌, refl, subst, sym, append_assoc}
 use Rattle.cics_names.specs.Keyed.{Bytes}
 use Rattle.cics_script.specs.Texts as texts
+use Rattle.std.specs.Fmt.{decimal}
 use Rattle.cics_history.specs.Headline.{outcome_of}
 use Rattle.cics_history.specs.declared.ops.UnitState.{UnitState}
 use Rattle.cics_history.specs.declared.ops.UnitState.TheVariants as ends
@@ -19,9 +20,9 @@ use Rattle.cics_picture.specs.declared.page.notes.Wanted.TheVariants as wanted
 use Rattle.cics_picture.specs.declared.page.notes.Note.{Note}
 use Rattle.cics_picture.specs.declared.page.notes.Note.TheVariants as note
 use Rattle.cics_picture.specs.Xml.Characters.{digits}
-use Rattle.cics_picture.specs.Xml.Documents.{Empty, characters_before, element, numeral, said, start_text}
+use Rattle.cics_picture.specs.Xml.Documents.{Empty, characters_before, element, said, start_text}
 use Rattle.cics_picture.specs.Elements.{class, spoken}
-use Rattle.cics_picture.specs.Page.Texts.{name_element, bytes_element, number_element, key_text, numbered_text, held_class, held_words, held_text, resource_text, count_text, asked_text, wanted_text, limit_text, begins_text, set_start, set_end, cell_text, change_text, circle_text, told_text, note_text, notes_text}
+use Rattle.cics_picture.specs.Page.Texts.{name_element, bytes_element, key_text, numbered_text, held_class, held_words, held_text, resource_text, count_text, asked_text, wanted_text, limit_text, begins_text, set_start, set_end, cell_text, change_text, circle_text, told_text, note_text, notes_text}
 use Rattle.cics_picture.proofs.Markup.{IsMarkup, nothing, itself, behind}
 use Rattle.cics_picture.proofs.OfPage.Filled.{IsFilled, closed, more, element-of}
 use lib.Chars.{codes}
@@ -29,10 +30,6 @@ use lib.Chars.{codes}
 pub spoken-read : (name : Tag) (bytes : List ℕ) → IsMarkup (spoken name bytes)
 unfolding spoken
 spoken-read name bytes = itself (element name [] (said bytes))
-
-number-read : (name : Tag) (n : ℕ) → IsMarkup (number_element name n)
-unfolding number_element
-number-read name n = itself (element name [] (numeral n))
 
 name-read : (name : Bytes) → IsMarkup (name_element name)
 name-read name = spoken-read tag.I (texts.name_text name)
@@ -47,7 +44,7 @@ key-read : (key file : Bytes) → IsMarkup (key_text key file)
 key-read key file = behind _ _ (bytes-read tag.B key) (behind _ _ of-read (name-read file))
 
 numbered-read : (number : ℕ) (queue : Bytes) → IsMarkup (numbered_text number queue)
-numbered-read number queue = behind _ _ (number-read tag.B number) (behind _ _ of-read (name-read queue))
+numbered-read number queue = behind _ _ (spoken-read tag.B (decimal number)) (behind _ _ of-read (name-read queue))
 
 -- a note of a class
 noted : (name text : List ℕ) → IsFilled tag.P text → IsMarkup (start_text tag.P (class name ∷ []) ++ text)
@@ -82,7 +79,7 @@ count-read : (h : Held) (count : ℕ) → IsMarkup (count_text h count)
 count-read (held.Keys file bytes is_prefix) count = nothing
 count-read (held.Queue queue) count = nothing
 count-read (held.End queue is_writing) count = nothing
-count-read (held.Value value) count = behind _ _ times (number-read tag.I count)
+count-read (held.Value value) count = behind _ _ times (spoken-read tag.I (decimal count))
 
 -- A note on what is held: its class has a front, and a verb follows it.
 resource-read :
@@ -123,7 +120,7 @@ either false x y p q = q
 
 limit-read : (seconds : ℕ) → IsMarkup (limit_text seconds)
 limit-read seconds =
-    either (seconds == 0) _ _ nothing (behind _ _ (said (codes ", for "), refl) (behind _ _ (itself (numeral seconds)) (said (codes " seconds at most"), refl)))
+    either (seconds == 0) _ _ nothing (behind _ _ (said (codes ", for "), refl) (behind _ _ (itself (said (decimal seconds))) (said (codes " seconds at most"), refl)))
 
 asked-read : (h : Held) (rest : List ℕ) → IsFilled tag.P rest → IsMarkup (asked_text h ++ rest)
 asked-read (held.End queue false) rest f = noted (codes "ask rd") _ (then _ _ (said (codes "wants a record of "), refl) (then _ _ (name-read queue) f))
@@ -184,7 +181,7 @@ told-read outcomes (note.Set cell change stays) =
     set-read cell stays _ (then _ _ (cell-read cell) (then _ _ (said (codes ": "), refl) (then _ _ (change-read change) (stays-read stays))))
 told-read outcomes (note.Cursor queue before after) =
     noted (codes "cur") _ (then _ _ (said (codes "cursor of "), refl) (then _ _ (name-read queue) (then _ _ (said (codes ": "), refl)
-    (then _ _ (number-read tag.Del before) (then _ _ (said (codes " becomes "), refl) (then _ _ (number-read tag.Ins after) end))))))
+    (then _ _ (spoken-read tag.Del (decimal before)) (then _ _ (said (codes " becomes "), refl) (then _ _ (spoken-read tag.Ins (decimal after)) end))))))
 told-read outcomes (note.Ring labels) = noted (codes "ring") _ (then _ _ (said (codes "deadlock: "), refl) (then _ _ (itself (said (circle_text labels))) end))
 
 pub line-end : IsMarkup (codes "\n")

@@ -16,7 +16,7 @@ use Rattle.cics_picture.specs.Draw.Pictures.{Ran, outcomes_of}
 use Rattle.cics_picture.specs.Draw.Standings.{outcomes_at}
 use Rattle.cics_picture.specs.declared.page.lines.Sheet.{Sheet}
 use Rattle.cics_picture.specs.declared.page.notes.Note.{Note}
-use Rattle.cics_picture.specs.declared.page.recording.Step.{Step}
+use Rattle.cics_picture.specs.declared.page.recording.PageStep.{PageStep}
 use Rattle.cics_picture.specs.declared.page.recording.Pager.{Pager}
 use Rattle.cics_picture.specs.Page.Recording.{told_by, told_in}
 use Rattle.cics_picture.specs.Page.Lines.{PageLine, page_line, line_text, lines_text}
@@ -205,7 +205,7 @@ stands-ended sheet s rest script at none =
 
 -- what a page has of a line that a session ran, by the steps of its pager
 pub line-put :
-    (s : Session) (line : List ℕ) (stage : Stage) (followed shown : Pager) (steps : List Step) (defined : Option Note) →
+    (s : Session) (line : List ℕ) (stage : Stage) (followed shown : Pager) (steps : List PageStep) (defined : Option Note) →
     stage ≡ (next_step s line).stage → told_in followed ≡ (next_plain s line).steps →
     shown.steps ≡ followed.steps → steps ≡ shown.steps.items → defined ≡ defined_if (told_in followed) stage line
     → (plain (page_line line steps defined) ≡ next_plain s line) × (length (next_plain s line).steps ≡ length steps)

@@ -1,18 +1,12 @@
--- The digits of a number are plain, and shown as themselves.
-use Rattle.std.proofs.Common.{◌≡◌, ℕ, true, false, ◌==◌, ◌+◌, ◌%◌, ◌<◌, ◌^◌, List, [], ◌∷◌, ◌++◌, refl, ap, sym, ◌∙◌, map, arith, append_assoc}
+-- The digits of a number are plain.
+use Rattle.std.proofs.Common.{◌≡◌, ℕ, true, false, ◌==◌, ◌+◌, ◌%◌, ◌<◌, ◌^◌, List, [], ◌∷◌, ◌++◌, refl, ap, sym, ◌∙◌, arith, append_assoc}
 use Rattle.std.proofs.lemmas.Bool.Decides.{nat_tests}
 use Rattle.std.proofs.lemmas.List.Concat.{flat_map-append}
 use Rattle.std.proofs.lemmas.Fmt.{decimal_by_steps}
 use Rattle.std.specs.Fmt.{decimal}
 use Rattle.std.specs.Prelude.{nat_le}
-use Rattle.std.proofs.lemmas.List.{map-append}
-use Rattle.cics_picture.specs.Xml.Characters.{is_plain, shown, text_of, character_text}
-use Rattle.cics_picture.specs.Xml.Documents.{Empty, characters_before, said, numeral, element, number_of, document_text, moved_to, attribute_text}
-use Rattle.cics_picture.specs.Elements.{class, words, number_words, spoken}
-use Rattle.cics_picture.specs.Page.Texts.{number_element}
-use Rattle.cics_picture.specs.declared.xml.names.Tag.{Tag}
-use Rattle.cics_picture.specs.declared.xml.names.Tag.TheVariants.{Text}
-use Rattle.cics_picture.specs.declared.xml.names.Key.TheVariants.{X, Y}
+use Rattle.cics_picture.specs.Xml.Characters.{is_plain, text_of, character_text}
+use Rattle.cics_picture.specs.Xml.Documents.{moved_to, attribute_text}
 use lib.Chars.{codes}
 
 pub text-append : (a b : List ℕ) → text_of (a ++ b) ≡ text_of a ++ text_of b
@@ -46,31 +40,3 @@ moved_text x y fits_x fits_y =
     ∙ ap (λ t. text_of (decimal x) ++ (codes " " ++ t)) (text-append (decimal y) (codes ")"))) in
     ap (λ t. codes " transform=\"" ++ (t ++ codes "\"")) (inner ∙ (λ i. codes "translate(" ++ (decimal_text x fits_x i ++ (codes " " ++ (decimal_text y fits_y i ++ codes ")")))))
     ∙ simp (append_assoc) refl
-
-digit-shown : (n : ℕ) → n < 10 → shown (48 + n) ≡ 48 + n
-digit-shown n small =
-    let e1 : (48 + n == 10) ≡ false = grind (arith, nat_tests) in
-    let e2 : nat_le 32 (48 + n) ≡ true = grind (arith, nat_tests) in
-    let e3 : nat_le (48 + n) 126 ≡ true = grind (arith, nat_tests) in
-    rw (e1, e2, e3) refl
-
-one-shown : (n : ℕ) → n < 10 → map shown ((48 + n) ∷ []) ≡ (48 + n) ∷ []
-one-shown n small = ap (λ c. c ∷ []) (digit-shown n small)
-
-decimal-shown : (n : ℕ) → n < 2 ^ 64 → map shown (decimal n) ≡ decimal n
-decimal-shown n fits =
-    decimal_by_steps (λ n ds. map shown ds ≡ ds) one-shown
-    (λ n ds large front. map-append shown ds ((48 + n % 10) ∷ []) ∙ (λ i. front i ++ one-shown (n % 10) (omega arith) i)) n fits
-
--- a number that is put as a text
-pub numeral_said : (n : ℕ) → n < 2 ^ 64 → numeral n ≡ said (decimal n)
-numeral_said n fits = ap (λ cs. characters_before cs Empty) (sym (decimal-shown n fits))
-
-pub number_words_read : (name : List ℕ) (x y n : ℕ) → n < 2 ^ 64 → number_words name x y n ≡ words name x y (decimal n)
-unfolding number_words words
-number_words_read name x y n fits =
-    ap (λ d. document_text (element Text (class name ∷ number_of X x ∷ number_of Y y ∷ []) d)) (numeral_said n fits)
-
-pub number_element_read : (tag : Tag) (n : ℕ) → n < 2 ^ 64 → number_element tag n ≡ spoken tag (decimal n)
-unfolding number_element spoken
-number_element_read tag n fits = ap (λ d. document_text (element tag [] d)) (numeral_said n fits)

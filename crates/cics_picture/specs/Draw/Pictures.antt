@@ -20,8 +20,8 @@ use Rattle.cics_picture.specs.declared.drawing.Undrawn.{Undrawn}
 use Rattle.cics_picture.specs.declared.drawing.Undrawn.TheVariants as undrawns
 use Rattle.cics_history.specs.declared.ops.UnitState.{UnitState}
 use Rattle.cics_picture.specs.Draw.Titles.{title_of}
-use Rattle.cics_picture.specs.declared.bars.Look.{Look}
-use Rattle.cics_picture.specs.Draw.Standings.{standings_at, entries_at, outcomes_at, looks_at}
+use Rattle.cics_picture.specs.declared.bars.Fill.{Fill}
+use Rattle.cics_picture.specs.Draw.Standings.{standings_at, entries_at, outcomes_at, fills_at}
 use Rattle.cics_picture.specs.Draw.Recording.{recorded}
 use Rattle.cics_picture.specs.Draw.Reads.{shown_at, with_shown}
 use Rattle.cics_picture.specs.declared.draw.recording.Given.{Given}
@@ -57,9 +57,9 @@ printed_lines script = printed_from start (all_lines script)
 abbrev pub drawing_of : List ℕ → Drawn
 drawing_of script = drawn (printed_lines script)
 
--- how the bars of the units look after a script
-abbrev pub looks_of : List ℕ → List Look
-looks_of script = looks_at (play (all_lines script)).stage
+-- how the bars of the units are filled after a script
+abbrev pub fills_of : List ℕ → List Fill
+fills_of script = fills_at (play (all_lines script)).stage
 
 -- the outcomes of the units after a script
 abbrev pub outcomes_of : List ℕ → List UnitState
@@ -67,7 +67,7 @@ outcomes_of script = outcomes_at (play (all_lines script)).stage
 
 -- the picture of a script
 abbrev pub picture_of : List ℕ → List ℕ
-picture_of script = sheet (drawing_of script) (looks_of script) (title_of script)
+picture_of script = sheet (drawing_of script) (fills_of script) (title_of script)
 
 -- A session ran a line more.
 pub record Ran (s : Session) (line : List ℕ) (t : Session) : Type 0 where

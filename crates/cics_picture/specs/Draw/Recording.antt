@@ -19,27 +19,27 @@ use Rattle.cics_run.specs.Stage.Journal.{event_text, fault_text}
 use Rattle.cics_run.specs.Stage.Seen.{Sight, after_step}
 use Rattle.cics_run.specs.Stage.Stages.{Step}
 use Rattle.cics_run.specs.declared.stage.stage.Fault.{Fault}
-use Rattle.cics_picture.specs.declared.events.Kind.{Kind}
-use Rattle.cics_picture.specs.declared.events.Kind.TheVariants as kind
+use Rattle.cics_picture.specs.declared.events.RowKind.{RowKind}
+use Rattle.cics_picture.specs.declared.events.RowKind.TheVariants as kind
 use Rattle.cics_picture.specs.declared.events.Told.{Told}
 use Rattle.cics_picture.specs.Draw.Notes.{note_of}
 use Rattle.cics_picture.specs.declared.draw.recording.Given.{Given}
 use Rattle.cics_picture.specs.declared.draw.recording.Recorder.{Recorder}
 
 -- the kind of a command's outcome
-abbrev pub outcome_kind : Outcome → Kind
+abbrev pub outcome_kind : Outcome → RowKind
 outcome_kind (Replied reply) = if is_normal reply.condition then kind.Normal else kind.Condition
 outcome_kind (Waiting holder) = kind.Waiting
 outcome_kind (Abended code reply) = kind.Abended
 outcome_kind Ended = kind.Ended
 
 -- the kind of a waiting command's outcome
-abbrev pub woken_kind : Kind → Kind
+abbrev pub woken_kind : RowKind → RowKind
 woken_kind kind.Normal = kind.Woken
 woken_kind other = other
 
 -- the kind of an event
-abbrev pub kind_of : Event → Kind
+abbrev pub kind_of : Event → RowKind
 kind_of (event.Attached label transaction) = kind.Attached
 kind_of (event.Issued label outcome reason) = outcome_kind outcome
 kind_of (event.Woken w) = woken_kind (outcome_kind w.outcome)
@@ -49,18 +49,18 @@ kind_of (event.ShutDown units) = kind.Down
 kind_of (event.Refused who refusal) = kind.Refused
 
 -- the kind of a command's answer NORMAL: SYNCPOINT and ROLLBACK have kinds of their own
-abbrev pub verb_kind : Verb → Kind
+abbrev pub verb_kind : Verb → RowKind
 verb_kind Syncpoint = kind.Committed
 verb_kind Rollback = kind.BackedOut
 verb_kind verb = kind.Normal
 
 -- the kind of the answer NORMAL to a request
-abbrev pub answered_as : Request → Kind
+abbrev pub answered_as : Request → RowKind
 answered_as (Issue label c) = verb_kind c.verb
 answered_as request = kind.Normal
 
 -- the kind of a row, by that of the answer NORMAL and that of its event
-abbrev pub marked_kind : Kind → Kind → Kind
+abbrev pub marked_kind : RowKind → RowKind → RowKind
 marked_kind answered kind.Normal = answered
 marked_kind answered other = other
 
@@ -86,7 +86,7 @@ blocker_in (event.Issued label (Waiting holder) reason) = Some holder
 blocker_in other = None
 
 -- what the row of an event tells, by the kind of the answer NORMAL
-abbrev pub told_of : Kind → Event → Told
+abbrev pub told_of : RowKind → Event → Told
 told_of answered e = record { kind = marked_kind answered (kind_of e); task = task_of e; blocker = blocker_in e; text = event_text e; note = note_of e }
 
 -- the fault of the script's line with this number, as the journal has it
@@ -118,7 +118,7 @@ later before (Some given) = Some given
 pub record Recorded : Type 0 where
   pub told : List Told
   pub given : Option Given
-  pub normal : Kind
+  pub normal : RowKind
 
 -- what a recorder has kept
 abbrev pub recorded_in : Recorder → Recorded

@@ -15,8 +15,8 @@ use Rattle.cics_dispatch.specs.Machine.Blockers.{label_at, number_of, unit_of, b
 use Rattle.cics_dispatch.specs.Deadlocks.Circles.{Leads}
 use Rattle.cics_dispatch.specs.Deadlocks.Deadlocks.{blockers_at, in_deadlock}
 use Rattle.cics_picture.specs.declared.bars.Standing.{Standing}
-use Rattle.cics_picture.specs.declared.bars.Look.{Look}
-use Rattle.cics_picture.specs.declared.bars.Look.TheVariants.{Open as LooksOpen, Filled, Hollow}
+use Rattle.cics_picture.specs.declared.bars.Fill.{Fill}
+use Rattle.cics_picture.specs.declared.bars.Fill.TheVariants.{Open as OpenFill, Filled, Hollow}
 use Rattle.cics_picture.specs.Lanes.{most_lanes}
 use Rattle.cics_picture.specs.Bars.{nobody}
 use Rattle.cics_run.specs.declared.stage.stage.Stage.{Stage}
@@ -88,12 +88,12 @@ abbrev pub outcomes_at : Stage → List UnitState
 outcomes_at (Opening o) = []
 outcomes_at (Running r) = r.machine.units.outcomes
 
--- how the bar of a unit looks
-abbrev pub look_of : UnitState → Look
-look_of Open = LooksOpen
-look_of Committed = Filled
-look_of BackedOut = Hollow
+-- how the bar of a unit is filled
+abbrev pub fill_of : UnitState → Fill
+fill_of Open = OpenFill
+fill_of Committed = Filled
+fill_of BackedOut = Hollow
 
--- how the bar of each unit looks, by its number
-abbrev pub looks_at : Stage → List Look
-looks_at stage = map look_of (outcomes_at stage)
+-- how the bar of each unit is filled, by its number
+abbrev pub fills_at : Stage → List Fill
+fills_at stage = map fill_of (outcomes_at stage)

@@ -2,8 +2,8 @@
 use Rattle.std.specs.Prelude.{Bool, true, false, Option, Some, None, ℕ, List}
 use Rattle.cics_dispatch.specs.declared.machine.events.Event.{Event}
 use Rattle.cics_dispatch.specs.declared.machine.events.Event.TheVariants.{Woken as WokenEvent}
-use Rattle.cics_picture.specs.declared.events.Kind.{Kind}
-use Rattle.cics_picture.specs.declared.events.Kind.TheVariants as kind
+use Rattle.cics_picture.specs.declared.events.RowKind.{RowKind}
+use Rattle.cics_picture.specs.declared.events.RowKind.TheVariants as kind
 use lib.Chars.{codes}
 
 -- whether a waiting command is answered
@@ -12,7 +12,7 @@ is_woken (WokenEvent woken) = true
 is_woken other = false
 
 -- the class of an event of a kind; of no kind is a fault
-abbrev pub kind_class : Option Kind → List ℕ
+abbrev pub kind_class : Option RowKind → List ℕ
 kind_class (Some kind.Attached) = codes "att"
 kind_class (Some kind.Normal) = codes "ans"
 kind_class (Some kind.Woken) = codes "ans"

@@ -7,7 +7,7 @@ use Rattle.cics_picture.specs.declared.page.head.TheConstants.{HEAD}
 use Rattle.cics_picture.specs.declared.page.body.TheConstants.{BODY}
 use Rattle.cics_picture.specs.declared.page.player.TheConstants.{PLAYER}
 use Rattle.cics_picture.specs.declared.page.notes.Note.{Note}
-use Rattle.cics_picture.specs.declared.page.recording.Step.{Step}
+use Rattle.cics_picture.specs.declared.page.recording.PageStep.{PageStep}
 use Rattle.cics_picture.specs.Xml.Characters.{text_of}
 use Rattle.cics_picture.specs.Elements.{spoken, cut}
 use Rattle.cics_picture.specs.Page.Kinds.{kind_class, woken_class}
@@ -17,27 +17,27 @@ use lib.Chars.{codes}
 -- A line that was run: its bytes, its steps, and if it has none what it defines.
 pub record PageLine : Type 0 where
   pub line : List ℕ
-  pub steps : List Step
+  pub steps : List PageStep
   pub defined : Option Note
 
 -- a line of these
-abbrev pub page_line : List ℕ → List Step → Option Note → PageLine
+abbrev pub page_line : List ℕ → List PageStep → Option Note → PageLine
 page_line line steps defined = record { line = line; steps = steps; defined = defined }
 
 -- the start of the step with this number
-abbrev pub div : ℕ → Step → List ℕ
+abbrev pub div : ℕ → PageStep → List ℕ
 div number s = codes "<div id=\"s" ++ (text_of (decimal number) ++ (codes "\" class=\"" ++ (woken_class s.is_woken ++ (kind_class s.kind ++ codes "\">"))))
 
 -- the line of the journal, and the notes
-abbrev pub rest : List UnitState → Step → List ℕ
+abbrev pub rest : List UnitState → PageStep → List ℕ
 rest outcomes s = spoken tag.Samp s.text ++ (codes "\n" ++ (notes_text outcomes s.notes ++ codes "</div>"))
 
 -- a step, with the text of the line that it is the first of, or nothing
-abbrev pub step_text : List UnitState → ℕ → List ℕ → Step → List ℕ
+abbrev pub step_text : List UnitState → ℕ → List ℕ → PageStep → List ℕ
 step_text outcomes number code s = div number s ++ (code ++ (codes "\n" ++ rest outcomes s))
 
 -- steps from this number on, the first of them with the line
-abbrev pub steps_text : List UnitState → ℕ → List ℕ → List Step → List ℕ
+abbrev pub steps_text : List UnitState → ℕ → List ℕ → List PageStep → List ℕ
 steps_text outcomes number code [] = []
 steps_text outcomes number code (s ∷ steps) = step_text outcomes number code s ++ steps_text outcomes (number + 1) [] steps
 
@@ -51,7 +51,7 @@ abbrev pub quiet_text : List UnitState → List ℕ → Option Note → List ℕ
 quiet_text outcomes code defined = code ++ (codes "\n" ++ defined_text outcomes defined)
 
 -- what a line has, with steps from this number on
-abbrev pub inside_text : List UnitState → ℕ → List ℕ → Option Note → List Step → List ℕ
+abbrev pub inside_text : List UnitState → ℕ → List ℕ → Option Note → List PageStep → List ℕ
 inside_text outcomes number line defined [] = quiet_text outcomes (spoken tag.Code line) defined
 inside_text outcomes number line defined (s ∷ steps) = steps_text outcomes number (spoken tag.Code line) (s ∷ steps)
 

@@ -4,24 +4,24 @@ use Rattle.cics_run.specs.Stage.Journal.{event_text}
 use Rattle.cics_run.specs.Stage.Seen.{Sight, after_step}
 use Rattle.cics_run.specs.Stage.Stages.{Step as RunStep}
 use Rattle.cics_picture.specs.Draw.Recording.{kind_of, told_fault}
-use Rattle.cics_picture.specs.declared.events.Kind.{Kind}
-use Rattle.cics_picture.specs.declared.page.recording.Step.{Step}
+use Rattle.cics_picture.specs.declared.events.RowKind.{RowKind}
+use Rattle.cics_picture.specs.declared.page.recording.PageStep.{PageStep}
 use Rattle.cics_picture.specs.declared.page.recording.Pager.{Pager}
 use Rattle.cics_picture.specs.Page.Kinds.{is_woken}
 
 -- A step without its notes: the kind of its event, whether a waiting command is answered, and the
 -- line of the journal. A fault has no kind.
 pub record Told : Type 0 where
-  pub kind : Option Kind
+  pub kind : Option RowKind
   pub is_woken : Bool
   pub text : List ℕ
 
 -- a step of these
-abbrev pub told : Option Kind → Bool → List ℕ → Told
+abbrev pub told : Option RowKind → Bool → List ℕ → Told
 told kind is_woken text = record { kind = kind; is_woken = is_woken; text = text }
 
 -- what a step tells beside its notes
-abbrev pub told_by : Step → Told
+abbrev pub told_by : PageStep → Told
 told_by s = told s.kind s.is_woken s.text
 
 -- what the steps of a pager tell

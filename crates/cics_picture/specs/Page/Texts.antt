@@ -1,6 +1,7 @@
 -- The notes of a page.
 use Rattle.std.specs.Prelude.{ℕ, Bool, true, false, ◌==◌, if◌then◌else◌, List, [], ◌∷◌, ◌++◌}
 use Rattle.std.specs.List.{flat_map}
+use Rattle.std.specs.Fmt.{decimal}
 use Rattle.cics_names.specs.Keyed.{Bytes}
 use Rattle.cics_script.specs.Texts as texts
 use Rattle.cics_run.specs.Listing.Listings.{recoverable_title, recovery_title}
@@ -19,7 +20,7 @@ use Rattle.cics_picture.specs.declared.page.notes.Wanted.{Wanted}
 use Rattle.cics_picture.specs.declared.page.notes.Wanted.TheVariants as wanted
 use Rattle.cics_picture.specs.declared.page.notes.Note.{Note}
 use Rattle.cics_picture.specs.declared.page.notes.Note.TheVariants as note
-use Rattle.cics_picture.specs.Xml.Documents.{element, numeral, said, document_text}
+use Rattle.cics_picture.specs.Xml.Documents.{said, document_text}
 use Rattle.cics_picture.specs.Elements.{spoken}
 use lib.Chars.{codes}
 
@@ -31,17 +32,13 @@ name_element name = spoken tag.I (texts.name_text name)
 abbrev pub bytes_element : Tag → Bytes → List ℕ
 bytes_element name bytes = spoken name (texts.text_of bytes)
 
--- a number
-unfoldable pub number_element : Tag → ℕ → List ℕ
-number_element name n = document_text (element name [] (numeral n))
-
 -- a key of a file, and a number of something of a queue
 abbrev pub key_text : Bytes → Bytes → List ℕ
 key_text key file = bytes_element tag.B key ++ (codes " of " ++ name_element file)
 
 -- the number of an item or a record, and its queue
 abbrev pub numbered_text : ℕ → Bytes → List ℕ
-numbered_text number queue = number_element tag.B number ++ (codes " of " ++ name_element queue)
+numbered_text number queue = spoken tag.B (decimal number) ++ (codes " of " ++ name_element queue)
 
 -- a definition
 abbrev pub definition_text : List ℕ → Bytes → List ℕ → List ℕ
@@ -78,7 +75,7 @@ resource_text front verb held = front ++ (held_class held ++ (verb ++ (held_word
 
 -- of a value, how often it was enqueued and not dequeued
 abbrev pub count_text : Held → ℕ → List ℕ
-count_text (held.Value value) count = codes " &#215;" ++ number_element tag.I count
+count_text (held.Value value) count = codes " &#215;" ++ spoken tag.I (decimal count)
 count_text other count = []
 
 -- what is held, and what is released while its unit goes on
@@ -101,7 +98,7 @@ wanted_text (wanted.BothEnds queue) = codes "<p class=\"ask td\">wants both ends
 
 -- how long the task waits at most, if there is a limit
 abbrev pub limit_text : ℕ → List ℕ
-limit_text seconds = if seconds == 0 then [] else codes ", for " ++ (document_text (numeral seconds) ++ codes " seconds at most")
+limit_text seconds = if seconds == 0 then [] else codes ", for " ++ (document_text (said (decimal seconds)) ++ codes " seconds at most")
 
 -- a unit that begins, by how it ends
 abbrev pub begins_text : UnitState → List ℕ
@@ -147,7 +144,7 @@ set_text cell change stays = set_start cell stays ++ (cell_text cell ++ (codes "
 abbrev pub cursor_text : Bytes → ℕ → ℕ → List ℕ
 cursor_text queue before after =
     (codes "<p class=\"cur\">cursor of " ++ name_element queue)
-    ++ (codes ": " ++ (number_element tag.Del before ++ (codes " becomes " ++ (number_element tag.Ins after ++ codes "</p>"))))
+    ++ (codes ": " ++ (spoken tag.Del (decimal before) ++ (codes " becomes " ++ (spoken tag.Ins (decimal after) ++ codes "</p>"))))
 
 -- a task, and the task for which it waits
 abbrev pub waits_text : Bytes → Bytes → List ℕ

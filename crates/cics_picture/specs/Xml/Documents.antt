@@ -52,10 +52,6 @@ characters_before (c ∷ cs) d = Character c (characters_before cs d)
 abbrev pub said : List ℕ → Document
 said bytes = characters_before (map shown bytes) Empty
 
--- the digits of a number
-abbrev pub numeral : ℕ → Document
-numeral n = characters_before (decimal n) Empty
-
 -- an element alone
 abbrev pub element : Tag → List Attribute → Document → Document
 element tag attributes inside = Element tag attributes inside Empty

@@ -1,59 +1,26 @@
 //! The lines of a script, run and drawn.
 
-ghost use Rattle.std.specs.Prelude.{◌≡◌, ◌↔◌, ◌++◌, ◌<◌, ◌≤◌, ◌+◌, ◌^◌, [], List, ℕ, IfOk};
-ghost use Rattle.std.specs.Prelude.{IfErr, OnOk, length};
+ghost use Rattle.std.specs.Prelude.{◌≡◌, ◌++◌, ◌<◌, ◌≤◌, ◌+◌, ◌^◌, [], IfOk, IfErr, OnOk, length};
 ghost use Rattle.cics_run.specs.Session.Standing.{IsNew, next_step};
 ghost use Rattle.cics_run.specs.Session.Lines.{all_lines};
-ghost use Rattle.cics_run.specs.Stage.Seen.{after_step};
 ghost use Rattle.cics_run.specs.Session.Running.{is_faulty, play};
+ghost use Rattle.cics_run.specs.Stage.Seen.{after_step};
 ghost use Rattle.cics_picture.specs.Lanes.{most_lanes, most_rows};
 ghost use Rattle.cics_picture.specs.Drawings.{drawn_of, nothing_drawn, with_line, rows_of};
-ghost use Rattle.cics_picture.specs.Drawings.{Row, all_rows, events_of};
 ghost use Rattle.cics_picture.specs.declared.drawing.Undrawn.TheVariants.{TooManyRows};
-ghost use Rattle.cics_picture.specs.Draw.Pictures.{next_printed, printed_lines, drawing_of, picture_of};
-ghost use Rattle.cics_picture.specs.Draw.Pictures.{standings_behind};
-ghost use Rattle.cics_run.specs.declared.stage.stage.Stage.{Stage};
-ghost use Rattle.cics_picture.specs.Draw.Blocking.{NamesBlocker};
+ghost use Rattle.cics_picture.specs.Draw.Pictures.{next_printed, drawing_of, picture_of};
+ghost use Rattle.cics_picture.specs.Draw.Pictures.{standings_behind, RunsLine, KeepsLast};
 ghost use Rattle.cics_picture.specs.Draw.Recording.{recorded_in, nothing_recorded, recorded};
-ghost use Rattle.cics_picture.specs.Draw.Pictures.{RunsLine, KeepsLast, looks_of, outcomes_of};
-ghost use Rattle.cics_history.specs.Headline.{outcome_of};
-ghost use Rattle.cics_history.specs.declared.ops.UnitState.TheVariants.{Committed, BackedOut};
-ghost use Rattle.cics_picture.specs.Bars.{bar_text, filled, hollow};
-ghost use Rattle.cics_picture.specs.declared.bars.Bar.{Bar};
 
 use crate::draw::reads::{shown_at, with_shown};
 use crate::draw::recording::{Given, Recorder};
-use crate::draw::standings::{entries_at, looks_at, standings_at};
+use crate::draw::standings::{entries_at, fills_at, standings_at};
 use crate::draw::titles::title_of;
 use crate::{Drawing, Standing, Undrawn, push_sheet};
 use cics_names::{Items, NoMemory};
 use cics_run::session::Session;
 use cics_run::stage::Observer;
 use cics_run::whole::next_line;
-
-/// The rows of a picture show what the run prints, in order: their events, each with its LF, are
-/// the journal.
-pub fn rows_are_the_journal()
-    ensures { (script : List ℕ)
-        → events_of (all_rows (printed_lines script)) ≡ (play (all_lines script)).journal }
-{}
-
-/// In the picture of a script a unit's bar is filled exactly if its outcome is Committed, and
-/// hollow exactly if it is BackedOut.
-pub fn bars_tell_outcomes()
-    ensures filled { (script : List ℕ) (b : Bar) → (bar_text (looks_of script) b ≡ filled b)
-        ↔ (outcome_of (outcomes_of script) b.unit ≡ Committed) }
-    ensures hollow { (script : List ℕ) (b : Bar) → (bar_text (looks_of script) b ≡ hollow b)
-        ↔ (outcome_of (outcomes_of script) b.unit ≡ BackedOut) }
-{}
-
-/// If a command of a line has to wait, the row of the line has exactly one arrow. It leads from the
-/// lane of its task to that of the task that blocks it then (`Region::blocker`). This supposes that
-/// rows before it attach both tasks, and at most sixteen in all.
-pub fn waits_name_blockers()
-    ensures { (before : List Row) (number : ℕ) (stage : Stage) (line : List ℕ)
-        → NamesBlocker before number stage line }
-{}
 
 /// Runs a line and returns whether it has a fault. The observer sees what it leads to. The session
 /// keeps a line with a fault, for what is told on standard error.
@@ -169,7 +136,7 @@ pub fn draw_script(session: &mut Session, script: &[u8], out: &mut Vec<u8>) -> R
 {
     let mut drawing = Drawing::new(*out.allocator());
     let is_faulty = draw_lines(session, &mut drawing, script)?;
-    let looks = looks_at(*out.allocator(), &session.stage)?;
-    push_sheet(out, &mut drawing, looks.as_slice(), title_of(script))?;
+    let fills = fills_at(*out.allocator(), &session.stage)?;
+    push_sheet(out, &mut drawing, fills.as_slice(), title_of(script))?;
     Ok(is_faulty)
 }

@@ -45,8 +45,8 @@ pub(crate) fn run_status(is_faulty: bool) -> Status
 
 /// Runs the script that a source gives, and writes its picture, when all is read and run.
 ///
-/// It reads at most `LIMIT` bytes, and one more to see whether there are more. The picture of a
-/// script with a fault ends with the fault. The session is a new one, and is left to its owner.
+/// It reads at most `MOST_SCRIPT_BYTES`, and one more to see whether there are more. The picture of
+/// a script with a fault ends with the fault. The session is a new one, and is left to its owner.
 ///
 /// Returns how the run ended, or why there is no picture. It returns a read or a write fault only
 /// if that very call failed, and tries none again. After a fault the session keeps the line with

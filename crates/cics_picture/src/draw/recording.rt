@@ -10,7 +10,7 @@ ghost use Rattle.cics_picture.specs.Draw.Recording.{fault_told, told_fault, give
 ghost use Rattle.cics_picture.specs.Draw.Recording.{recorded_in, nothing_recorded};
 
 use crate::draw::notes::note_of;
-use crate::{Kind, Told};
+use crate::{RowKind, Told};
 use cics_dispatch::{Event, Outcome, Region, Request, Subject};
 use cics_names::{Condition, Name8, NoMemory, Record, Verb};
 use cics_run::stage::journal::{push_event, push_fault};
@@ -32,66 +32,66 @@ pub struct Recorder {
     /// What the line's command was given, if that is data.
     pub given: Option<Given>,
     /// The kind of the answer NORMAL to what the line asks.
-    pub normal: Kind,
+    pub normal: RowKind,
 }
 
-fn outcome_kind(outcome: &Outcome) -> Kind
+fn outcome_kind(outcome: &Outcome) -> RowKind
     ensures { result ≡ outcome_kind outcome.now }
 {
     match outcome {
-        Outcome::Replied(reply) if reply.condition == Condition::Normal => Kind::Normal,
-        Outcome::Replied(_) => Kind::Condition,
-        Outcome::Waiting(_) => Kind::Waiting,
-        Outcome::Abended(_, _) => Kind::Abended,
-        Outcome::Ended => Kind::Ended,
+        Outcome::Replied(reply) if reply.condition == Condition::Normal => RowKind::Normal,
+        Outcome::Replied(_) => RowKind::Condition,
+        Outcome::Waiting(_) => RowKind::Waiting,
+        Outcome::Abended(_, _) => RowKind::Abended,
+        Outcome::Ended => RowKind::Ended,
     }
 }
 
 // Returns the kind of a waiting command's outcome.
-fn woken_kind(kind: Kind) -> Kind
+fn woken_kind(kind: RowKind) -> RowKind
     ensures { result ≡ woken_kind kind }
 {
     match kind {
-        Kind::Normal => Kind::Woken,
+        RowKind::Normal => RowKind::Woken,
         other => other,
     }
 }
 
 /// Returns the kind of an event.
-pub fn kind_of(event: &Event) -> Kind
+pub fn kind_of(event: &Event) -> RowKind
     ensures { result ≡ kind_of event.now }
 {
     match event {
-        Event::Attached(_, _) => Kind::Attached,
+        Event::Attached(_, _) => RowKind::Attached,
         Event::Issued(_, outcome, _) => outcome_kind(outcome),
         Event::Woken(woken) => woken_kind(outcome_kind(&woken.outcome)),
-        Event::Expired(_) => Kind::Abended,
-        Event::ClockSet(_) => Kind::Clock,
-        Event::ShutDown(_) => Kind::Down,
-        Event::Refused(_, _) => Kind::Refused,
+        Event::Expired(_) => RowKind::Abended,
+        Event::ClockSet(_) => RowKind::Clock,
+        Event::ShutDown(_) => RowKind::Down,
+        Event::Refused(_, _) => RowKind::Refused,
     }
 }
 
 // Returns the kind of the answer NORMAL to a request: SYNCPOINT and ROLLBACK have kinds of their own.
-fn answered_as(request: &Request) -> Kind
+fn answered_as(request: &Request) -> RowKind
     ensures { result ≡ answered_as request.now }
 {
     match request {
         Request::Issue(_, command) => match command.verb {
-            Verb::Syncpoint => Kind::Committed,
-            Verb::Rollback => Kind::BackedOut,
-            _ => Kind::Normal,
+            Verb::Syncpoint => RowKind::Committed,
+            Verb::Rollback => RowKind::BackedOut,
+            _ => RowKind::Normal,
         },
-        _ => Kind::Normal,
+        _ => RowKind::Normal,
     }
 }
 
 // Returns the kind of a row, by that of its event and that of the answer NORMAL.
-fn marked_kind(normal: Kind, kind: Kind) -> Kind
+fn marked_kind(normal: RowKind, kind: RowKind) -> RowKind
     ensures { result ≡ marked_kind normal kind }
 {
     match kind {
-        Kind::Normal => normal,
+        RowKind::Normal => normal,
         other => other,
     }
 }
@@ -146,7 +146,7 @@ pub fn text_of(alloc: Global, event: &Event) -> Result<Record, NoMemory>
 }
 
 // Returns what the row of an event tells. `normal` is the kind of the answer NORMAL.
-fn told_of(alloc: Global, normal: Kind, event: &Event) -> Result<Told, NoMemory>
+fn told_of(alloc: Global, normal: RowKind, event: &Event) -> Result<Told, NoMemory>
     ensures { IfOk result (λ told. told ≡ told_of normal event.now) }
 {
     Ok(Told {
@@ -172,7 +172,7 @@ fn fault_told(alloc: Global, number: u64, fault: Fault) -> Result<Told, NoMemory
     ensures { IfOk result (λ told. told ≡ fault_told number fault) }
 {
     Ok(Told {
-        kind: Kind::Down,
+        kind: RowKind::Down,
         task: None,
         blocker: None,
         text: fault_text(alloc, number, fault)?,
@@ -219,7 +219,7 @@ impl Recorder {
         Recorder {
             told: Vec::new(alloc),
             given: None,
-            normal: Kind::Normal,
+            normal: RowKind::Normal,
         }
     }
 }

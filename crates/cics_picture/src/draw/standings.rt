@@ -9,10 +9,10 @@ ghost use Rattle.cics_history.specs.Borrowed.{as_op};
 ghost use Rattle.cics_picture.specs.Lanes.{most_lanes};
 ghost use Rattle.cics_picture.specs.Draw.Standings.{shown_deadlocks, blocker_at, standing_at, standings_of};
 ghost use Rattle.cics_picture.specs.Draw.Standings.{is_change, stays, any_stays, marked_at, entries_at};
-ghost use Rattle.cics_picture.specs.Draw.Standings.{standings_at, outcomes_at, look_of, looks_at};
+ghost use Rattle.cics_picture.specs.Draw.Standings.{standings_at, outcomes_at, fill_of, fills_at};
 ghost use Rattle.cics_picture.specs.Draw.Standings.{IsInDeadlock};
 
-use crate::{Look, MOST_LANES, NOBODY, Standing};
+use crate::{Fill, MOST_LANES, NOBODY, Standing};
 use cics_dispatch::Region;
 use cics_dispatch::deadlocks::in_deadlock;
 use cics_history::{Entry, OpRef, UnitState};
@@ -193,27 +193,27 @@ pub fn outcomes_at(stage: &Stage) -> &[UnitState]
     }
 }
 
-// How the bar of a unit looks.
-fn look_of(outcome: UnitState) -> Look
-    ensures { result ≡ look_of outcome }
+// How the bar of a unit is filled.
+fn fill_of(outcome: UnitState) -> Fill
+    ensures { result ≡ fill_of outcome }
 {
     match outcome {
-        UnitState::Open => Look::Open,
-        UnitState::Committed => Look::Filled,
-        UnitState::BackedOut => Look::Hollow,
+        UnitState::Open => Fill::Open,
+        UnitState::Committed => Fill::Filled,
+        UnitState::BackedOut => Fill::Hollow,
     }
 }
 
-/// Returns how the bar of each unit looks, by its number.
+/// Returns how the bar of each unit is filled, by its number.
 ///
 /// Errors: `NoMemory`. Cost: O(units).
-pub fn looks_at(alloc: Global, stage: &Stage) -> Result<Items<Look>, NoMemory>
-    ensures { IfOk result (λ looks. looks ≡ looks_at stage.now) }
+pub fn fills_at(alloc: Global, stage: &Stage) -> Result<Items<Fill>, NoMemory>
+    ensures { IfOk result (λ fills. fills ≡ fills_at stage.now) }
 {
     let outcomes = outcomes_at(stage);
-    let mut looks = Items::new(alloc);
+    let mut fills = Items::new(alloc);
     for outcome in outcomes {
-        looks.push(look_of(*outcome))?;
+        fills.push(fill_of(*outcome))?;
     }
-    Ok(looks)
+    Ok(fills)
 }

@@ -3,7 +3,7 @@
 ghost use Rattle.std.specs.Prelude.{◌≡◌};
 ghost use Rattle.cics_picture.specs.Page.Kinds.{is_woken, kind_class, woken_class};
 
-use crate::Kind;
+use crate::RowKind;
 use cics_dispatch::Event;
 
 /// Returns whether a waiting command is answered.
@@ -14,19 +14,19 @@ pub fn is_woken(event: &Event) -> bool
 }
 
 /// Returns the class of an event of a kind. A fault is of none.
-pub fn kind_class(kind: Option<Kind>) -> &'static str
+pub fn kind_class(kind: Option<RowKind>) -> &'static str
     ensures { result.now ≡ kind_class kind }
 {
     match kind {
-        Some(Kind::Attached) => "att",
-        Some(Kind::Normal | Kind::Woken | Kind::Committed | Kind::BackedOut) => "ans",
-        Some(Kind::Condition) => "con",
-        Some(Kind::Waiting) => "wai",
-        Some(Kind::Ended) => "end",
-        Some(Kind::Abended) => "abe",
-        Some(Kind::Refused) => "ref",
-        Some(Kind::Clock) => "clk",
-        Some(Kind::Down) => "dwn",
+        Some(RowKind::Attached) => "att",
+        Some(RowKind::Normal | RowKind::Woken | RowKind::Committed | RowKind::BackedOut) => "ans",
+        Some(RowKind::Condition) => "con",
+        Some(RowKind::Waiting) => "wai",
+        Some(RowKind::Ended) => "end",
+        Some(RowKind::Abended) => "abe",
+        Some(RowKind::Refused) => "ref",
+        Some(RowKind::Clock) => "clk",
+        Some(RowKind::Down) => "dwn",
         None => "flt",
     }
 }

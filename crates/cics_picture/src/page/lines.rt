@@ -13,7 +13,7 @@ use crate::elements::push_spoken;
 use crate::page::kinds::{kind_class, woken_class};
 use crate::page::notes::Note;
 use crate::page::pieces::{Piece, push_pieces};
-use crate::page::recording::Step;
+use crate::page::recording::PageStep;
 use crate::page::texts::{push_note, push_notes};
 use crate::xml::Tag;
 use cics_history::UnitState;
@@ -60,7 +60,7 @@ pub struct Sheet {
 }
 
 // Puts what a step tells.
-fn push_rest(out: &mut Vec<u8>, outcomes: &[UnitState], step: &Step) -> Result<(), NoMemory>
+fn push_rest(out: &mut Vec<u8>, outcomes: &[UnitState], step: &PageStep) -> Result<(), NoMemory>
     ensures { OnOk result (out.new.items ≡ out.old.items ++ rest outcomes.now step.now) }
 {
     push_pieces(
@@ -103,7 +103,7 @@ impl Sheet {
     }
 
     // Puts a step, with the text of the line that it is the first of, or nothing.
-    fn push_step(&mut self, code: &[u8], step: &Step) -> Result<(), NoMemory>
+    fn push_step(&mut self, code: &[u8], step: &PageStep) -> Result<(), NoMemory>
         requires { self.old.steps < most_steps }
         ensures text { OnOk result (self.new.text.items ≡ self.old.text.items
             ++ step_text (outcomes_at self.old.last) (self.old.steps + 1) code.now step.now) }
@@ -129,7 +129,7 @@ impl Sheet {
     }
 
     // Puts steps, the first of them with the text of the line.
-    fn push_steps(&mut self, code: &[u8], steps: &[Step]) -> Result<(), NoMemory>
+    fn push_steps(&mut self, code: &[u8], steps: &[PageStep]) -> Result<(), NoMemory>
         requires { self.old.steps + length steps.now ≤ most_steps }
         ensures text { OnOk result (self.new.text.items ≡ self.old.text.items
             ++ steps_text (outcomes_at self.old.last) (self.old.steps + 1) code.now steps.now) }
@@ -148,7 +148,7 @@ impl Sheet {
     fn push_inside(
         &mut self,
         line: &[u8],
-        steps: &[Step],
+        steps: &[PageStep],
         defined: &Option<Note>,
     ) -> Result<(), NoMemory>
         requires { self.old.steps + length steps.now ≤ most_steps }
@@ -172,7 +172,7 @@ impl Sheet {
     pub fn push_line(
         &mut self,
         line: &[u8],
-        steps: &[Step],
+        steps: &[PageStep],
         defined: &Option<Note>,
     ) -> Result<(), Unwritten>
         ensures text { OnOk result (HasLine self.old self.new.text.items

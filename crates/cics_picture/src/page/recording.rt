@@ -3,7 +3,7 @@
 ghost use Rattle.std.specs.Prelude.{◌≡◌, [], IfOk, OnOk};
 ghost use Rattle.cics_picture.specs.Page.Recording.{told_by, told_in};
 
-use crate::Kind;
+use crate::RowKind;
 use crate::draw::{fault_text, kind_of, text_of};
 use crate::page::kinds::is_woken;
 use crate::page::notes::Note;
@@ -15,9 +15,9 @@ use std::alloc::Global;
 
 /// A line of the journal, and what its event changed.
 #[derive(Drop)]
-pub struct Step {
+pub struct PageStep {
     /// The kind of the event; a fault has none.
-    pub kind: Option<Kind>,
+    pub kind: Option<RowKind>,
     /// Whether a waiting command is answered.
     pub is_woken: bool,
     /// The line of the journal, without its LF.
@@ -29,11 +29,11 @@ pub struct Step {
 #[derive(Drop)]
 pub struct Pager {
     pub viewer: Viewer,
-    pub steps: Vec<Step>,
+    pub steps: Vec<PageStep>,
 }
 
 // Returns a step with the circles of deadlocks behind its notes.
-fn with_rings(step: Step, rings: Items<Items<Name8>>) -> Result<Step, NoMemory>
+fn with_rings(step: PageStep, rings: Items<Items<Name8>>) -> Result<PageStep, NoMemory>
     ensures { IfOk result (λ ringed. told_by ringed ≡ told_by step) }
 {
     let mut step = step;
@@ -106,7 +106,7 @@ impl Observer for Pager {
     fn see(&mut self, _number: u64, event: &Event, region: &Region) -> Result<(), NoMemory> {
         let alloc = *self.steps.allocator();
         let notes = self.viewer.notes_of(event, region)?;
-        self.steps.push(Step {
+        self.steps.push(PageStep {
             kind: Some(kind_of(event)),
             is_woken: is_woken(event),
             text: text_of(alloc, event)?,
@@ -117,7 +117,7 @@ impl Observer for Pager {
 
     fn see_fault(&mut self, number: u64, fault: Fault) -> Result<(), NoMemory> {
         let alloc = *self.steps.allocator();
-        self.steps.push(Step {
+        self.steps.push(PageStep {
             kind: None,
             is_woken: false,
             text: fault_text(alloc, number, fault)?,

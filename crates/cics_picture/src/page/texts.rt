@@ -186,15 +186,24 @@ fn begins_text(outcome: UnitState) -> &'static str
     }
 }
 
+// Puts what a waiting command wants, and how long its task waits at most.
+fn push_wait(out: &mut Vec<u8>, wanted: &Wanted, seconds: u64) -> Result<(), NoMemory>
+    ensures { OnOk result (out.new.items
+        ≡ out.old.items ++ (wanted_text wanted.now ++ (limit_text seconds ++ codes "</p>"))) }
+{
+    push_wanted(out, wanted)?;
+    push_limit(out, seconds)
+}
+
 // Puts the note of a unit that ends.
-fn push_ends<'a>(out: &mut Vec<u8>, start: &'a str, label: &'a [u8]) -> Result<(), NoMemory>
+fn push_ends(out: &mut Vec<u8>, start: &str, label: &Name8) -> Result<(), NoMemory>
     ensures { OnOk result (out.new.items ≡ out.old.items ++ ends_text start.now label.now) }
 {
+    push_str(out, start)?;
     push_pieces(
         out,
         &[
-            Piece::Markup(start),
-            Piece::Element(Tag::B, Part::Bare(label)),
+            Piece::Element(Tag::B, Part::Bare(&label.bytes())),
             Piece::Markup("</p>"),
         ],
     )
@@ -243,7 +252,6 @@ fn push_owned<'a>(
 }
 
 // Puts the start of a note, a cell, and a colon.
-#[tactic(auto, using(crate::proofs::OfXml::Numbers::number_element_read))]
 fn push_cell(out: &mut Vec<u8>, start: &str, cell: &Cell) -> Result<(), NoMemory>
     ensures { OnOk result (out.new.items
         ≡ out.old.items ++ (start.now ++ (cell_text cell.now ++ codes ": "))) }
@@ -302,7 +310,6 @@ fn push_set(out: &mut Vec<u8>, cell: &Cell, change: &Change, stays: bool) -> Res
     push_change(out, change, set_end(stays))
 }
 
-#[tactic(auto, using(crate::proofs::OfXml::Numbers::number_element_read))]
 fn push_cursor(out: &mut Vec<u8>, queue: &Name8, before: u64, after: u64) -> Result<(), NoMemory>
     ensures { OnOk result (out.new.items ≡ out.old.items ++ cursor_text queue.now before after) }
 {
@@ -397,23 +404,12 @@ fn push_told(out: &mut Vec<u8>, outcomes: &[UnitState], note: &Note) -> Result<(
             &name.bytes(),
             recovery_title(*recovery),
         ),
-        Note::Wants { wanted, seconds } => {
-            push_wanted(out, wanted)?;
-            push_limit(out, *seconds)
-        }
+        Note::Wants { wanted, seconds } => push_wait(out, wanted, *seconds),
         Note::Begins { unit } => push_str(out, begins_text(outcome_of(outcomes, *unit))),
         Note::Holds { held, count } => push_holds(out, held, *count),
         Note::Releases(held) => push_releases(out, held),
-        Note::Commits(label) => push_ends(
-            out,
-            "<p class=\"com\">commits the unit of ",
-            &label.bytes(),
-        ),
-        Note::BacksOut(label) => push_ends(
-            out,
-            "<p class=\"bak\">backs out the unit of ",
-            &label.bytes(),
-        ),
+        Note::Commits(label) => push_ends(out, "<p class=\"com\">commits the unit of ", label),
+        Note::BacksOut(label) => push_ends(out, "<p class=\"bak\">backs out the unit of ", label),
         Note::Set {
             cell,
             change,

@@ -1,6 +1,6 @@
 //! A view of a region that follows its events, and tells what each of them changed.
 
-ghost use Rattle.std.specs.Prelude.{◌≡◌, [], IfOk, OnOk};
+ghost use Rattle.std.specs.Prelude.{◌≡◌, [], IfOk};
 ghost use Rattle.cics_picture.specs.contracts.page.notes.CellOrd.TheImpl as order;
 ghost use Rattle.cics_picture.specs.Page.Views.{IsTold};
 

@@ -3,12 +3,9 @@
 ghost use Rattle.std.specs.Prelude.{◌≡◌, ◌++◌, map, false, Some, OnOk};
 ghost use Rattle.std.specs.List.{flat_map};
 ghost use Rattle.cics_script.specs.Parts.{part_text};
-ghost use Rattle.cics_picture.specs.Xml.Attributes.{attribute_of};
-ghost use Rattle.cics_picture.specs.Xml.Characters.{character_text, shown, shown_text};
-ghost use Rattle.cics_picture.specs.Xml.Characters.{is_plain, is_special};
-ghost use Rattle.cics_picture.specs.Xml.Documents.{Document, document_text, attribute_text};
-ghost use Rattle.cics_picture.specs.Xml.Documents.{start_text, end_text, element, said};
-ghost use Rattle.cics_picture.specs.Xml.Reading.{document_of};
+ghost use Rattle.cics_picture.specs.Xml.{attribute_of, character_text, shown, shown_text, is_plain};
+ghost use Rattle.cics_picture.specs.Xml.{is_special, Document, document_text, attribute_text};
+ghost use Rattle.cics_picture.specs.Xml.{start_text, end_text, element, said, document_of};
 
 use crate::xml::names::{Key, Tag};
 use cics_names::NoMemory;

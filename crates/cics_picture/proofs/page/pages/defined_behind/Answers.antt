@@ -1,13 +1,13 @@
 use Rattle.std.proofs.Common.{◌≡◌, ◌∙◌, ℕ, List, [], ◌∷◌, length, map, false, None, refl, sym, ap}
 use Rattle.std.specs.Bool.{◌==◌}
 use Rattle.cics_run.specs.declared.stage.stage.Stage.{Stage}
-use Rattle.cics_picture.specs.declared.page.recording.Step.{Step}
+use Rattle.cics_picture.specs.declared.page.recording.PageStep.{PageStep}
 use Rattle.cics_picture.specs.Page.Pages.{defined_if}
 use Rattle.cics_picture.specs.Page.Recording.{told_by}
 use Rattle.cics_picture.proofs.page.pages.defined_behind.Goals as goal
 
 -- a line with steps defines nothing
-defines_nothing : (steps : List Step) (stage : Stage) (line : List ℕ) → (length steps == 0) ≡ false → None ≡ defined_if (map told_by steps) stage line
+defines_nothing : (steps : List PageStep) (stage : Stage) (line : List ℕ) → (length steps == 0) ≡ false → None ≡ defined_if (map told_by steps) stage line
 defines_nothing [] stage line some = cc
 defines_nothing (x ∷ xs) stage line some = refl
 

@@ -1,9 +1,9 @@
 use Rattle.std.proofs.Common.{◌≡◌, [], ◌++◌, ap, ◌∙◌, append_assoc}
 use Rattle.std.proofs.lemmas.List.{append-nil}
+use Rattle.std.proofs.lemmas.Result.{on_ok_weaker}
 use Rattle.cics_picture.specs.declared.xml.names.Tag.TheVariants as tag
 use Rattle.cics_picture.specs.Elements.{spoken, cut}
 use Rattle.cics_picture.specs.Page.Lines.{head, between}
-use Rattle.cics_picture.proofs.Chains.{onto}
 use Rattle.cics_picture.proofs.page.pages.push_front.Goals as goal
 use lib.Chars.{codes}
 
@@ -18,6 +18,6 @@ returns c =
     let first = c.deref.ensures.value ∙ text in
     let second = c.deref-2.ensures.value ∙ text in
     let behind = spoken tag.Title c.deref.result.now ++ (between ++ (spoken tag.H1 c.deref-2.result.now ++ end)) in
-    onto c.push_pieces.result c.push_pieces.new.out.items _ _
-    (ap (λ t. t ++ behind) c.in_ok-push_head.ensures ∙ append_assoc o head behind
+    on_ok_weaker c.push_pieces.result
+    (λ put. put ∙ ap (λ t. t ++ behind) c.in_ok-push_head.ensures ∙ append_assoc o head behind
     ∙ (λ i. o ++ (head ++ (spoken tag.Title (first i) ++ (between ++ (spoken tag.H1 (second i) ++ end)))))) c.push_pieces.ensures

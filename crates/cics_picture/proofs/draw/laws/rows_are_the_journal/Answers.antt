@@ -1,7 +1,7 @@
 use Rattle.cics_run.specs.Session.Lines.{all_lines}
 use Rattle.cics_run.specs.Session.Running.{start}
 use Rattle.cics_picture.proofs.OfDraw.Journals.{lines-shown}
-use Rattle.cics_picture.proofs.draw.drawing.rows_are_the_journal.Goals as goal
+use Rattle.cics_picture.proofs.draw.laws.rows_are_the_journal.Goals as goal
 
 pub returns : goal.returns
 returns c script = lines-shown (all_lines script) start

@@ -1,6 +1,6 @@
 use Rattle.cics_picture.specs.Draw.Pictures.{outcomes_of}
 use Rattle.cics_picture.proofs.OfDraw.Outcomes.{filled-told, hollow-told}
-use Rattle.cics_picture.proofs.draw.drawing.bars_tell_outcomes.Goals as goal
+use Rattle.cics_picture.proofs.draw.laws.bars_tell_outcomes.Goals as goal
 
 pub returns-clause-filled : goal.returns-clause-filled
 returns-clause-filled c script b = filled-told (outcomes_of script) b

@@ -1,5 +1,5 @@
 use Rattle.cics_picture.proofs.OfDraw.Blocking.{blocker-shown}
-use Rattle.cics_picture.proofs.draw.drawing.waits_name_blockers.Goals as goal
+use Rattle.cics_picture.proofs.draw.laws.waits_name_blockers.Goals as goal
 
 pub returns : goal.returns
 returns c = blocker-shown
