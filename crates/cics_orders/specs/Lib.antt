@@ -11,3 +11,4 @@ pub mod Plans
 pub mod Report
 pub mod Endings
 pub mod Survey
+pub mod Words

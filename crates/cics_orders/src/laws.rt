@@ -4,12 +4,10 @@
 
 ghost use Rattle.std.specs.Prelude.{◌≡◌, [], Some, All, filter};
 ghost use Rattle.cics_dispatch.specs.Machine.Waking.{IsAtRest};
-ghost use Rattle.cics_orders.specs.Space.Orders.{Order, IsWay, after, orders};
-ghost use Rattle.cics_orders.specs.Space.Orders.{is_serial_order, serial_orders};
+ghost use Rattle.cics_orders.specs.Words.{Order, IsWay, after, orders, is_serial_order};
+ghost use Rattle.cics_orders.specs.Words.{serial_orders, lanes, initial_state, line_count, written};
+ghost use Rattle.cics_orders.specs.Words.{breaks};
 ghost use Rattle.cics_orders.specs.declared.plans.plans.Plan.{Plan};
-ghost use Rattle.cics_orders.specs.Giving.{lanes, initial_state, line_count};
-ghost use Rattle.cics_orders.specs.AsWritten.{written};
-ghost use Rattle.cics_orders.specs.Turns.{breaks};
 ghost use Rattle.cics_orders.specs.Accepts.{AcceptsReady};
 
 /// After each line of an order the region is at rest: no waiting command may resume, and no task

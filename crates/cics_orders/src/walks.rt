@@ -2,16 +2,11 @@
 
 ghost use Rattle.std.specs.Prelude.{◌≡◌, ◌++◌, ◌∷◌, List, suc, true, if◌then◌else◌, None, Some};
 ghost use Rattle.std.specs.Prelude.{IfOk, OnOk, slice_get, option_and_then, option_copied};
-ghost use Rattle.cics_orders.specs.Space.Orders.{IsFirst, numbered_from};
-ghost use Rattle.cics_orders.specs.Giving.{State, initial_state, initial_of, line_count, is_ready};
-ghost use Rattle.cics_orders.specs.Giving.{may_give, givers, counted, given, next_said, IsGivable};
-ghost use Rattle.cics_orders.specs.Giving.{happening, left_by};
-ghost use Rattle.cics_orders.specs.AsWritten.{lane_of, line_ready, written_to};
-ghost use Rattle.cics_orders.specs.Plans.Proper.{is_proper};
-ghost use Rattle.cics_orders.specs.Plans.Taking.{WrittenLine};
-ghost use Rattle.cics_orders.specs.Stamps.{state_stamp};
-ghost use Rattle.cics_orders.specs.Turns.{breaks};
-ghost use Rattle.cics_orders.specs.Endings.Telling.{parts_at};
+ghost use Rattle.cics_orders.specs.Words.{IsFirst, numbered_from, State, initial_state, initial_of};
+ghost use Rattle.cics_orders.specs.Words.{line_count, is_ready, may_give, givers, counted, given};
+ghost use Rattle.cics_orders.specs.Words.{next_said, IsGivable, happening, left_by, lane_of};
+ghost use Rattle.cics_orders.specs.Words.{line_ready, written_to, is_proper, WrittenLine};
+ghost use Rattle.cics_orders.specs.Words.{state_stamp, breaks, parts_at};
 ghost use Rattle.cics_orders.specs.declared.lanes.Lane.{Lane};
 
 use crate::endings::parts_of;

@@ -16,12 +16,8 @@ ghost use Rattle.cics_orders.specs.Search.Ahead.{IsKnown};
 ghost use Rattle.cics_orders.specs.Search.Levels.{live, spread, tallied, IsEntry};
 ghost use Rattle.cics_orders.specs.Search.Levels.{IsLevel, IsNext, state_count};
 ghost use Rattle.cics_orders.specs.Search.Reports.{IsReport};
-ghost use Rattle.cics_orders.specs.Plans.Proper.{is_proper};
-ghost use Rattle.cics_orders.specs.Giving.{lanes, initial_state, initial_of, line_count};
-ghost use Rattle.cics_orders.specs.Stamps.{state_stamp};
-ghost use Rattle.cics_orders.specs.Turns.{breaks};
-ghost use Rattle.cics_orders.specs.AsWritten.{as_written};
-ghost use Rattle.cics_orders.specs.Endings.Telling.{parts_at};
+ghost use Rattle.cics_orders.specs.Words.{is_proper, lanes, initial_state, initial_of, line_count};
+ghost use Rattle.cics_orders.specs.Words.{state_stamp, breaks, as_written, parts_at};
 
 use crate::plans::Plan;
 use crate::search::ahead::{Known, lead_on};

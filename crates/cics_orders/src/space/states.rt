@@ -4,12 +4,9 @@
 
 ghost use Rattle.std.specs.Prelude.{◌≡◌, ◌&&◌, [], ◌∷◌, ◌++◌, if◌then◌else◌, List, None, Some};
 ghost use Rattle.std.specs.Prelude.{IfOk, OnOk};
-ghost use Rattle.cics_orders.specs.Space.Orders.{after};
+ghost use Rattle.cics_orders.specs.Words.{after, lanes, initial_of, as_written, state_stamp};
+ghost use Rattle.cics_orders.specs.Words.{breaks};
 ghost use Rattle.cics_orders.specs.Space.States.{led_joined, lanes_of, reached};
-ghost use Rattle.cics_orders.specs.Giving.{lanes, initial_of};
-ghost use Rattle.cics_orders.specs.AsWritten.{as_written};
-ghost use Rattle.cics_orders.specs.Stamps.{state_stamp};
-ghost use Rattle.cics_orders.specs.Turns.{breaks};
 
 use crate::space::groups::Join;
 use crate::walks::Walker;

@@ -89,13 +89,13 @@ impl<P: Progress> Surveyor<P> {
     /// Follows the orders of the script that a source gives. Writes a report on them, or the first
     /// order of an ending as a script.
     ///
-    /// It reads at most `LIMIT` bytes, and one more to see whether there are more, and writes only
-    /// when the search is over. Of a script with a fault it writes the line that a run writes of
-    /// it. Tells `progress` how far it is, after each state that is followed.
+    /// It reads at most `MOST_SCRIPT_BYTES`, and one more to see whether there are more, and writes
+    /// only when the search is over. Of a script with a fault it writes the line that a run writes
+    /// of it. Tells `progress` how far it is, after each state that is followed.
     ///
-    /// Errors: `InputTooLong` if the source has more than `LIMIT` bytes; `ReadFault` if a read
-    /// failed, `WriteFault` if a write did, and neither is tried again; `NoMemory`. Cost: that of
-    /// `survey_script` and of `push_report`.
+    /// Errors: `InputTooLong` if the source has more than `MOST_SCRIPT_BYTES`; `ReadFault` if a
+    /// read failed, `WriteFault` if a write did, and neither is tried again; `NoMemory`. Cost: that
+    /// of `survey_script` and of `push_report`.
     pub fn run_orders<S: Source, K: Sink>(
         &mut self,
         source: &mut S,
