@@ -63,6 +63,16 @@ fn queue_op(verb: &Verb) -> Result<Option<Op>, NoMemory> {
     Ok(Some(op))
 }
 
+// A rewrite of the record that has the key of this one.
+fn rewrite_of(alloc: Global, file: Name8, from: &Record) -> Result<Op, NoMemory> {
+    let key = &from.bytes()[..from.len().min(KEY_LENGTH)];
+    Ok(Op::Rewrite {
+        file,
+        key: Record::from_slice(alloc, key)?,
+        from: from.copy()?,
+    })
+}
+
 // The updating command that is asked for, if one is.
 fn op_of(alloc: Global, verb: &Verb) -> Result<Option<Op>, NoMemory> {
     let op = match verb {
@@ -85,14 +95,7 @@ fn op_of(alloc: Global, verb: &Verb) -> Result<Option<Op>, NoMemory> {
             key: ridfld.copy()?,
             from: from.copy()?,
         },
-        Verb::Rewrite { file, from, .. } => {
-            let key = &from.bytes()[..from.len().min(KEY_LENGTH)];
-            Op::Rewrite {
-                file: *file,
-                key: Record::from_slice(alloc, key)?,
-                from: from.copy()?,
-            }
-        }
+        Verb::Rewrite { file, from, .. } => rewrite_of(alloc, *file, from)?,
         Verb::Delete {
             file,
             ridfld: Some(key),

@@ -29,7 +29,7 @@ mod trials;
 
 use crate::memory::{Requests, are_refused, switch};
 use crate::runs::{Run, Stop};
-use crate::scripts::{Kind, steps_of, written_out};
+use crate::scripts::{ScriptKind, cases_of, written_out};
 use crate::surface::call_all;
 use crate::trials::try_all;
 use cics_dispatch::Region;
@@ -86,10 +86,10 @@ fn run_script(
     ends: [&str; 2],
 ) -> Result<String, Stop> {
     let [first, script] = texts;
-    let kind = Kind::of(script);
+    let kind = ScriptKind::of(script);
     let text = written_out(alloc, first, script, further)?;
-    let steps = steps_of(alloc, &text)?;
-    let mut run = Run::new(alloc, &steps, are_refused(alloc) && !kind.is_ample);
+    let cases = cases_of(alloc, &text)?;
+    let mut run = Run::new(alloc, &cases, are_refused(alloc) && !kind.is_ample);
     let came = if kind.on_units {
         run.run::<Units>(ends)?
     } else {
@@ -101,7 +101,7 @@ fn run_script(
 // Runs a script behind the first text in each way that is meant for its kind.
 fn run_each(rt: &HostRuntime, texts: [&str; 2]) -> Result<(), ExitCode> {
     let [_, script] = texts;
-    if Kind::of(script).is_ample {
+    if ScriptKind::of(script).is_ample {
         for (further, word) in FURTHER {
             let came = run_script(rt.alloc(), texts, further, ENDS[0].0);
             tell(rt, script, word, came)?;

@@ -2,7 +2,7 @@
 
 use crate::events::Event;
 use crate::memory::{Requests, switch, was_refused};
-use crate::runs::{MOST, Run, Stop, Target, Tried};
+use crate::runs::{MOST_ROUNDS, Run, Stop, Target, Tried};
 use crate::states::push_listed;
 use cics_names::NoMemory;
 use cics_run::stage::Fault;
@@ -51,7 +51,7 @@ pub(crate) fn start<T: Target + Drop>(run: Run<'_>, opening: Opening) -> Result<
     let mut opening = opening;
     let before = run.state(&opening)?;
     switch(run.alloc, run.requests(true));
-    for _ in 0..MOST {
+    for _ in 0..MOST_ROUNDS {
         switch(run.alloc, run.requests(false));
         let started = T::start(opening);
         switch(run.alloc, Requests::Granted);

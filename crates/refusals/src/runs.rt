@@ -3,7 +3,7 @@
 use crate::events::Event;
 use crate::memory::{Requests, switch, was_refused};
 use crate::openings::start;
-use crate::scripts::Step;
+use crate::scripts::Case;
 use cics_names::{Name8, NoMemory};
 use cics_script::spelling::{Part, push_parts, push_str};
 use cics_script::{LineFault, read_line};
@@ -11,7 +11,7 @@ use cics_units::Opening;
 use std::alloc::{AllocError, Global};
 
 /// No event asks for memory as often as this, and no region goes on by itself so often.
-pub(crate) const MOST: u64 = 20_000;
+pub(crate) const MOST_ROUNDS: u64 = 20_000;
 
 // How many bytes the lines of an event have room for: an event has to put them without memory.
 const ROOM: usize = 60_000;
@@ -105,7 +105,7 @@ fn push_told(text: &mut String, out: &[u8]) -> Result<(), NoMemory> {
 #[derive(Clone, Copy)]
 pub(crate) struct Run<'a> {
     pub(crate) alloc: Global,
-    steps: &'a [Step],
+    cases: &'a [Case],
     // Each request of each event is refused in turn, and all that is shown compared.
     refuses: bool,
     // How many events happen before one that is refused for good.
@@ -113,11 +113,11 @@ pub(crate) struct Run<'a> {
 }
 
 impl<'a> Run<'a> {
-    /// Returns how these steps are run, with requests refused or without.
-    pub(crate) fn new(alloc: Global, steps: &'a [Step], refuses: bool) -> Run<'a> {
+    /// Returns how these cases are run, with requests refused or without.
+    pub(crate) fn new(alloc: Global, cases: &'a [Case], refuses: bool) -> Run<'a> {
         Run {
             alloc,
-            steps,
+            cases,
             refuses,
             left: u64::MAX,
         }
@@ -213,7 +213,7 @@ impl<'a> Run<'a> {
     ) -> Result<bool, Stop> {
         let before = self.state(target)?;
         switch(self.alloc, self.requests(true));
-        for _ in 0..MOST {
+        for _ in 0..MOST_ROUNDS {
             if let Some(comes) = self.comes_out(target, line, answer, text)? {
                 return Ok(comes);
             }
@@ -249,7 +249,7 @@ impl<'a> Run<'a> {
     // Lets a region go on by itself until nothing more comes: a waiting command that may resume
     // comes before a task that has waited too long.
     fn drain<T: Tried>(&mut self, target: &mut T, text: &mut String) -> Result<(), Stop> {
-        for _ in 0..MOST {
+        for _ in 0..MOST_ROUNDS {
             if !self.come_out(target, "WAKE", "", text)?
                 && !self.come_out(target, "EXPIRE", "", text)?
             {
@@ -271,37 +271,37 @@ impl<'a> Run<'a> {
         }
     }
 
-    // Runs a step; what comes of it and by itself then has to be what the script says.
-    fn run_step<T: Tried>(&mut self, target: &mut T, step: &Step) -> Result<(), Stop> {
+    // Runs a case; what comes of it and by itself then has to be what the script says.
+    fn run_case<T: Tried>(&mut self, target: &mut T, case: &Case) -> Result<(), Stop> {
         let mut came = String::new(self.alloc);
-        let answer = step.expected.lines().next().unwrap_or("");
-        self.come_out(target, &step.line, answer, &mut came)?;
+        let answer = case.expected.lines().next().unwrap_or("");
+        self.come_out(target, &case.line, answer, &mut came)?;
         self.drain(target, &mut came)?;
         if self.refuses {
-            Run::new(self.alloc, self.steps, false).listed(target, &step.line)?;
+            Run::new(self.alloc, self.cases, false).listed(target, &case.line)?;
         }
-        if step.is_met_by(&came) {
+        if case.is_met_by(&came) {
             Ok(())
         } else {
-            Err(Stop::Otherwise(step.line.to_string(self.alloc)?, came))
+            Err(Stop::Otherwise(case.line.to_string(self.alloc)?, came))
         }
     }
 
-    // Runs the steps that define something, or those that don't.
-    fn run_steps<T: Tried>(&mut self, target: &mut T, defines: bool) -> Result<(), Stop> {
-        let steps = self.steps;
-        for step in steps {
-            if self.event(&step.line)?.is_definition() == defines {
-                self.run_step(target, step)?;
+    // Runs the cases that define something, or those that don't.
+    fn run_cases<T: Tried>(&mut self, target: &mut T, defines: bool) -> Result<(), Stop> {
+        let cases = self.cases;
+        for case in cases {
+            if self.event(&case.line)?.is_definition() == defines {
+                self.run_case(target, case)?;
             }
         }
         Ok(())
     }
 
-    // Starts with what the steps define and load.
+    // Starts with what the cases define and load.
     fn start<T: Target + Drop>(&mut self) -> Result<T, Stop> {
         let mut opening = Opening::new(self.alloc);
-        match self.run_steps(&mut opening, true) {
+        match self.run_cases(&mut opening, true) {
             Ok(()) => start(*self, opening),
             Err(stop) => Err(stop),
         }
@@ -345,7 +345,7 @@ impl<'a> Run<'a> {
     // Returns what that prints, and the listing.
     fn end<T: Target>(&mut self, target: &mut T, ends: [&str; 2]) -> Result<String, Stop> {
         let mut text = String::new(self.alloc);
-        for _ in 0..MOST {
+        for _ in 0..MOST_ROUNDS {
             if self.end_tasks(target, ends, &mut text)? {
                 break;
             }
@@ -355,12 +355,12 @@ impl<'a> Run<'a> {
         Ok(text)
     }
 
-    /// Runs the steps, and ends what is open then; before that also with each event refused for
+    /// Runs the cases, and ends what is open then; before that also with each event refused for
     /// good, if requests are refused.
     pub(crate) fn run<T: Target + Drop>(&mut self, ends: [&str; 2]) -> Result<String, Stop> {
         self.give_up_each::<T>(ends)?;
         let mut target: T = self.start()?;
-        self.run_steps(&mut target, false)?;
+        self.run_cases(&mut target, false)?;
         self.end(&mut target, ends)
     }
 
@@ -368,11 +368,11 @@ impl<'a> Run<'a> {
     // Returns whether there is such an event.
     fn give_up_at<T: Target + Drop>(&self, left: u64, ends: [&str; 2]) -> Result<bool, Stop> {
         switch(self.alloc, Requests::First);
-        for _ in 0..MOST {
-            let mut run = Run::new(self.alloc, self.steps, false);
+        for _ in 0..MOST_ROUNDS {
+            let mut run = Run::new(self.alloc, self.cases, false);
             let mut target: T = run.start()?;
             run.left = left;
-            match run.run_steps(&mut target, false) {
+            match run.run_cases(&mut target, false) {
                 Ok(()) => return Ok(false),
                 Err(stop) if matches!(&stop, Stop::Granted) => return Ok(true),
                 Err(stop) if matches!(&stop, Stop::GivenUp) => {}
@@ -387,7 +387,7 @@ impl<'a> Run<'a> {
     // If requests are refused, refuses each event for good, at each of its requests. Each is a run
     // of its own, which then ends what is open.
     fn give_up_each<T: Target + Drop>(&self, ends: [&str; 2]) -> Result<(), Stop> {
-        for left in 0..MOST {
+        for left in 0..MOST_ROUNDS {
             if !self.refuses || !self.give_up_at::<T>(left, ends)? {
                 return Ok(());
             }

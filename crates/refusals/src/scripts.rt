@@ -19,7 +19,7 @@ use std::fmt::Write;
 
 /// What a script runs on, as its first line tells.
 #[derive(Clone, Copy)]
-pub(crate) struct Kind {
+pub(crate) struct ScriptKind {
     /// It runs on units of work: `units: ` stands behind its stars. Others run on a region.
     pub(crate) on_units: bool,
     /// Its memory is ample: it begins with two stars.
@@ -27,25 +27,25 @@ pub(crate) struct Kind {
 }
 
 /// A line of a script, and the lines that are to come of it.
-pub(crate) struct Step {
+pub(crate) struct Case {
     pub(crate) line: String,
     pub(crate) expected: String,
 }
 
-// By hand: a derived drop is taken apart wherever a step is dropped.
-impl Drop for Step {
+// By hand: a derived drop is taken apart wherever a case is dropped.
+impl Drop for Case {
     fn drop(self) {
-        let Step {
+        let Case {
             line: _line,
             expected: _expected,
         } = self;
     }
 }
 
-impl Kind {
+impl ScriptKind {
     /// Returns the kind of a script.
-    pub(crate) fn of(script: &str) -> Kind {
-        Kind {
+    pub(crate) fn of(script: &str) -> ScriptKind {
+        ScriptKind {
             on_units: script.trim_start_matches('*').starts_with(" units: "),
             is_ample: script.starts_with("** "),
         }
@@ -63,7 +63,7 @@ impl Kind {
     }
 }
 
-impl Step {
+impl Case {
     /// Returns whether this is the expected result of the line.
     pub(crate) fn is_met_by(&self, came: &str) -> bool {
         if !self.expected.is_empty() {
@@ -122,7 +122,7 @@ pub(crate) fn written_out(
     further: u64,
 ) -> Result<String, NoMemory> {
     let mut text = String::new(alloc);
-    let kind = Kind::of(script);
+    let kind = ScriptKind::of(script);
     for line in first.lines() {
         if let Some(line) = kind.head(line) {
             push_line(&mut text, line, further)?;
@@ -134,29 +134,29 @@ pub(crate) fn written_out(
     Ok(text)
 }
 
-// Puts a line of a script that is written out into its steps: a comment into none.
-fn put_line(alloc: Global, steps: &mut Vec<Step>, line: &str) -> Result<(), NoMemory> {
+// Puts a line of a script that is written out into its cases: a comment into none.
+fn put_line(alloc: Global, cases: &mut Vec<Case>, line: &str) -> Result<(), NoMemory> {
     if line.starts_with("*") {
         return Ok(());
     }
-    if let (Some(expected), Some(last)) = (line.strip_prefix("= "), steps.last_mut()) {
+    if let (Some(expected), Some(last)) = (line.strip_prefix("= "), cases.last_mut()) {
         last.expected.push_str(expected)?;
         last.expected.push('\n')?;
         return Ok(());
     }
-    steps.push(Step {
+    cases.push(Case {
         line: line.to_string(alloc)?,
         expected: String::new(alloc),
     })?;
     Ok(())
 }
 
-/// Returns the steps of a script that is written out. An expected result that stands behind no line
-/// is a step too, which no reader of lines takes.
-pub(crate) fn steps_of(alloc: Global, text: &str) -> Result<Vec<Step>, NoMemory> {
-    let mut steps: Vec<Step> = Vec::new(alloc);
+/// Returns the cases of a script that is written out. An expected result that stands behind no line
+/// is a case too, which no reader of lines takes.
+pub(crate) fn cases_of(alloc: Global, text: &str) -> Result<Vec<Case>, NoMemory> {
+    let mut cases: Vec<Case> = Vec::new(alloc);
     for line in text.lines() {
-        put_line(alloc, &mut steps, line)?;
+        put_line(alloc, &mut cases, line)?;
     }
-    Ok(steps)
+    Ok(cases)
 }
