@@ -1,9 +1,9 @@
-/* Prints so many names of eight characters whose hashes put them into one place of a table.
+/* Prints so many names of eight characters whose hashes end in the same bits, so they lie in few
+ * places of a table.
  *
  *   colliding COUNT
  *
- * A table of the program takes the last bits of a hash, at most as many as COUNT needs, and never
- * more than 15 are alike here. The hash is that of a name's eight bytes in EBCDIC as one number: it
+ * As many bits are alike as a quarter of COUNT needs, and at most 15. The hash is that of a name's eight bytes in EBCDIC as one number: it
  * is multiplied by a constant, and both halves of the product are mixed. The same COUNT gives the
  * same names on every machine.
  */

@@ -19,14 +19,14 @@
 #   circle              each of N tasks waits for the next, and the last for the first: a deadlock
 #   circles             N tasks in deadlocks of two
 #   one-queue           N tasks wait for one transient data queue, that is written to N times
-#   held-prefixes       one unit holds N prefixes of keys
-#   long-prefix         N keys of 255 bytes are written beside a prefix that is held
+#   held-prefixes       one unit owns N prefixes of keys
+#   long-prefix         N keys of 255 bytes are written beside a prefix that is owned
 #   long-keys           a key of 200 bytes behind 32,000 like bytes is read N times
 #   cut-reads           a record of 32,000 bytes is read as one byte, and rolled back, N times
 #   unlocked-reads      a record of 32,000 bytes is read for update and unlocked, N times
-#   queue-rollbacks     a queue of N items is deleted and rolled back N times
+#   queue-rollbacks     a queue of N items (32,000 at most) is deleted and rolled back N times
 #   data-rollbacks      a transient data queue of N records is deleted and rolled back N times
-#   shutdown            N tasks hold a value each, and wait, when the region shuts down
+#   shutdown            N tasks own a value each, and wait, when the region shuts down
 #   clocks              N tasks wait with a time-out, and the clock is moved N times
 #   one-cell            one record is read and then updated by each of N tasks
 #   whole-browses       N reads of a browse to the end of N records, and N updates beside it

@@ -21,7 +21,7 @@ __attribute__((destructor)) static void end(void)
     char line[64];
     int count = snprintf(line, sizeof line, "%lu %lu\n", requests, most);
     int file = name ? open(name, O_WRONLY | O_CREAT | O_TRUNC, 0600) : -1;
-    if (file >= 0 && (write(file, line, count) != count || close(file) != 0))
+    if (name && (file < 0 || write(file, line, count) != count || close(file) != 0))
         _exit(70);
 }
 

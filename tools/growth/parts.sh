@@ -31,13 +31,16 @@ take_row() {
 
 # Writes the script of $load with so many.
 make_script() {
-    makers=$bench/loads.awk
-    for each in hostile told; do
-        ! grep -q "^#   $load " "$bench/$each.awk" || makers="$bench/lines.awk -f $bench/$each.awk"
-    done
     case $load in colliding*) "$room/colliding" "$1" ;; esac > "$room/names"
-    # shellcheck disable=SC2086 # several names of files
-    awk -v "called=$load" -v "count=$1" -f $makers < "$room/names" > "$script" || exit 1
+    set -- -v "called=$load" -v "count=$1" -f
+    if grep -q "^#   $load " "$bench/hostile.awk"; then
+        set -- "$@" "$bench/lines.awk" -f "$bench/hostile.awk"
+    elif grep -q "^#   $load " "$bench/told.awk"; then
+        set -- "$@" "$bench/lines.awk" -f "$bench/told.awk"
+    else
+        set -- "$@" "$bench/loads.awk"
+    fi
+    awk "$@" < "$room/names" > "$script" || exit 1
 }
 
 # Runs the program with $option on the script: how many requests for memory it makes, and how many
@@ -57,7 +60,8 @@ is_fine() {
     [ "$status" = 0 ] || [ "$option $status" = '--check 1' ]
 }
 
-# The same: how many instructions it takes, 0 if it is ended because they are too many.
+# Runs the program with $option under valgrind: how many instructions it takes, 0 if it is ended
+# because they are too many.
 count_instructions() {
     instructions=$(timeout 300 valgrind --tool=cachegrind --cache-sim=no \
         --cachegrind-out-file=/dev/null "$program" "$option" < "$script" 2>&1 > /dev/null |

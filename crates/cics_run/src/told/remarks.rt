@@ -87,7 +87,7 @@ impl Remarks {
         })
     }
 
-    /// Adds a remark on each notice of the line with this number. The stage is that behind the line.
+    /// Adds a remark on each notice of the line of this number. The stage is that behind the line.
     ///
     /// Errors: `NoMemory`.
     #[cold]
