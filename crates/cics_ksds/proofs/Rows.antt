@@ -5,9 +5,9 @@ use Rattle.cics_names.specs.declared.conditions.Condition.TheVariants.{Normal, D
 use lib.Chars.{codes}
 use Rattle.cics_ksds.specs.declared.definition.FileDef.{FileDef}
 use Rattle.cics_ksds.specs.declared.images.Before.TheVariants.{Added, Replaced, Removed}
-use Rattle.cics_ksds.specs.declared.places.Place.{Place}
-use Rattle.cics_ksds.specs.declared.places.Place.TheVariants.{Filled}
-use Rattle.cics_ksds.specs.Places.{with_place, without_place}
+use Rattle.cics_ksds.specs.declared.slots.Slot.{Slot}
+use Rattle.cics_ksds.specs.declared.slots.Slot.TheVariants.{Filled}
+use Rattle.cics_ksds.specs.Slots.{with_slot, without_slot}
 use Rattle.cics_ksds.specs.Files.{FileValue, key_of, fits_file, entry_of, write_condition, change_condition, written, rewritten, deleted, swept, first_from, last_to, records_of}
 use Rattle.cics_images.specs.Cells.{all_swept}
 use Rattle.cics_ksds.specs.Prefixes.{under, without_prefix, prefix_images, stored_on}
@@ -49,7 +49,7 @@ row_again : fold undone (written (deleted true (written one (codes "0002xx")) (c
     ≡ record { definition = account; records = (codes "0001", codes "0001aa") ∷ []; empties = codes "0002" ∷ [] }
 row_again = refl
 
--- and no empty place is left once the keys of the images that were undone are swept
+-- and no empty slot is left once the keys of the images that were undone are swept
 row_swept : all_swept swept key_of_image (record { definition = account; records = (codes "0001", codes "0001aa") ∷ []; empties = codes "0002" ∷ [] })
     (record { definition = account; before = Added (codes "0002") } ∷ record { definition = account; before = Removed (codes "0002xx") } ∷ [])
     ≡ one
@@ -67,18 +67,18 @@ row_first = (refl, refl, refl)
 row_last : (last_to three.records (codes "0002") false ≡ Some (codes "0002", codes "0002bb")) × (last_to three.records (codes "0002") true ≡ Some (codes "0001", codes "0001aa")) × (last_to three.records (codes "000") false ≡ None)
 row_last = (refl, refl, refl)
 
--- no listing shows an empty place
+-- no listing shows an empty slot
 row_listing : records_of (deleted true three (codes "0002")).records ≡ codes "0001aa" ∷ codes "0003cc" ∷ []
 row_listing = refl
 
--- an empty place is found by no read
+-- an empty slot is found by no read
 row_empty : (deleted true three (codes "0002") ≡ record { definition = account; records = (codes "0001", codes "0001aa") ∷ (codes "0003", codes "0003cc") ∷ []; empties = codes "0002" ∷ [] })
     × (value_at (codes "0002") (deleted true three (codes "0002")).records ≡ None) × (content_at (deleted true three (codes "0002")) (codes "0002") ≡ None)
     × (first_from (deleted true three (codes "0002")).records (codes "0002") false ≡ Some (codes "0003", codes "0003cc"))
     × (last_to (deleted true three (codes "0002")).records (codes "0002") false ≡ Some (codes "0001", codes "0001aa"))
 row_empty = (refl, refl, refl, refl, refl)
 
--- a write into an empty place of its key is no duplicate
+-- a write into an empty slot of its key is no duplicate
 row_filled : (write_condition (deleted true three (codes "0002")).records (codes "0002") ≡ Normal) × (written (deleted true three (codes "0002")) (codes "0002bb") ≡ three)
 row_filled = (refl, refl)
 
@@ -87,7 +87,7 @@ row_images : (written_image true one (codes "0002bb") ≡ Some (record { definit
     × (deleted_image true one (codes "0001") ≡ Some (record { definition = account; before = Removed (codes "0001aa") })) × (deleted_image false one (codes "0001") ≡ None) × (deleted_image true one (codes "0009") ≡ None)
 row_images = (refl, refl, refl, refl, refl, refl)
 
--- an undo at one key leaves the other's record and its empty place
+-- an undo at one key leaves the other's record and its empty slot
 row_beside : undone (deleted true (rewritten three (codes "0001zz")) (codes "0002")) (record { definition = account; before = Replaced (codes "0001aa") }) ≡ deleted true three (codes "0002")
 row_beside = refl
 
@@ -107,7 +107,7 @@ row_key = (refl, refl, refl, refl, refl, refl)
 abbrev accounts : FileValue
 accounts = written (written one (codes "0012y")) (codes "0011x")
 
--- a delete by prefix leaves the others, with keep each of its places empty, and undone newest first it leads back
+-- a delete by prefix leaves the others, with keep each of its slots empty, and undone newest first it leads back
 row_prefix : (length (under (codes "001") accounts.records) ≡ 2) × (without_prefix false accounts (codes "001") ≡ one)
     × (without_prefix true accounts (codes "001") ≡ record { definition = account; records = (codes "0001", codes "0001aa") ∷ []; empties = codes "0011" ∷ codes "0012" ∷ [] })
     × (prefix_images true accounts (codes "001") ≡ record { definition = account; before = Removed (codes "0011x") } ∷ record { definition = account; before = Removed (codes "0012y") } ∷ [])
@@ -119,7 +119,7 @@ row_prefixes : (without_prefix true accounts (codes "9") ≡ accounts) × (prefi
     × (without_prefix false accounts (codes "0011") ≡ written one (codes "0012y")) × (length (under [] accounts.records) ≡ 3) × ((without_prefix false accounts []).records ≡ [])
 row_prefixes = (refl, refl, refl, refl, refl, refl)
 
--- an empty place is not counted, and stays where it is
+-- an empty slot is not counted, and stays where it is
 row_prefix_empty : (length (under (codes "001") (deleted true accounts (codes "0011")).records) ≡ 1)
     × (without_prefix false (deleted true accounts (codes "0011")) (codes "001") ≡ record { definition = account; records = (codes "0001", codes "0001aa") ∷ []; empties = codes "0011" ∷ [] })
 row_prefix_empty = (refl, refl)
@@ -130,20 +130,20 @@ row_prefix_high = refl
 
 -- ---- intervals
 
-abbrev place : ℕ → Place
-place n = Filled (n ∷ [])
+abbrev slot : ℕ → Slot
+slot n = Filled (n ∷ [])
 
-abbrev full : List Place
-full = place 0 ∷ place 2 ∷ place 4 ∷ place 6 ∷ place 8 ∷ place 10 ∷ place 12 ∷ place 14 ∷ place 16 ∷ place 18 ∷ place 20 ∷ place 22 ∷ place 24 ∷ place 26 ∷ place 28 ∷ place 30 ∷ []
+abbrev full : List Slot
+full = slot 0 ∷ slot 2 ∷ slot 4 ∷ slot 6 ∷ slot 8 ∷ slot 10 ∷ slot 12 ∷ slot 14 ∷ slot 16 ∷ slot 18 ∷ slot 20 ∷ slot 22 ∷ slot 24 ∷ slot 26 ∷ slot 28 ∷ slot 30 ∷ []
 
--- the first place makes the first interval, and where there is room a place joins its interval
-row_with_room : (with_place [] 0 0 (place 1) ≡ (place 1 ∷ []) ∷ []) × (with_place ((place 1 ∷ []) ∷ []) 0 1 (place 2) ≡ (place 1 ∷ place 2 ∷ []) ∷ [])
+-- the first slot makes the first interval, and where there is room a slot joins its interval
+row_with_room : (with_slot [] 0 0 (slot 1) ≡ (slot 1 ∷ []) ∷ []) × (with_slot ((slot 1 ∷ []) ∷ []) 0 1 (slot 2) ≡ (slot 1 ∷ slot 2 ∷ []) ∷ [])
 row_with_room = (refl, refl)
 
--- a full interval is split into 8 and 8 first; a place between the halves goes to the end of the first
-row_split : (with_place (full ∷ []) 0 8 (place 15) ≡ (take 8 full ++ place 15 ∷ []) ∷ drop 8 full ∷ []) × (with_place (full ∷ []) 0 16 (place 31) ≡ take 8 full ∷ (drop 8 full ++ place 31 ∷ []) ∷ [])
+-- a full interval is split into 8 and 8 first; a slot between the halves goes to the end of the first
+row_split : (with_slot (full ∷ []) 0 8 (slot 15) ≡ (take 8 full ++ slot 15 ∷ []) ∷ drop 8 full ∷ []) × (with_slot (full ∷ []) 0 16 (slot 31) ≡ take 8 full ∷ (drop 8 full ++ slot 31 ∷ []) ∷ [])
 row_split = (refl, refl)
 
--- an interval without places is removed, and one with others stays; intervals aren't merged
-row_without : (without_place ((place 1 ∷ []) ∷ full ∷ []) 0 0 ≡ full ∷ []) × (without_place ((place 1 ∷ place 2 ∷ []) ∷ (place 3 ∷ []) ∷ []) 0 0 ≡ (place 2 ∷ []) ∷ (place 3 ∷ []) ∷ [])
+-- an interval without slots is removed, and one with others stays; intervals aren't merged
+row_without : (without_slot ((slot 1 ∷ []) ∷ full ∷ []) 0 0 ≡ full ∷ []) × (without_slot ((slot 1 ∷ slot 2 ∷ []) ∷ (slot 3 ∷ []) ∷ []) 0 0 ≡ (slot 2 ∷ []) ∷ (slot 3 ∷ []) ∷ [])
 row_without = (refl, refl)

@@ -11,11 +11,11 @@ use Rattle.std.proofs.lemmas.Bool.{eqb-true, eq-eqb}
 use Rattle.std.specs.FinMap.Entries.{below_all}
 use Rattle.cics_names.specs.Keyed.{Bytes, Map, value_at, bytes_cmp, is_rising, is_same, without}
 use Rattle.cics_ksds.specs.declared.definition.FileDef.{FileDef}
-use Rattle.cics_ksds.specs.declared.places.Place.{Place}
-use Rattle.cics_ksds.specs.declared.places.Place.TheVariants.{Filled, Empty}
+use Rattle.cics_ksds.specs.declared.slots.Slot.{Slot}
+use Rattle.cics_ksds.specs.declared.slots.Slot.TheVariants.{Filled, Empty}
 use Rattle.cics_ksds.specs.Files.{is_from, key_of}
-use Rattle.cics_ksds.specs.declared.places.Position.{Position}
-use Rattle.cics_ksds.specs.Places.{record_in, ArePlaces, IsAt, IsPlace, slots, key_at, place_key, filled_slots, value_of, places_in, index_of, IsRecordUnder, left_at}
+use Rattle.cics_ksds.specs.declared.slots.Position.{Position}
+use Rattle.cics_ksds.specs.Slots.{record_in, AreSlots, IsAt, IsSlot, keyed_slots, key_at, slot_key, filled_slots, value_of, slots_in, index_of, IsRecordUnder, left_at}
 use Rattle.cics_ksds.proofs.Bounds.{before_at, after_at, here_at}
 use Rattle.cics_ksds.proofs.IntervalEdits.{index_within}
 use Rattle.cics_ksds.proofs.Edits.{find_at}
@@ -83,23 +83,23 @@ above_from p k q has above = by (bytes_cmp q p) refl
 
 -- ---- the records from a bound on
 -- where the keys that pass are those from a place on, the entries that pass are those from there on
-pub from_start : (d : FileDef) (bound : Bytes) (strict : Bool) (places : List Place) (start : ℕ) →
-    ((j : ℕ) → j < start → j < length places → is_from bound strict (key_at d places j) ≡ false) → ((j : ℕ) → start ≤ j → j < length places → is_from bound strict (key_at d places j) ≡ true) →
-    from bound strict (filled_slots (slots d places)) ≡ filled_slots (slots d (drop start places))
+pub from_start : (d : FileDef) (bound : Bytes) (strict : Bool) (slots : List Slot) (start : ℕ) →
+    ((j : ℕ) → j < start → j < length slots → is_from bound strict (key_at d slots j) ≡ false) → ((j : ℕ) → start ≤ j → j < length slots → is_from bound strict (key_at d slots j) ≡ true) →
+    from bound strict (filled_slots (keyed_slots d slots)) ≡ filled_slots (keyed_slots d (drop start slots))
 from_start d bound strict [] zero before after = refl
 from_start d bound strict [] (suc start) before after = refl
 from_start d bound strict (Filled r ∷ ps) zero before after =
-    ap (λ b. cond b ((key_of d r, r) ∷ from bound strict (filled_slots (slots d ps))) (from bound strict (filled_slots (slots d ps)))) (after 0 (omega arith) (omega arith))
+    ap (λ b. cond b ((key_of d r, r) ∷ from bound strict (filled_slots (keyed_slots d ps))) (from bound strict (filled_slots (keyed_slots d ps)))) (after 0 (omega arith) (omega arith))
     ∙ ap (λ l. (key_of d r, r) ∷ l) (from_start d bound strict ps zero (λ j lt in_range. absurd (omega (arith, lt))) (λ j le lt. after (suc j) (omega arith) (omega (arith, lt))))
 from_start d bound strict (Empty k ∷ ps) zero before after = from_start d bound strict ps zero (λ j lt in_range. absurd (omega (arith, lt))) (λ j le lt. after (suc j) (omega arith) (omega (arith, lt)))
 from_start d bound strict (Filled r ∷ ps) (suc start) before after =
-    ap (λ b. cond b ((key_of d r, r) ∷ from bound strict (filled_slots (slots d ps))) (from bound strict (filled_slots (slots d ps)))) (before 0 (omega arith) (omega arith))
+    ap (λ b. cond b ((key_of d r, r) ∷ from bound strict (filled_slots (keyed_slots d ps))) (from bound strict (filled_slots (keyed_slots d ps)))) (before 0 (omega arith) (omega arith))
     ∙ from_start d bound strict ps start (λ j lt in_range. before (suc j) (omega (arith, lt)) (omega (arith, in_range))) (λ j le lt. after (suc j) (omega (arith, le)) (omega (arith, lt)))
 from_start d bound strict (Empty k ∷ ps) (suc start) before after = from_start d bound strict ps start (λ j lt in_range. before (suc j) (omega (arith, lt)) (omega (arith, in_range))) (λ j le lt. after (suc j) (omega (arith, le)) (omega (arith, lt)))
 
--- what is left of places in order is in order
-pub rising_drop : (d : FileDef) (n : ℕ) (places : List Place) → T (is_rising (slots d places)) → T (is_rising (slots d (drop n places)))
-rising_drop d zero places rising = rising
+-- what is left of slots in order is in order
+pub rising_drop : (d : FileDef) (n : ℕ) (slots : List Slot) → T (is_rising (keyed_slots d slots)) → T (is_rising (keyed_slots d (drop n slots)))
+rising_drop d zero slots rising = rising
 rising_drop d (suc n) [] rising = tt
 rising_drop d (suc n) (p ∷ ps) rising = rising_drop d n ps (second _ _ rising)
 
@@ -110,28 +110,28 @@ module _ (d : FileDef) (prefix k : Bytes) (from_prefix : is_from prefix false k 
   beyond false q has below = refl
 
   -- no key above one that doesn't begin with it begins with it
-  none_above : (places : List Place) → T (below_all bytes_cmp k (slots d places)) → under prefix (filled_slots (slots d places)) ≡ []
+  none_above : (slots : List Slot) → T (below_all bytes_cmp k (keyed_slots d slots)) → under prefix (filled_slots (keyed_slots d slots)) ≡ []
   none_above [] below = refl
   none_above (Filled r ∷ ps) below =
-      ap (λ b. cond b ((key_of d r, r) ∷ under prefix (filled_slots (slots d ps))) (under prefix (filled_slots (slots d ps)))) (beyond (has_prefix prefix (key_of d r)) (key_of d r) refl (less _ (first _ _ below)))
+      ap (λ b. cond b ((key_of d r, r) ∷ under prefix (filled_slots (keyed_slots d ps))) (under prefix (filled_slots (keyed_slots d ps)))) (beyond (has_prefix prefix (key_of d r)) (key_of d r) refl (less _ (first _ _ below)))
       ∙ none_above ps (second _ _ below)
   none_above (Empty e ∷ ps) below = none_above ps (second _ _ below)
 
-  pub none_left : (p : Place) (places : List Place) → place_key d p ≡ k → T (is_rising (slots d (p ∷ places))) → under prefix (filled_slots (slots d (p ∷ places))) ≡ []
+  pub none_left : (p : Slot) (slots : List Slot) → slot_key d p ≡ k → T (is_rising (keyed_slots d (p ∷ slots))) → under prefix (filled_slots (keyed_slots d (p ∷ slots))) ≡ []
   none_left (Filled r) ps is rising =
-      ap (λ b. cond b ((key_of d r, r) ∷ under prefix (filled_slots (slots d ps))) (under prefix (filled_slots (slots d ps)))) (ap (has_prefix prefix) is ∙ ends)
-      ∙ none_above ps (subst (λ q. T (below_all bytes_cmp q (slots d ps))) is (first _ _ rising))
-  none_left (Empty e) ps is rising = none_above ps (subst (λ q. T (below_all bytes_cmp q (slots d ps))) is (first _ _ rising))
+      ap (λ b. cond b ((key_of d r, r) ∷ under prefix (filled_slots (keyed_slots d ps))) (under prefix (filled_slots (keyed_slots d ps)))) (ap (has_prefix prefix) is ∙ ends)
+      ∙ none_above ps (subst (λ q. T (below_all bytes_cmp q (keyed_slots d ps))) is (first _ _ rising))
+  none_left (Empty e) ps is rising = none_above ps (subst (λ q. T (below_all bytes_cmp q (keyed_slots d ps))) is (first _ _ rising))
 
 -- ---- the records under a prefix
 under_from : (prefix : Bytes) (records : Map Bytes) → under prefix (from prefix false records) ≡ under prefix records
 under_from prefix records = filter_within (λ e. has_prefix prefix e.0) (λ e. is_from prefix false e.0) (λ e has. prefix_from prefix e.0 has) records
 
 -- from the first key that isn't below the prefix on, all records under it are left
-pub start_left : (d : FileDef) (areas : List (List (List Place))) (prefix : Bytes) (at : Position) →
-    ((j : ℕ) → j < index_of areas at → j < length (places_in areas) → is_from prefix false (key_at d (places_in areas) j) ≡ false) → ((j : ℕ) → index_of areas at ≤ j → j < length (places_in areas) → is_from prefix false (key_at d (places_in areas) j) ≡ true) →
-    left_at d areas prefix (Some at) ≡ under prefix (value_of d (places_in areas)).records
-start_left d areas prefix at before after = ap (under prefix) (sym (from_start d prefix false (places_in areas) (index_of areas at) before after)) ∙ under_from prefix (value_of d (places_in areas)).records
+pub start_left : (d : FileDef) (areas : List (List (List Slot))) (prefix : Bytes) (at : Position) →
+    ((j : ℕ) → j < index_of areas at → j < length (slots_in areas) → is_from prefix false (key_at d (slots_in areas) j) ≡ false) → ((j : ℕ) → index_of areas at ≤ j → j < length (slots_in areas) → is_from prefix false (key_at d (slots_in areas) j) ≡ true) →
+    left_at d areas prefix (Some at) ≡ under prefix (value_of d (slots_in areas)).records
+start_left d areas prefix at before after = ap (under prefix) (sym (from_start d prefix false (slots_in areas) (index_of areas at) before after)) ∙ under_from prefix (value_of d (slots_in areas)).records
 
 -- the entries above a key are there without it
 pub from_without : (key : Bytes) (records : Map Bytes) → from key true (without key records) ≡ from key true records
@@ -139,51 +139,51 @@ from_without key records = filter_within (λ e. is_from key true e.0) (λ e. not
 
 -- ---- by positions
 -- a record under the prefix, at its position
-module _ (d : FileDef) (areas : List (List (List Place))) (prefix : Bytes) (at : Position) (are : ArePlaces d (places_in areas)) (is : IsRecordUnder d areas prefix at) (r : Bytes) (read : get_or (places_in areas) (index_of areas at) (Empty []) ≡ Filled r) where
+module _ (d : FileDef) (areas : List (List (List Slot))) (prefix : Bytes) (at : Position) (are : AreSlots d (slots_in areas)) (is : IsRecordUnder d areas prefix at) (r : Bytes) (read : get_or (slots_in areas) (index_of areas at) (Empty []) ≡ Filled r) where
   abbrev i : ℕ
   i = index_of areas at
 
-  within : i < length (places_in areas)
-  within = index_within areas at is.there is.place
+  within : i < length (slots_in areas)
+  within = index_within areas at is.there is.slot
 
-  at_key : IsAt d (places_in areas) (key_of d r) i
-  at_key = record { in_range = within; has_key = ap (place_key d) read }
+  at_key : IsAt d (slots_in areas) (key_of d r) i
+  at_key = record { in_range = within; has_key = ap (slot_key d) read }
 
   pub begins : has_prefix prefix (key_of d r) ≡ true
-  begins = ap (λ p. has_prefix prefix (place_key d p)) (sym read ∙ is.record_there.1) ∙ is.record_there.2
+  begins = ap (λ p. has_prefix prefix (slot_key d p)) (sym read ∙ is.record_there.1) ∙ is.record_there.2
 
   -- from there on there is its entry, and what is behind it
-  pub left_more : left_at d areas prefix (Some at) ≡ (key_of d r, r) ∷ under prefix (value_of d (drop (i + 1) (places_in areas))).records
+  pub left_more : left_at d areas prefix (Some at) ≡ (key_of d r, r) ∷ under prefix (value_of d (drop (i + 1) (slots_in areas))).records
   left_more =
-      ap (λ l. under prefix (filled_slots (slots d l))) (drop_more (places_in areas) i (Empty []) within ∙ ap (λ p. p ∷ drop (i + 1) (places_in areas)) read)
-      ∙ ap (λ b. cond b ((key_of d r, r) ∷ under prefix (filled_slots (slots d (drop (i + 1) (places_in areas))))) (under prefix (filled_slots (slots d (drop (i + 1) (places_in areas)))))) begins
+      ap (λ l. under prefix (filled_slots (keyed_slots d l))) (drop_more (slots_in areas) i (Empty []) within ∙ ap (λ p. p ∷ drop (i + 1) (slots_in areas)) read)
+      ∙ ap (λ b. cond b ((key_of d r, r) ∷ under prefix (filled_slots (keyed_slots d (drop (i + 1) (slots_in areas))))) (under prefix (filled_slots (keyed_slots d (drop (i + 1) (slots_in areas)))))) begins
 
-  pub above : (j : ℕ) → i + 1 ≤ j → j < length (places_in areas) → is_from (key_of d r) true (key_at d (places_in areas) j) ≡ true
-  above j behind in_range = after_at d (places_in areas) (key_of d r) true i are.rising at_key j (omega (arith, behind)) in_range
+  pub above : (j : ℕ) → i + 1 ≤ j → j < length (slots_in areas) → is_from (key_of d r) true (key_at d (slots_in areas) j) ≡ true
+  above j behind in_range = after_at d (slots_in areas) (key_of d r) true i are.rising at_key j (omega (arith, behind)) in_range
 
   -- behind it are the records above its key
-  records_above : from (key_of d r) true (value_of d (places_in areas)).records ≡ (value_of d (drop (i + 1) (places_in areas))).records
-  records_above = from_start d (key_of d r) true (places_in areas) (i + 1) (λ j below in_range. elim (same_or_below j i below) [
-    | inl less ↦ before_at d (places_in areas) (key_of d r) true i are.rising at_key j less
-    | inr same ↦ here_at d (places_in areas) (key_of d r) true i are.rising at_key j same
+  records_above : from (key_of d r) true (value_of d (slots_in areas)).records ≡ (value_of d (drop (i + 1) (slots_in areas))).records
+  records_above = from_start d (key_of d r) true (slots_in areas) (i + 1) (λ j below in_range. elim (same_or_below j i below) [
+    | inl less ↦ before_at d (slots_in areas) (key_of d r) true i are.rising at_key j less
+    | inr same ↦ here_at d (slots_in areas) (key_of d r) true i are.rising at_key j same
   ]) above
 
--- the place at a position that was read
-pub read_there : (d : FileDef) (places : List Place) (i : ℕ) (p : Place) → ArePlaces d places → i < length places → p ≡ get_or places i p → (get_or places i (Empty []) ≡ p) × IsPlace d p
-read_there d places i p are lt read =
-    let is : get_or places i (Empty []) ≡ p = get_or_default places i (Empty []) p lt ∙ sym read in
-    (is, subst (IsPlace d) is (are.each i (Empty []) lt))
+-- the slot at a position that was read
+pub read_there : (d : FileDef) (slots : List Slot) (i : ℕ) (p : Slot) → AreSlots d slots → i < length slots → p ≡ get_or slots i p → (get_or slots i (Empty []) ≡ p) × IsSlot d p
+read_there d slots i p are lt read =
+    let is : get_or slots i (Empty []) ≡ p = get_or_default slots i (Empty []) p lt ∙ sym read in
+    (is, subst (IsSlot d) is (are.each i (Empty []) lt))
 
--- no more records are under a prefix than there are places
-pub fewer_under : (d : FileDef) (prefix : Bytes) (places : List Place) → length (under prefix (value_of d places).records) ≤ length places
+-- no more records are under a prefix than there are slots
+pub fewer_under : (d : FileDef) (prefix : Bytes) (slots : List Slot) → length (under prefix (value_of d slots).records) ≤ length slots
 fewer_under d prefix [] = omega arith
-fewer_under d prefix (Filled r ∷ ps) = elim (has_prefix prefix (key_of d r)) as (λ b. length (cond b ((key_of d r, r) ∷ under prefix (filled_slots (slots d ps))) (under prefix (filled_slots (slots d ps)))) ≤ suc (length ps)) [
+fewer_under d prefix (Filled r ∷ ps) = elim (has_prefix prefix (key_of d r)) as (λ b. length (cond b ((key_of d r, r) ∷ under prefix (filled_slots (keyed_slots d ps))) (under prefix (filled_slots (keyed_slots d ps)))) ≤ suc (length ps)) [
   | true ↦ omega (arith, fewer_under d prefix ps)
   | false ↦ omega (arith, fewer_under d prefix ps)
 ]
 fewer_under d prefix (Empty k ∷ ps) = omega (arith, fewer_under d prefix ps)
 
-module _ (d : FileDef) (areas : List (List (List Place))) (prefix : Bytes) where
+module _ (d : FileDef) (areas : List (List (List Slot))) (prefix : Bytes) where
   -- the record that was found
   pub found_at : (next : Option Position) (at : Position) → next ≡ Some at → IfSome next (IsRecordUnder d areas prefix) → IsRecordUnder d areas prefix at
   found_at next at is found = subst (λ (o : Option Position). IfSome o (IsRecordUnder d areas prefix)) is found
@@ -193,29 +193,29 @@ module _ (d : FileDef) (areas : List (List (List Place))) (prefix : Bytes) where
   none_found None none = refl
   none_found (Some at) none = absurd (none at refl)
 
-  module _ (are : ArePlaces d (places_in areas)) (at : Position) (is : IsRecordUnder d areas prefix at) where
+  module _ (are : AreSlots d (slots_in areas)) (at : Position) (is : IsRecordUnder d areas prefix at) where
     pub found_left : (next : Option Position) → next ≡ Some at →
-        left_at d areas prefix next ≡ (key_of d is.record_there.0, is.record_there.0) ∷ under prefix (from (key_of d is.record_there.0) true (value_of d (places_in areas)).records)
+        left_at d areas prefix next ≡ (key_of d is.record_there.0, is.record_there.0) ∷ under prefix (from (key_of d is.record_there.0) true (value_of d (slots_in areas)).records)
     found_left next some =
         ap (λ (o : Option Position). left_at d areas prefix o) some ∙ left_more d areas prefix at are is is.record_there.0 is.record_there.1
         ∙ ap (λ l. (key_of d is.record_there.0, is.record_there.0) ∷ under prefix l) (sym (records_above d areas prefix at are is is.record_there.0 is.record_there.1))
 
-    lt : index_of areas at < length (places_in areas)
-    lt = index_within areas at is.there is.place
+    lt : index_of areas at < length (slots_in areas)
+    lt = index_within areas at is.there is.slot
 
-    -- the place that was read has its key
-    pub found_key : (place : Place) → place ≡ get_or (places_in areas) (index_of areas at) place → place_key d place ≡ key_of d is.record_there.0
-    found_key place read = ap (place_key d) (sym (read_there d (places_in areas) (index_of areas at) place are lt read).0 ∙ is.record_there.1)
+    -- the slot that was read has its key
+    pub found_key : (slot : Slot) → slot ≡ get_or (slots_in areas) (index_of areas at) slot → slot_key d slot ≡ key_of d is.record_there.0
+    found_key slot read = ap (slot_key d) (sym (read_there d (slots_in areas) (index_of areas at) slot are lt read).0 ∙ is.record_there.1)
 
-    pub found_place : (place : Place) → place ≡ get_or (places_in areas) (index_of areas at) place → IsPlace d place
-    found_place place read = (read_there d (places_in areas) (index_of areas at) place are lt read).1
+    pub found_slot : (slot : Slot) → slot ≡ get_or (slots_in areas) (index_of areas at) slot → IsSlot d slot
+    found_slot slot read = (read_there d (slots_in areas) (index_of areas at) slot are lt read).1
 
     -- the file has the record under its key
-    pub found_record : value_at (key_of d is.record_there.0) (value_of d (places_in areas)).records ≡ Some is.record_there.0
+    pub found_record : value_at (key_of d is.record_there.0) (value_of d (slots_in areas)).records ≡ Some is.record_there.0
     found_record =
         let key = key_of d is.record_there.0 in
-        get_records (slots d (places_in areas)) are.rising key
-        ∙ ap (option_and_then record_in) (find_at d (places_in areas) key (index_of areas at) are.rising (record { in_range = lt; has_key = ap (place_key d) is.record_there.1 }) ∙ ap Some is.record_there.1)
+        get_records (keyed_slots d (slots_in areas)) are.rising key
+        ∙ ap (option_and_then record_in) (find_at d (slots_in areas) key (index_of areas at) are.rising (record { in_range = lt; has_key = ap (slot_key d) is.record_there.1 }) ∙ ap Some is.record_there.1)
 
 -- ---- a list that is turned from one form to another, a value at a time
 module _ {X Y : Type 0} (f g : X → Y) where

@@ -122,14 +122,14 @@ by_numbers us vs m n mu nv same o is short = by o is short
     s : ℕ
     s = second_at us
 
-    place : second_at vs ≡ s
-    place = ap (λ l. 8 - (16 - l)) (sym same)
+    slot : second_at vs ≡ s
+    slot = ap (λ l. 8 - (16 - l)) (sym same)
 
     second : n.second ≡ number 0 (take 8 (drop s vs))
-    second = nv.second ∙ ap (λ (i : ℕ). number 0 (take 8 (drop i vs))) place
+    second = nv.second ∙ ap (λ (i : ℕ). number 0 (take 8 (drop i vs))) slot
 
     bytes : AreBytes 8 (drop s vs)
-    bytes = subst (λ (i : ℕ). AreBytes 8 (drop i vs)) place nv.second_bytes
+    bytes = subst (λ (i : ℕ). AreBytes 8 (drop i vs)) slot nv.second_bytes
 
     whole : bytes_cmp us vs ≡ ordering_then (ordering_then (nat_cmp m.first n.first) (nat_cmp m.second n.second)) (bytes_cmp (drop 8 (drop s us)) (drop 8 (drop s vs)))
     whole = rw (mu.first, mu.second, nv.first, second) (by_words s us vs (omega arith) (omega (arith, mu.long)) (omega (arith, mu.long, same)) mu.first_bytes nv.first_bytes mu.second_bytes bytes

@@ -3,13 +3,13 @@
 ghost use Rattle.std.specs.Prelude.{◌≡◌, ◌<◌, ◌≤◌, [], ◌∷◌, suc, IfOk, OnOk, OnErr, length};
 ghost use Rattle.std.specs.Prelude.{take, drop, slice_set, slice_index_or};
 ghost use Rattle.std.specs.List.{insert, remove};
-ghost use Rattle.cics_ksds.specs.Places.{interval_in};
+ghost use Rattle.cics_ksds.specs.Slots.{interval_in};
 ghost use Rattle.cics_ksds.specs.Heads.{IsAreaHead};
 
 use crate::intervals::Interval;
 use crate::numbered::Mark;
-use crate::places::Place;
 use crate::rooms::{insert_reserved, move_tail};
+use crate::slots::Slot;
 use cics_names::NoMemory;
 use std::alloc::Global;
 use std::marker::Model;
@@ -31,10 +31,10 @@ pub(crate) struct Area {
 
 impl Model for Area {
     ghost use Rattle.std.specs.Prelude.{◌≤◌, List, length};
-    ghost use Rattle.cics_ksds.specs.declared.places.Place.{Place};
+    ghost use Rattle.cics_ksds.specs.declared.slots.Slot.{Slot};
     ghost use Rattle.cics_ksds.specs.Heads.{IsAreaHead};
 
-    ghost Value = { List (List Place) };
+    ghost Value = { List (List Slot) };
 
     ghost view = { λ a. a.intervals.items };
 
@@ -93,35 +93,35 @@ impl Area {
     }
 
     /// Replaces a slot, and returns the old one.
-    pub(crate) fn put(&mut self, interval: usize, at: usize, place: Place) -> Place
+    pub(crate) fn put(&mut self, interval: usize, at: usize, slot: Slot) -> Slot
         requires interval { interval < length self.old }
         requires at { at < length (interval_in self.old interval) }
-        ensures places { self.new
-            ≡ slice_set self.old interval (slice_set (interval_in self.old interval) at place) }
+        ensures slots { self.new
+            ≡ slice_set self.old interval (slice_set (interval_in self.old interval) at slot) }
         ensures old { result ≡ slice_index_or (interval_in self.old interval) at result }
     {
-        let old = self.intervals[interval].put(at, place);
+        let old = self.intervals[interval].put(at, slot);
         self.head = head_of(self.intervals.as_slice());
         old
     }
 
     /// Inserts a slot into an interval that has room for it.
-    pub(crate) fn insert(&mut self, interval: usize, at: usize, place: Place)
+    pub(crate) fn insert(&mut self, interval: usize, at: usize, slot: Slot)
         requires interval { interval < length self.old }
         requires at { at ≤ length (interval_in self.old interval) }
         requires room { length (interval_in self.old interval) < 16 }
         ensures { self.new
-            ≡ slice_set self.old interval (insert (interval_in self.old interval) at place) }
+            ≡ slice_set self.old interval (insert (interval_in self.old interval) at slot) }
     {
-        self.intervals[interval].insert(at, place);
+        self.intervals[interval].insert(at, slot);
         self.head = head_of(self.intervals.as_slice());
     }
 
     /// Removes a slot, and returns it. The interval may be left without slots.
-    pub(crate) fn remove(&mut self, interval: usize, at: usize) -> Place
+    pub(crate) fn remove(&mut self, interval: usize, at: usize) -> Slot
         requires interval { interval < length self.old }
         requires at { at < length (interval_in self.old interval) }
-        ensures places { self.new
+        ensures slots { self.new
             ≡ slice_set self.old interval (remove (interval_in self.old interval) at) }
         ensures old { result ≡ slice_index_or (interval_in self.old interval) at result }
     {

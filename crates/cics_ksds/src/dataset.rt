@@ -3,14 +3,14 @@
 ghost use Rattle.std.specs.Prelude.{◌≡◌, ◌+◌, ◌*◌, ◌^◌, ◌<◌, ◌≤◌, [], ◌∷◌, All, IfOk, OnOk, OnErr};
 ghost use Rattle.std.specs.Prelude.{length, slice_set, slice_index_or, vec_len, vec_capacity};
 ghost use Rattle.std.specs.List.{insert, remove};
-ghost use Rattle.cics_ksds.specs.Places.{joined, places_in, IsArea, IsThere, IsNext, IsPrevious};
-ghost use Rattle.cics_ksds.specs.Places.{IsRoom, IsAreaRoom, HasHalves, interval_at, number_of};
-ghost use Rattle.cics_ksds.specs.Places.{index_of, with_place, without_place, halved, empty_count};
+ghost use Rattle.cics_ksds.specs.Slots.{joined, slots_in, IsArea, IsThere, IsNext, IsPrevious};
+ghost use Rattle.cics_ksds.specs.Slots.{IsRoom, IsAreaRoom, HasHalves, interval_at, number_of};
+ghost use Rattle.cics_ksds.specs.Slots.{index_of, with_slot, without_slot, halved, empty_count};
 
 use crate::areas::{self, Area};
 use crate::intervals::{self, Interval};
-use crate::places::{Place, Position};
 use crate::rooms::insert_reserved;
+use crate::slots::{Position, Slot};
 use cics_names::NoMemory;
 use std::alloc::Global;
 use std::marker::Model;
@@ -33,18 +33,18 @@ pub(crate) struct Dataset {
 
 impl Model for Dataset {
     ghost use Rattle.std.specs.Prelude.{◌≡◌, List, All, length};
-    ghost use Rattle.cics_ksds.specs.declared.places.Place.{Place};
-    ghost use Rattle.cics_ksds.specs.Places.{joined, places_in, empty_count, IsArea};
+    ghost use Rattle.cics_ksds.specs.declared.slots.Slot.{Slot};
+    ghost use Rattle.cics_ksds.specs.Slots.{joined, slots_in, empty_count, IsArea};
 
-    ghost Value = { List (List (List Place)) };
+    ghost Value = { List (List (List Slot)) };
 
     ghost view = { λ d. d.areas.items };
 
     ghost invariant = { λ d. record {
       each : All IsArea d.areas.items;
       counted : d.count ≡ length (joined d.areas.items);
-      long : d.len ≡ length (places_in d.areas.items);
-      empties : d.empties ≡ empty_count (places_in d.areas.items);
+      long : d.len ≡ length (slots_in d.areas.items);
+      empties : d.empties ≡ empty_count (slots_in d.areas.items);
     } };
 }
 
@@ -78,25 +78,25 @@ impl Dataset {
     }
 
     /// Returns the slots of an interval, in the order of their keys.
-    pub(crate) fn places(&self, area: usize, interval: usize) -> &[Place]
+    pub(crate) fn slots(&self, area: usize, interval: usize) -> &[Slot]
         requires area { area < length self.now }
         requires interval { interval < length (slice_index_or self.now area []) }
         ensures { result.now ≡ slice_index_or (slice_index_or self.now area []) interval [] }
     {
-        self.intervals(area)[interval].places()
+        self.intervals(area)[interval].slots()
     }
 
     /// Returns where the slot at a position is, or if its interval ends there, the next one.
     pub(crate) fn next(&self, at: Position) -> Option<Position>
         requires there { 0 < length self.now → IsThere self.now at }
-        requires place { at.place ≤ length (interval_at self.now at) }
+        requires slot { at.slot ≤ length (interval_at self.now at) }
         ensures next { IsNext self.now at result }
-        ensures few { length (places_in self.now) < 2 ^ 64 }
+        ensures few { length (slots_in self.now) < 2 ^ 64 }
     {
         if self.len == 0 {
             return None;
         }
-        if at.place < self.places(at.area, at.interval).len() {
+        if at.slot < self.slots(at.area, at.interval).len() {
             return Some(at);
         }
         let intervals = self.intervals(at.area).len();
@@ -104,14 +104,14 @@ impl Dataset {
             return Some(Position {
                 area: at.area,
                 interval: at.interval + 1,
-                place: 0,
+                slot: 0,
             });
         }
         if at.area + 1 < self.areas.len() {
             return Some(Position {
                 area: at.area + 1,
                 interval: 0,
-                place: 0,
+                slot: 0,
             });
         }
         None
@@ -120,22 +120,22 @@ impl Dataset {
     /// Returns where the slot before a position is.
     pub(crate) fn previous(&self, at: Position) -> Option<Position>
         requires there { 0 < length self.now → IsThere self.now at }
-        requires place { at.place ≤ length (interval_at self.now at) }
+        requires slot { at.slot ≤ length (interval_at self.now at) }
         ensures { IsPrevious self.now at result }
     {
-        if at.place > 0 {
-            let place = at.place - 1;
-            return Some(Position { place, ..at });
+        if at.slot > 0 {
+            let slot = at.slot - 1;
+            return Some(Position { slot, ..at });
         }
         if self.len == 0 {
             return None;
         }
         if at.interval > 0 {
             let interval = at.interval - 1;
-            let place = self.places(at.area, interval).len() - 1;
+            let slot = self.slots(at.area, interval).len() - 1;
             return Some(Position {
                 interval,
-                place,
+                slot,
                 ..at
             });
         }
@@ -144,33 +144,33 @@ impl Dataset {
         }
         let area = at.area - 1;
         let interval = self.intervals(area).len() - 1;
-        let place = self.places(area, interval).len() - 1;
+        let slot = self.slots(area, interval).len() - 1;
         Some(Position {
             area,
             interval,
-            place,
+            slot,
         })
     }
 
     /// Returns how many intervals there are. Cost: O(1).
     pub(crate) fn count(&self) -> u64
         ensures count { result ≡ length (joined self.now) }
-        ensures at_least { length (places_in self.now) ≤ 16 * result }
-        ensures at_most { result ≤ length (places_in self.now) }
+        ensures at_least { length (slots_in self.now) ≤ 16 * result }
+        ensures at_most { result ≤ length (slots_in self.now) }
     {
         self.count
     }
 
     /// Returns how many slots there are. Cost: O(1).
     pub(crate) fn len(&self) -> u64
-        ensures { result ≡ length (places_in self.now) }
+        ensures { result ≡ length (slots_in self.now) }
     {
         self.len
     }
 
     /// Returns how many of the slots are empty. Cost: O(1).
     pub(crate) fn empties(&self) -> u64
-        ensures { result ≡ empty_count (places_in self.now) }
+        ensures { result ≡ empty_count (slots_in self.now) }
     {
         self.empties
     }
@@ -193,15 +193,15 @@ impl Dataset {
     }
 
     /// Replaces a slot, and returns the old one. It takes no memory.
-    pub(crate) fn put(&mut self, at: Position, place: Place) -> Place
+    pub(crate) fn put(&mut self, at: Position, slot: Slot) -> Slot
         requires there { IsThere self.old at }
-        requires place { at.place < length (interval_at self.old at) }
-        ensures places { places_in self.new
-            ≡ slice_set (places_in self.old) (index_of self.old at) place }
-        ensures old { result ≡ slice_index_or (places_in self.old) (index_of self.old at) result }
+        requires slot { at.slot < length (interval_at self.old at) }
+        ensures slots { slots_in self.new
+            ≡ slice_set (slots_in self.old) (index_of self.old at) slot }
+        ensures old { result ≡ slice_index_or (slots_in self.old) (index_of self.old at) result }
     {
-        let comes = place.empties();
-        let old = self.areas[at.area].put(at.interval, at.place, place);
+        let comes = slot.empties();
+        let old = self.areas[at.area].put(at.interval, at.slot, slot);
         self.empties = self.empties - old.empties() + comes;
         old
     }
@@ -209,32 +209,32 @@ impl Dataset {
     /// Inserts a slot. A full interval is split first, and so is a full area.
     ///
     /// The only error is `NoMemory`. A full area may be split then, and the slots are as they were.
-    pub(crate) fn insert(&mut self, at: Position, place: Place) -> Result<(), NoMemory>
+    pub(crate) fn insert(&mut self, at: Position, slot: Slot) -> Result<(), NoMemory>
         requires there { 0 < length self.old → IsThere self.old at }
-        requires place { at.place ≤ length (interval_at self.old at) }
-        ensures places { OnOk result (places_in self.new
-            ≡ insert (places_in self.old) (index_of self.old at) place) }
+        requires slot { at.slot ≤ length (interval_at self.old at) }
+        ensures slots { OnOk result (slots_in self.new
+            ≡ insert (slots_in self.old) (index_of self.old at) slot) }
         ensures intervals { OnOk result (joined self.new
-            ≡ with_place (joined self.old) (number_of self.old at) at.place place) }
-        ensures err { OnErr result (places_in self.new ≡ places_in self.old) }
+            ≡ with_slot (joined self.old) (number_of self.old at) at.slot slot) }
+        ensures err { OnErr result (slots_in self.new ≡ slots_in self.old) }
     {
         if self.areas.is_empty() {
-            self.insert_first(place)
+            self.insert_first(slot)
         } else {
-            self.insert_among(at, place)
+            self.insert_among(at, slot)
         }
     }
 
     /// Inserts the first slot of all.
-    fn insert_first(&mut self, place: Place) -> Result<(), NoMemory>
+    fn insert_first(&mut self, slot: Slot) -> Result<(), NoMemory>
         requires { self.old ≡ [] }
-        ensures ok { OnOk result (self.new ≡ ((place ∷ []) ∷ []) ∷ []) }
+        ensures ok { OnOk result (self.new ≡ ((slot ∷ []) ∷ []) ∷ []) }
         ensures err { OnErr result (self.new ≡ self.old) }
     {
         let alloc = *self.areas.allocator();
-        let empties = place.empties();
+        let empties = slot.empties();
         let mut interval = Interval::new(alloc)?;
-        interval.insert(0, place);
+        interval.insert(0, slot);
         let area = Area::new(alloc, interval)?;
         self.areas.push(area)?;
         self.empties = empties;
@@ -244,22 +244,22 @@ impl Dataset {
     }
 
     /// Inserts a slot, if there are others.
-    fn insert_among(&mut self, at: Position, place: Place) -> Result<(), NoMemory>
+    fn insert_among(&mut self, at: Position, slot: Slot) -> Result<(), NoMemory>
         requires there { IsThere self.old at }
-        requires place { at.place ≤ length (interval_at self.old at) }
-        ensures places { OnOk result (places_in self.new
-            ≡ insert (places_in self.old) (index_of self.old at) place) }
+        requires slot { at.slot ≤ length (interval_at self.old at) }
+        ensures slots { OnOk result (slots_in self.new
+            ≡ insert (slots_in self.old) (index_of self.old at) slot) }
         ensures intervals { OnOk result (joined self.new
-            ≡ with_place (joined self.old) (number_of self.old at) at.place place) }
-        ensures err { OnErr result (places_in self.new ≡ places_in self.old) }
+            ≡ with_slot (joined self.old) (number_of self.old at) at.slot slot) }
+        ensures err { OnErr result (slots_in self.new ≡ slots_in self.old) }
     {
         // More slots than a number can tell are refused as memory is: no machine has them.
         let Some(len) = self.len.checked_add(1) else {
             return Err(NoMemory);
         };
         let next = self.make_room(at)?;
-        let comes = place.empties();
-        self.areas[next.area].insert(next.interval, next.place, place);
+        let comes = slot.empties();
+        self.areas[next.area].insert(next.interval, next.slot, slot);
         self.len = len;
         self.empties += comes;
         Ok(())
@@ -269,11 +269,11 @@ impl Dataset {
     /// goes to the end of the first.
     fn make_room(&mut self, at: Position) -> Result<Position, NoMemory>
         requires there { IsThere self.old at }
-        requires place { at.place ≤ length (interval_at self.old at) }
+        requires slot { at.slot ≤ length (interval_at self.old at) }
         ensures ok { IfOk result (IsRoom self.old at self.new) }
-        ensures err { OnErr result (places_in self.new ≡ places_in self.old) }
+        ensures err { OnErr result (slots_in self.new ≡ slots_in self.old) }
     {
-        if places_at(&self.areas, at) < intervals::FULL {
+        if slots_at(&self.areas, at) < intervals::FULL {
             return Ok(at);
         }
         // More intervals than a count can tell are refused as memory is: no machine has them.
@@ -284,13 +284,13 @@ impl Dataset {
         let next = self.make_area_room(at)?;
         split_interval(&mut self.areas, next, right)?;
         self.count = count;
-        if next.place <= intervals::HALF {
+        if next.slot <= intervals::HALF {
             return Ok(next);
         }
         Ok(Position {
             area: next.area,
             interval: next.interval + 1,
-            place: next.place - intervals::HALF,
+            slot: next.slot - intervals::HALF,
         })
     }
 
@@ -310,16 +310,16 @@ impl Dataset {
 
     /// Removes a slot, and returns it. An interval that is left without slots is removed too, and
     /// so is an area without intervals.
-    pub(crate) fn remove(&mut self, at: Position) -> Place
+    pub(crate) fn remove(&mut self, at: Position) -> Slot
         requires there { IsThere self.old at }
-        requires place { at.place < length (interval_at self.old at) }
-        ensures places { places_in self.new ≡ remove (places_in self.old) (index_of self.old at) }
-        ensures old { result ≡ slice_index_or (places_in self.old) (index_of self.old at) result }
+        requires slot { at.slot < length (interval_at self.old at) }
+        ensures slots { slots_in self.new ≡ remove (slots_in self.old) (index_of self.old at) }
+        ensures old { result ≡ slice_index_or (slots_in self.old) (index_of self.old at) result }
         ensures intervals { joined self.new
-            ≡ without_place (joined self.old) (number_of self.old at) at.place }
+            ≡ without_slot (joined self.old) (number_of self.old at) at.slot }
     {
-        if places_at(&self.areas, at) > 1 {
-            let old = self.areas[at.area].remove(at.interval, at.place);
+        if slots_at(&self.areas, at) > 1 {
+            let old = self.areas[at.area].remove(at.interval, at.slot);
             self.len -= 1;
             self.empties -= old.empties();
             return old;
@@ -333,7 +333,7 @@ impl Dataset {
 }
 
 /// Returns how many slots there are in the interval of a position.
-fn places_at(areas: &Vec<Area>, at: Position) -> usize
+fn slots_at(areas: &Vec<Area>, at: Position) -> usize
     requires { IsThere areas.now.items at }
     ensures count { result ≡ length (interval_at areas.now.items at) }
     ensures at_most { result ≤ 16 }
@@ -379,23 +379,23 @@ fn split_area(areas: &mut Vec<Area>, at: Position) -> Result<Position, NoMemory>
     Ok(Position {
         area: at.area + 1,
         interval: at.interval - areas::HALF,
-        place: at.place,
+        slot: at.slot,
     })
 }
 
 /// Removes the interval of a slot, and its area if that has no other. Returns the slot.
-fn remove_last(areas: &mut Vec<Area>, at: Position) -> Place
+fn remove_last(areas: &mut Vec<Area>, at: Position) -> Slot
     requires each { All IsArea areas.old.items }
     requires there { IsThere areas.old.items at }
-    requires place { at.place < length (interval_at areas.old.items at) }
+    requires slot { at.slot < length (interval_at areas.old.items at) }
     ensures each { All IsArea areas.new.items }
     ensures intervals { joined areas.new.items
         ≡ remove (joined areas.old.items) (number_of areas.old.items at) }
-    ensures old { result ≡ slice_index_or (interval_at areas.old.items at) at.place result }
+    ensures old { result ≡ slice_index_or (interval_at areas.old.items at) at.slot result }
 {
     let area = &mut areas[at.area];
     let mut interval = area.remove_interval(at.interval);
-    let old = interval.remove(at.place);
+    let old = interval.remove(at.slot);
     if area.count() > 0 {
         return old;
     }

@@ -10,8 +10,8 @@ ghost use Rattle.cics_ksds.specs.Files.{entry_of, fits_file, first_from, last_to
 use crate::FileDef;
 use crate::dataset::Dataset;
 use crate::images::{FileImage, added, removed, replaced};
-use crate::places::{Place, Spot, insert_at, put_at, record_of, spot_of, take_at};
 use crate::ranges::{copies, first_record_from, last_record_to};
+use crate::slots::{Slot, Spot, insert_at, put_at, record_of, spot_of, take_at};
 use cics_images::Changed;
 use cics_names::{Condition, Items, NoMemory, Record};
 use std::alloc::Global;
@@ -31,19 +31,19 @@ use std::marker::Model;
 #[derive(Drop)]
 pub struct File {
     pub(crate) definition: FileDef,
-    pub(crate) places: Dataset,
+    pub(crate) slots: Dataset,
     pub(crate) alloc: Global,
 }
 
 impl Model for File {
     ghost use Rattle.cics_ksds.specs.Files.{FileValue};
-    ghost use Rattle.cics_ksds.specs.Places.{ArePlaces, value_of, places_in};
+    ghost use Rattle.cics_ksds.specs.Slots.{AreSlots, value_of, slots_in};
 
     ghost Value = { FileValue };
 
-    ghost view = { λ f. value_of f.definition (places_in f.places) };
+    ghost view = { λ f. value_of f.definition (slots_in f.slots) };
 
-    ghost invariant = { λ f. ArePlaces f.definition (places_in f.places) };
+    ghost invariant = { λ f. AreSlots f.definition (slots_in f.slots) };
 }
 
 /// Returns a change that was made, with its image if one is stored.
@@ -80,7 +80,7 @@ impl File {
     {
         File {
             definition,
-            places: Dataset::new(alloc),
+            slots: Dataset::new(alloc),
             alloc,
         }
     }
@@ -92,7 +92,7 @@ impl File {
     {
         Ok(File {
             definition: self.definition,
-            places: self.places.copy(self.alloc)?,
+            slots: self.slots.copy(self.alloc)?,
             alloc: self.alloc,
         })
     }
@@ -111,7 +111,7 @@ impl File {
     pub fn read(&self, key: &[u8]) -> Option<&Record>
         ensures { option_copied result ≡ value_at key.now self.now.records }
     {
-        record_of(self.definition, &self.places, key)
+        record_of(self.definition, &self.slots, key)
     }
 
     /// Returns the record of the smallest key that isn't below the bound, or with `strict` is above
@@ -122,7 +122,7 @@ impl File {
             ≡ option_map (entry_of self.now.definition) (option_copied result) }
         ensures fits { IfSome result (λ r. IsTrue (fits_file self.now.definition r.now)) }
     {
-        first_record_from(self.definition, &self.places, bound, strict)
+        first_record_from(self.definition, &self.slots, bound, strict)
     }
 
     /// Returns the record of the greatest key that isn't above the bound, or with `strict` is below
@@ -132,14 +132,14 @@ impl File {
             ≡ option_map (entry_of self.now.definition) (option_copied result) }
         ensures fits { IfSome result (λ r. IsTrue (fits_file self.now.definition r.now)) }
     {
-        last_record_to(self.definition, &self.places, bound, strict)
+        last_record_to(self.definition, &self.slots, bound, strict)
     }
 
     /// Returns copies of all records, in the order of their keys. The only error is `NoMemory`.
     pub fn listing(&self) -> Result<Items<Record>, NoMemory>
         ensures { IfOk result (λ records. records ≡ records_of self.now.records) }
     {
-        copies(self.alloc, &self.places)
+        copies(self.alloc, &self.slots)
     }
 
     /// Returns how many control intervals the file has. An interval has 1 to 16 slots in key order.
@@ -149,7 +149,7 @@ impl File {
         ensures at_least { length self.now.records + length self.now.empties ≤ 16 * result }
         ensures at_most { result ≤ length self.now.records + length self.now.empties }
     {
-        self.places.count()
+        self.slots.count()
     }
 
     /// WRITE: adds a record under the key that lies in it. It is answered DUPREC, and nothing
@@ -172,19 +172,19 @@ impl File {
     {
         let definition = self.definition;
         let key = definition.key_in(content.bytes());
-        match spot_of(definition, &self.places, key) {
+        match spot_of(definition, &self.slots, key) {
             Spot::At(_) => Ok(not_made(Condition::Duprec)),
             Spot::AtEmpty(at) => {
                 let image = added(self.alloc, definition, key, keep)?;
-                let place = Place::filled(definition, content);
-                let _ = put_at(definition, &mut self.places, at, place);
+                let slot = Slot::filled(definition, content);
+                let _ = put_at(definition, &mut self.slots, at, slot);
                 Ok(made(image))
             }
             Spot::Gap(at) => {
                 // The image comes first: once the record is in, nothing can fail any more.
                 let image = added(self.alloc, definition, key, keep)?;
-                let place = Place::filled(definition, content);
-                insert_at(definition, &mut self.places, at, place)?;
+                let slot = Slot::filled(definition, content);
+                insert_at(definition, &mut self.slots, at, slot)?;
                 Ok(made(image))
             }
         }
@@ -206,10 +206,10 @@ impl File {
     {
         let definition = self.definition;
         let key = definition.key_in(content.bytes());
-        match spot_of(definition, &self.places, key) {
+        match spot_of(definition, &self.slots, key) {
             Spot::At(at) => {
-                let place = Place::filled(definition, content);
-                let old = put_at(definition, &mut self.places, at, place);
+                let slot = Slot::filled(definition, content);
+                let old = put_at(definition, &mut self.slots, at, slot);
                 made(replaced(definition, old, keep))
             }
             _ => not_made(Condition::Notfnd),
@@ -236,14 +236,14 @@ impl File {
             ((keep ≡ true) × (change_condition self.old.records key.now ≡ Normal)) }
     {
         let definition = self.definition;
-        match spot_of(definition, &self.places, key) {
+        match spot_of(definition, &self.slots, key) {
             Spot::At(at) => {
                 if keep {
                     let empty = Record::from_slice(self.alloc, key)?;
-                    let old = put_at(definition, &mut self.places, at, Place::empty(empty));
+                    let old = put_at(definition, &mut self.slots, at, Slot::empty(empty));
                     return Ok(made(removed(definition, old)));
                 }
-                drop(take_at(definition, &mut self.places, at));
+                drop(take_at(definition, &mut self.slots, at));
                 Ok(made(None))
             }
             _ => Ok(not_made(Condition::Notfnd)),
@@ -257,12 +257,12 @@ impl File {
         ensures others { KeepsKeys (is_other key.now) self.old self.new }
     {
         // Most often there is no empty slot, and nothing is looked for.
-        if self.places.empties() == 0 {
+        if self.slots.empties() == 0 {
             return;
         }
         let definition = self.definition;
-        match spot_of(definition, &self.places, key) {
-            Spot::AtEmpty(at) => drop(take_at(definition, &mut self.places, at)),
+        match spot_of(definition, &self.slots, key) {
+            Spot::AtEmpty(at) => drop(take_at(definition, &mut self.slots, at)),
             Spot::At(_) => {}
             Spot::Gap(_) => {}
         }

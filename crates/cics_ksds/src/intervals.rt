@@ -3,12 +3,12 @@
 ghost use Rattle.std.specs.Prelude.{◌≡◌, ◌<◌, ◌≤◌, [], IfOk, length, take, drop};
 ghost use Rattle.std.specs.Prelude.{slice_set, slice_index_or};
 ghost use Rattle.std.specs.List.{insert, remove};
-ghost use Rattle.cics_ksds.specs.Places.{listed};
+ghost use Rattle.cics_ksds.specs.Slots.{listed};
 ghost use Rattle.cics_ksds.specs.Heads.{IsHead};
 
 use crate::numbered::Mark;
-use crate::places::Place;
 use crate::rooms::{insert_reserved, move_tail};
+use crate::slots::Slot;
 use cics_names::NoMemory;
 use std::alloc::Global;
 use std::marker::Model;
@@ -24,7 +24,7 @@ pub(crate) const HALF: usize = 8;
 /// it takes memory. Contracts see the list of its slots.
 #[derive(Drop)]
 pub(crate) struct Interval {
-    places: Vec<Place>,
+    slots: Vec<Slot>,
     /// How many of the slots have a record.
     records: u64,
     /// The key head of the first slot, by which an interval is found without reading its slots.
@@ -33,19 +33,19 @@ pub(crate) struct Interval {
 
 impl Model for Interval {
     ghost use Rattle.std.specs.Prelude.{◌≡◌, ◌≤◌, List, length, vec_capacity};
-    ghost use Rattle.cics_ksds.specs.declared.places.Place.{Place};
-    ghost use Rattle.cics_ksds.specs.Places.{listed};
+    ghost use Rattle.cics_ksds.specs.declared.slots.Slot.{Slot};
+    ghost use Rattle.cics_ksds.specs.Slots.{listed};
     ghost use Rattle.cics_ksds.specs.Heads.{IsHead};
 
-    ghost Value = { List Place };
+    ghost Value = { List Slot };
 
-    ghost view = { λ i. i.places.items };
+    ghost view = { λ i. i.slots.items };
 
     ghost invariant = { λ i. record {
-      at_most : length i.places.items ≤ 16;
-      room : vec_capacity i.places ≡ 16;
-      counted : i.records ≡ length (listed i.places.items);
-      head : IsHead i.places.items i.head;
+      at_most : length i.slots.items ≤ 16;
+      room : vec_capacity i.slots ≡ 16;
+      counted : i.records ≡ length (listed i.slots.items);
+      head : IsHead i.slots.items i.head;
     } };
 }
 
@@ -55,17 +55,17 @@ impl Interval {
         ensures { IfOk result (λ made. made ≡ []) }
     {
         Ok(Interval {
-            places: Vec::with_capacity(alloc, FULL)?,
+            slots: Vec::with_capacity(alloc, FULL)?,
             records: 0,
             head: Mark::none(),
         })
     }
 
     /// Returns the slots, in the order of their keys.
-    pub(crate) fn places(&self) -> &[Place]
+    pub(crate) fn slots(&self) -> &[Slot]
         ensures { result.now ≡ self.now }
     {
-        self.places.as_slice()
+        self.slots.as_slice()
     }
 
     /// Returns how many slots there are.
@@ -73,7 +73,7 @@ impl Interval {
         ensures count { result ≡ length self.now }
         ensures at_most { length self.now ≤ 16 }
     {
-        self.places.len()
+        self.slots.len()
     }
 
     /// Returns the key head of the first slot, if there is one. It is stored beside the slots.
@@ -94,51 +94,51 @@ impl Interval {
     pub(crate) fn copy(&self, alloc: Global) -> Result<Interval, NoMemory>
         ensures { IfOk result (λ copy. copy ≡ self.now) }
     {
-        let mut places = Vec::with_capacity(alloc, FULL)?;
-        let from = self.places.as_slice();
-        for place in from {
-            places.push_reserved(place.copy(alloc)?);
+        let mut slots = Vec::with_capacity(alloc, FULL)?;
+        let from = self.slots.as_slice();
+        for slot in from {
+            slots.push_reserved(slot.copy(alloc)?);
         }
         Ok(Interval {
-            places,
+            slots,
             records: self.records,
             head: self.head,
         })
     }
 
     /// Replaces a slot, and returns the old one.
-    pub(crate) fn put(&mut self, at: usize, place: Place) -> Place
+    pub(crate) fn put(&mut self, at: usize, slot: Slot) -> Slot
         requires { at < length self.old }
-        ensures places { self.new ≡ slice_set self.old at place }
+        ensures slots { self.new ≡ slice_set self.old at slot }
         ensures old { result ≡ slice_index_or self.old at result }
     {
-        let comes = place.records();
-        let old = mem::replace(&mut self.places[at], place);
+        let comes = slot.records();
+        let old = mem::replace(&mut self.slots[at], slot);
         self.records = self.records - old.records() + comes;
-        self.head = head_of(self.places.as_slice());
+        self.head = head_of(self.slots.as_slice());
         old
     }
 
     /// Inserts a slot before the one at an index, or at the end. There must be room for it.
-    pub(crate) fn insert(&mut self, at: usize, place: Place)
+    pub(crate) fn insert(&mut self, at: usize, slot: Slot)
         requires in_range { at ≤ length self.old }
         requires room { length self.old < 16 }
-        ensures { self.new ≡ insert self.old at place }
+        ensures { self.new ≡ insert self.old at slot }
     {
-        self.records += place.records();
-        insert_reserved(&mut self.places, at, place);
-        self.head = head_of(self.places.as_slice());
+        self.records += slot.records();
+        insert_reserved(&mut self.slots, at, slot);
+        self.head = head_of(self.slots.as_slice());
     }
 
     /// Removes a slot, and returns it.
-    pub(crate) fn remove(&mut self, at: usize) -> Place
+    pub(crate) fn remove(&mut self, at: usize) -> Slot
         requires { at < length self.old }
-        ensures places { self.new ≡ remove self.old at }
+        ensures slots { self.new ≡ remove self.old at }
         ensures old { result ≡ slice_index_or self.old at result }
     {
-        let old = self.places.remove(at);
+        let old = self.slots.remove(at);
         self.records -= old.records();
-        self.head = head_of(self.places.as_slice());
+        self.head = head_of(self.slots.as_slice());
         old
     }
 
@@ -149,31 +149,31 @@ impl Interval {
         ensures left { self.new ≡ take 8 self.old }
         ensures right { right.new ≡ drop 8 self.old }
     {
-        move_tail(&mut self.places, HALF, &mut right.places);
-        right.records = records_in(right.places.as_slice());
-        right.head = head_of(right.places.as_slice());
+        move_tail(&mut self.slots, HALF, &mut right.slots);
+        right.records = records_in(right.slots.as_slice());
+        right.head = head_of(right.slots.as_slice());
         self.records -= right.records;
-        self.head = head_of(self.places.as_slice());
+        self.head = head_of(self.slots.as_slice());
     }
 }
 
 /// Returns the key head of the first of the slots, or of none.
-fn head_of(places: &[Place]) -> Mark
-    ensures { IsHead places.now result }
+fn head_of(slots: &[Slot]) -> Mark
+    ensures { IsHead slots.now result }
 {
-    if places.is_empty() {
+    if slots.is_empty() {
         return Mark::none();
     }
-    places[0].mark()
+    slots[0].mark()
 }
 
 /// Returns how many of the slots have a record.
-fn records_in(places: &[Place]) -> u64
-    ensures { result ≡ length (listed places.now) }
+fn records_in(slots: &[Slot]) -> u64
+    ensures { result ≡ length (listed slots.now) }
 {
     let mut records = 0;
-    for place in places {
-        records += place.records();
+    for slot in slots {
+        records += slot.records();
     }
     records
 }

@@ -11,10 +11,10 @@ mod images;
 mod intervals;
 mod numbered;
 mod ordered;
-mod places;
 mod prefixes;
 mod ranges;
 mod rooms;
+mod slots;
 mod undoing;
 
 pub use comparing::word_of;

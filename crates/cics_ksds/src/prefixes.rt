@@ -3,9 +3,9 @@
 ghost use Rattle.std.specs.Prelude.{◌≡◌, ◌<◌, ◌≤◌, ◌^◌, ℕ, List, [], ◌∷◌, true, false, not};
 ghost use Rattle.std.specs.Prelude.{length, map, slice_index_or, IfOk, IfSome, OnOk, OnErr};
 ghost use Rattle.cics_ksds.specs.Files.{entry_of, is_from};
-ghost use Rattle.cics_ksds.specs.Places.{ArePlaces, IsThere, IsRecordUnder, key_at, places_in};
-ghost use Rattle.cics_ksds.specs.Places.{file_of, interval_at, index_of, left_at};
-ghost use Rattle.cics_ksds.specs.declared.places.Place.TheVariants.{Filled, Empty};
+ghost use Rattle.cics_ksds.specs.Slots.{AreSlots, IsThere, IsRecordUnder, key_at, slots_in};
+ghost use Rattle.cics_ksds.specs.Slots.{file_of, interval_at, index_of, left_at};
+ghost use Rattle.cics_ksds.specs.declared.slots.Slot.TheVariants.{Filled, Empty};
 ghost use Rattle.cics_ksds.specs.Prefixes.{has_prefix, under, outside, keys_under};
 ghost use Rattle.cics_ksds.specs.Prefixes.{without_prefix, added_entry};
 
@@ -13,8 +13,8 @@ use crate::FileDef;
 use crate::dataset::Dataset;
 use crate::files::File;
 use crate::images::{Before, FileImage};
-use crate::places::{Place, Position, place_at, take_at};
 use crate::ranges::{behind, start_of};
+use crate::slots::{Position, Slot, slot_at, take_at};
 use cics_names::{Items, NoMemory, Record};
 use std::alloc::Global;
 
@@ -23,62 +23,57 @@ use std::alloc::Global;
 /// each interval without records.
 fn first_under(
     definition: FileDef,
-    places: &Dataset,
+    slots: &Dataset,
     mut at: Position,
     prefix: &[u8],
 ) -> Option<Position>
-    requires places { ArePlaces definition (places_in places.now) }
-    requires there { 0 < length places.now → IsThere places.now at }
-    requires place { at.place ≤ length (interval_at places.now at) }
-    requires from { (j : ℕ) → index_of places.now at ≤ j → j < length (places_in places.now)
-        → is_from prefix.now false (key_at definition (places_in places.now) j) ≡ true }
-    ensures left { left_at definition places.now prefix.now result
-        ≡ left_at definition places.now prefix.now (Some at) }
-    ensures found { IfSome result (IsRecordUnder definition places.now prefix.now) }
-    ensures few { length (places_in places.now) < 2 ^ 64 }
+    requires slots { AreSlots definition (slots_in slots.now) }
+    requires there { 0 < length slots.now → IsThere slots.now at }
+    requires slot { at.slot ≤ length (interval_at slots.now at) }
+    requires from { (j : ℕ) → index_of slots.now at ≤ j → j < length (slots_in slots.now)
+        → is_from prefix.now false (key_at definition (slots_in slots.now) j) ≡ true }
+    ensures left { left_at definition slots.now prefix.now result
+        ≡ left_at definition slots.now prefix.now (Some at) }
+    ensures found { IfSome result (IsRecordUnder definition slots.now prefix.now) }
+    ensures few { length (slots_in slots.now) < 2 ^ 64 }
 {
-    while let Some(here) = places.next(at) {
-        let place = place_at(places, here);
-        if !place.key(definition).starts_with(prefix) {
+    while let Some(here) = slots.next(at) {
+        let slot = slot_at(slots, here);
+        if !slot.key(definition).starts_with(prefix) {
             return None;
         }
-        match place {
-            Place::Filled(_) => return Some(here),
-            Place::Empty(_) => at = behind(places, here),
+        match slot {
+            Slot::Filled(_) => return Some(here),
+            Slot::Empty(_) => at = behind(slots, here),
         }
     }
     None
 }
 
 /// Returns the position of the record under the prefix that follows the one at `at`.
-fn next_under(
-    definition: FileDef,
-    places: &Dataset,
-    at: Position,
-    prefix: &[u8],
-) -> Option<Position>
-    requires places { ArePlaces definition (places_in places.now) }
-    requires at { IsRecordUnder definition places.now prefix.now at }
+fn next_under(definition: FileDef, slots: &Dataset, at: Position, prefix: &[u8]) -> Option<Position>
+    requires slots { AreSlots definition (slots_in slots.now) }
+    requires at { IsRecordUnder definition slots.now prefix.now at }
     ensures left { (r : List ℕ)
-        → slice_index_or (places_in places.now) (index_of places.now at) (Empty []) ≡ Filled r
-        → left_at definition places.now prefix.now (Some at)
-        ≡ entry_of definition r ∷ left_at definition places.now prefix.now result }
-    ensures found { IfSome result (IsRecordUnder definition places.now prefix.now) }
+        → slice_index_or (slots_in slots.now) (index_of slots.now at) (Empty []) ≡ Filled r
+        → left_at definition slots.now prefix.now (Some at)
+        ≡ entry_of definition r ∷ left_at definition slots.now prefix.now result }
+    ensures found { IfSome result (IsRecordUnder definition slots.now prefix.now) }
 {
-    let place = at.place + 1;
-    first_under(definition, places, Position { place, ..at }, prefix)
+    let slot = at.slot + 1;
+    first_under(definition, slots, Position { slot, ..at }, prefix)
 }
 
 /// Returns how many records have keys that begin with the prefix.
-fn count_under(definition: FileDef, places: &Dataset, prefix: &[u8]) -> u64
-    requires { ArePlaces definition (places_in places.now) }
-    ensures { result ≡ length (under prefix.now (file_of definition places.now).records) }
+fn count_under(definition: FileDef, slots: &Dataset, prefix: &[u8]) -> u64
+    requires { AreSlots definition (slots_in slots.now) }
+    ensures { result ≡ length (under prefix.now (file_of definition slots.now).records) }
 {
     let mut number = 0;
-    let start = start_of(definition, places, prefix, false);
-    let mut next = first_under(definition, places, start, prefix);
+    let start = start_of(definition, slots, prefix, false);
+    let mut next = first_under(definition, slots, start, prefix);
     while let Some(at) = next {
-        next = next_under(definition, places, at, prefix);
+        next = next_under(definition, slots, at, prefix);
         number += 1;
     }
     number
@@ -88,21 +83,21 @@ fn count_under(definition: FileDef, places: &Dataset, prefix: &[u8]) -> u64
 fn images_under(
     alloc: Global,
     definition: FileDef,
-    places: &Dataset,
+    slots: &Dataset,
     prefix: &[u8],
 ) -> Result<Vec<FileImage>, NoMemory>
-    requires { ArePlaces definition (places_in places.now) }
+    requires { AreSlots definition (slots_in slots.now) }
     ensures { IfOk result (λ images. images.items
-        ≡ map (added_entry definition) (under prefix.now (file_of definition places.now).records)) }
+        ≡ map (added_entry definition) (under prefix.now (file_of definition slots.now).records)) }
 {
     let mut images = Vec::new(alloc);
-    let start = start_of(definition, places, prefix, false);
-    let mut next = first_under(definition, places, start, prefix);
+    let start = start_of(definition, slots, prefix, false);
+    let mut next = first_under(definition, slots, start, prefix);
     while let Some(at) = next {
-        let key = place_at(places, at).key(definition);
+        let key = slot_at(slots, at).key(definition);
         let before = Before::Added(Record::from_slice(alloc, key)?);
         images.push(FileImage { definition, before })?;
-        next = next_under(definition, places, at, prefix);
+        next = next_under(definition, slots, at, prefix);
     }
     Ok(images)
 }
@@ -111,41 +106,41 @@ fn images_under(
 fn keys_under(
     alloc: Global,
     definition: FileDef,
-    places: &Dataset,
+    slots: &Dataset,
     prefix: &[u8],
 ) -> Result<Items<Record>, NoMemory>
-    requires { ArePlaces definition (places_in places.now) }
+    requires { AreSlots definition (slots_in slots.now) }
     ensures { IfOk result (λ keys. keys
-        ≡ keys_under prefix.now (file_of definition places.now).records) }
+        ≡ keys_under prefix.now (file_of definition slots.now).records) }
 {
     let mut keys = Items::new(alloc);
-    let start = start_of(definition, places, prefix, false);
-    let mut next = first_under(definition, places, start, prefix);
+    let start = start_of(definition, slots, prefix, false);
+    let mut next = first_under(definition, slots, start, prefix);
     while let Some(at) = next {
-        let key = place_at(places, at).key(definition);
+        let key = slot_at(slots, at).key(definition);
         keys.push(Record::from_slice(alloc, key)?)?;
-        next = next_under(definition, places, at, prefix);
+        next = next_under(definition, slots, at, prefix);
     }
     Ok(keys)
 }
 
 /// Removes the slots of all records under the prefix, and returns how many they were.
-fn drop_under(definition: FileDef, places: &mut Dataset, prefix: &[u8]) -> u64
-    requires { ArePlaces definition (places_in places.old) }
-    ensures places { ArePlaces definition (places_in places.new) }
-    ensures value { file_of definition places.new
-        ≡ without_prefix false (file_of definition places.old) prefix.now }
-    ensures number { result ≡ length (under prefix.now (file_of definition places.old).records) }
+fn drop_under(definition: FileDef, slots: &mut Dataset, prefix: &[u8]) -> u64
+    requires { AreSlots definition (slots_in slots.old) }
+    ensures slots { AreSlots definition (slots_in slots.new) }
+    ensures value { file_of definition slots.new
+        ≡ without_prefix false (file_of definition slots.old) prefix.now }
+    ensures number { result ≡ length (under prefix.now (file_of definition slots.old).records) }
 {
     let mut number = 0;
-    let start = start_of(definition, places, prefix, false);
-    let mut next = first_under(definition, places, start, prefix);
+    let start = start_of(definition, slots, prefix, false);
+    let mut next = first_under(definition, slots, start, prefix);
     while let Some(at) = next {
-        let old = take_at(definition, places, at);
+        let old = take_at(definition, slots, at);
         number += 1;
-        let rest = start_of(definition, places, old.key(definition), true);
+        let rest = start_of(definition, slots, old.key(definition), true);
         drop(old);
-        next = first_under(definition, places, rest, prefix);
+        next = first_under(definition, slots, rest, prefix);
     }
     number
 }
@@ -171,7 +166,7 @@ impl File {
     pub fn count_prefix(&self, prefix: &[u8]) -> u64
         ensures { result ≡ length (under prefix.now self.now.records) }
     {
-        count_under(self.definition, &self.places, prefix)
+        count_under(self.definition, &self.slots, prefix)
     }
 
     /// Returns the keys of the records that `count_prefix` counts, in their order. The only error
@@ -181,7 +176,7 @@ impl File {
     pub fn keys_under(&self, prefix: &[u8]) -> Result<Items<Record>, NoMemory>
         ensures { IfOk result (λ keys. keys ≡ keys_under prefix.now self.now.records) }
     {
-        keys_under(self.alloc, self.definition, &self.places, prefix)
+        keys_under(self.alloc, self.definition, &self.slots, prefix)
     }
 
     /// DELETE with GENERIC (the file control chapter of the Application Programmer's Reference
@@ -219,7 +214,7 @@ impl File {
             });
         }
         Ok(Removed {
-            number: drop_under(self.definition, &mut self.places, prefix),
+            number: drop_under(self.definition, &mut self.slots, prefix),
             images: Items::new(self.alloc),
         })
     }
@@ -237,7 +232,7 @@ impl File {
         ensures err { OnErr result (self.new ≡ self.old) }
     {
         // All memory comes first: an image each, with the key of the slot that will be empty.
-        let mut images = images_under(self.alloc, self.definition, &self.places, prefix)?;
+        let mut images = images_under(self.alloc, self.definition, &self.slots, prefix)?;
         for at in 0..images.len() {
             self.exchange(&mut images[at]);
         }

@@ -1,14 +1,14 @@
 use Rattle.std.proofs.Common.{◌≡◌, ◌++◌, length, map, IfSome}
-use Rattle.cics_ksds.specs.Places.{IsRecordUnder, places_in, value_of, left_at}
+use Rattle.cics_ksds.specs.Slots.{IsRecordUnder, slots_in, value_of, left_at}
 use Rattle.cics_ksds.specs.Prefixes.{keys_under}
 use Rattle.cics_ksds.proofs.prefixes.keys_under.Given as goal
 
 -- those that were made and those that are left are all of them
 abbrev pub invariant-loop-next : goal.invariant-loop-next
 invariant-loop-next l = record {
-  found : IfSome l.next (IsRecordUnder l.definition l.places l.prefix);
-  whole : l.keys ++ map (λ e. e.0) (left_at l.definition l.places l.prefix l.next) ≡ keys_under l.prefix (value_of l.definition (places_in l.places)).records;
+  found : IfSome l.next (IsRecordUnder l.definition l.slots l.prefix);
+  whole : l.keys ++ map (λ e. e.0) (left_at l.definition l.slots l.prefix l.next) ≡ keys_under l.prefix (value_of l.definition (slots_in l.slots)).records;
 }
 
 abbrev pub decreases-loop-next : goal.decreases-loop-next
-decreases-loop-next l = length (left_at l.definition l.places l.prefix l.next)
+decreases-loop-next l = length (left_at l.definition l.slots l.prefix l.next)

@@ -1,7 +1,7 @@
 use Rattle.std.proofs.Common.{List, not, false, sym, ◌∙◌, ap, subst}
 use Rattle.cics_images.specs.Cells.{AreOf}
 use Rattle.cics_ksds.specs.Files.{FileValue, IsContent}
-use Rattle.cics_ksds.specs.Places.{places_in}
+use Rattle.cics_ksds.specs.Slots.{slots_in}
 use Rattle.cics_ksds.specs.Undo.{ImageValue, key_of_image, KeepsKeys}
 use Rattle.cics_ksds.specs.Prefixes.{has_prefix, without_prefix, AreFileImages}
 use Rattle.cics_ksds.specs.PrefixLaws.{prefix_keeps}
@@ -21,7 +21,7 @@ returns-then-keep-clause-others c = c.empty_under.ensures.others
 pub returns-clause-plain : goal.returns-clause-plain
 returns-clause-plain c =
     let old = c.args.self.now in
-    let content : IsContent old.definition old.records = subst (λ (f : FileValue). IsContent f.definition f.records) c.self.view_is (content_of c.self.inside.definition (places_in c.self.inside.places) c.self.invariant) in
+    let content : IsContent old.definition old.records = subst (λ (f : FileValue). IsContent f.definition f.records) c.self.view_is (content_of c.self.inside.definition (slots_in c.self.inside.slots) c.self.invariant) in
     ap (λ (f : FileValue). f.records) (c.drop_under.ensures.value ∙ ap (λ (f : FileValue). without_prefix false f c.args.prefix.now) c.self.view_is)
     ∙ without_prefix_records false old c.args.prefix.now content
 

@@ -4,7 +4,7 @@ use Rattle.cics_names.specs.Keyed.{Bytes, Map, value_at, has_key, is_key_in}
 use Rattle.cics_images.specs.Cells.{AreOf}
 use Rattle.cics_ksds.specs.Files.{FileValue, IsContent, deleted}
 use Rattle.cics_ksds.specs.Undo.{ImageValue, undone, key_of_image, KeepsKeys}
-use Rattle.cics_ksds.specs.Places.{places_in}
+use Rattle.cics_ksds.specs.Slots.{slots_in}
 use Rattle.cics_ksds.specs.Prefixes.{has_prefix, under, all_deleted, removed_entry, added_entry, prefix_images, AreFileImages}
 use Rattle.cics_ksds.specs.PrefixLaws.{AreThere, under_there, others_there, emptied_there, same_deleted, prefix_made, prefix_named, prefix_keeps}
 use Rattle.cics_ksds.specs.PrefixRecords.{without_prefix_records}
@@ -15,7 +15,7 @@ use Rattle.cics_ksds.proofs.files.File.empty_under.Goals.{After-len-at-end, Afte
 
 -- what the records of the file always are
 content : (c : After-len-at-end) → IsContent c.args.self.now.definition c.args.self.now.records
-content c = subst (λ (f : FileValue). IsContent f.definition f.records) c.self.view_is (content_of c.self.inside.definition (places_in c.self.inside.places) c.self.invariant)
+content c = subst (λ (f : FileValue). IsContent f.definition f.records) c.self.view_is (content_of c.self.inside.definition (slots_in c.self.inside.slots) c.self.invariant)
 
 -- the images as they are made, over the file that is seen
 made : (c : After-len-at-end) → c.in_ok-images.images.items ≡ map (added_entry c.args.self.now.definition) (under c.args.prefix.now c.args.self.now.records)

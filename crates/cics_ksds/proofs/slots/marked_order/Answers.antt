@@ -5,15 +5,15 @@ use Rattle.std.specs.Ordering.{is_eq}
 use Rattle.cics_names.specs.Keyed.{Bytes}
 use Rattle.cics_ksds.specs.declared.definition.FileDef.{FileDef}
 use Rattle.cics_ksds.specs.declared.numbered.Mark.{Mark}
-use Rattle.cics_ksds.specs.declared.places.Place.{Place}
-use Rattle.cics_ksds.specs.declared.places.Place.TheVariants.{Filled, Empty}
+use Rattle.cics_ksds.specs.declared.slots.Slot.{Slot}
+use Rattle.cics_ksds.specs.declared.slots.Slot.TheVariants.{Filled, Empty}
 use Rattle.cics_ksds.specs.Files.{key_of, fits_file}
-use Rattle.cics_ksds.specs.Heads.{IsPlaceMark}
-use Rattle.cics_ksds.specs.Places.{AreKeyNumbers, IsPlace, place_key}
+use Rattle.cics_ksds.specs.Heads.{IsSlotMark}
+use Rattle.cics_ksds.specs.Slots.{AreKeyNumbers, IsSlot, slot_key}
 use Rattle.cics_ksds.specs.Words.{AreNumbers}
 use Rattle.cics_ksds.proofs.Words.{by_numbers}
-use Rattle.cics_ksds.proofs.places.marked_order.Goals as goal
-use Rattle.cics_ksds.proofs.places.marked_order.Goals.{else-key-gt-BYTES-via-then-key-gt-BYTES+else-is_eq, else-key-gt-BYTES-via-else-key-gt-BYTES}
+use Rattle.cics_ksds.proofs.slots.marked_order.Goals as goal
+use Rattle.cics_ksds.proofs.slots.marked_order.Goals.{else-key-gt-BYTES-via-then-key-gt-BYTES+else-is_eq, else-key-gt-BYTES-via-else-key-gt-BYTES}
 
 -- the key of a record that fits has its whole length
 whole : (d : FileDef) (r : Bytes) → IsTrue (fits_file d r) → length (key_of d r) ≡ d.key_length
@@ -21,9 +21,9 @@ whole d r fits =
     let long : d.key_offset + d.key_length ≤ length r = grind arith in
     length-take-le d.key_length (drop d.key_offset r) (omega (arith, length-drop d.key_offset r))
 
--- the mark's numbers are those of the place's key
-numbers : (d : FileDef) (mark : Mark) → mark.length ≡ d.key_length → mark.offset ≡ d.key_offset → 0 < mark.length → (place : Place) → IsPlace d place → IsPlaceMark place mark
-    → AreKeyNumbers d (place_key d place) mark.numbers
+-- the mark's numbers are those of the slot's key
+numbers : (d : FileDef) (mark : Mark) → mark.length ≡ d.key_length → mark.offset ≡ d.key_offset → 0 < mark.length → (slot : Slot) → IsSlot d slot → IsSlotMark slot mark
+    → AreKeyNumbers d (slot_key d slot) mark.numbers
 numbers d mark same at some (Filled r) fits marked = record {
   whole = whole d r fits;
   numbers = subst (λ (n : ℕ). AreNumbers (take n (drop d.key_offset r)) mark.numbers) same (subst (λ (n : ℕ). AreNumbers (take mark.length (drop n r)) mark.numbers) at (marked some));
@@ -31,9 +31,9 @@ numbers d mark same at some (Filled r) fits marked = record {
 numbers d mark same at some (Empty key) fits marked = record { whole = (marked some).0 ∙ same; numbers = (marked some).1 }
 
 pub returns : goal.returns
-returns c = λ place fits marked.
-    let own = numbers c.args.definition c.args.mark c.if-mark-definition.false c.if-mark-definition-2.false (omega (arith, c.if-mark-definition.false, sought.whole, sought.numbers.long)) place fits marked in
-    by_numbers (place_key c.args.definition place) c.args.key.now c.args.mark.numbers c.in-Some.sought own.numbers sought.numbers (own.whole ∙ sym sought.whole)
+returns c = λ slot fits marked.
+    let own = numbers c.args.definition c.args.mark c.if-mark-definition.false c.if-mark-definition-2.false (omega (arith, c.if-mark-definition.false, sought.whole, sought.numbers.long)) slot fits marked in
+    by_numbers (slot_key c.args.definition slot) c.args.key.now c.args.mark.numbers c.in-Some.sought own.numbers sought.numbers (own.whole ∙ sym sought.whole)
     c.order-order.result c.order-order.ensures (λ tie. omega (arith, few tie, own.whole, sought.whole))
   where
     sought : AreKeyNumbers c.args.definition c.args.key.now c.in-Some.sought

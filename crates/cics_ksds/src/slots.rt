@@ -1,4 +1,4 @@
-//! The slots of a file (`Place`), in the order of their keys, and how one is found.
+//! The slots of a file (`Slot`), in the order of their keys, and how one is found.
 //!
 //! A slot has a record, or it is empty. Then its record was deleted in a unit of work that may
 //! still be backed out. The slot stays so that putting the record back takes no memory.
@@ -8,13 +8,13 @@ ghost use Rattle.std.specs.Prelude.{IfOk, IfErr, IfSome, OnOk, OnErr};
 ghost use Rattle.std.specs.Option.{option_copied};
 ghost use Rattle.cics_names.specs.Keyed.{value_at, bytes_cmp};
 ghost use Rattle.cics_ksds.specs.Files.{dropped};
-ghost use Rattle.cics_ksds.specs.Heads.{IsPlaceMark};
-ghost use Rattle.cics_ksds.specs.Places.{IsPlace, ArePlaces, IsAt, IsGapFor, Shows};
-ghost use Rattle.cics_ksds.specs.Places.{place_key, key_at, file_of, placed, places_in};
-ghost use Rattle.cics_ksds.specs.Places.{empty_in, listed, interval_in, interval_at, index_of};
-ghost use Rattle.cics_ksds.specs.Places.{IsSpot, IsThere, IsPlaceOf, IsGapAt, HasFirst};
-ghost use Rattle.cics_ksds.specs.Places.{IsLastFrom, first_key_of, AreKeyNumbers};
-ghost use Rattle.cics_ksds.specs.declared.places.Place.TheVariants.{Filled, Empty};
+ghost use Rattle.cics_ksds.specs.Heads.{IsSlotMark};
+ghost use Rattle.cics_ksds.specs.Slots.{IsSlot, AreSlots, IsAt, IsGapFor, Shows};
+ghost use Rattle.cics_ksds.specs.Slots.{slot_key, key_at, file_of, placed, slots_in};
+ghost use Rattle.cics_ksds.specs.Slots.{empty_in, listed, interval_in, interval_at, index_of};
+ghost use Rattle.cics_ksds.specs.Slots.{IsSpot, IsThere, IsSlotOf, IsGapAt, HasFirst};
+ghost use Rattle.cics_ksds.specs.Slots.{IsLastFrom, first_key_of, AreKeyNumbers};
+ghost use Rattle.cics_ksds.specs.declared.slots.Slot.TheVariants.{Filled, Empty};
 
 use crate::FileDef;
 use crate::areas::Area;
@@ -28,55 +28,55 @@ use std::cmp::Ordering;
 
 /// One slot of a file.
 #[derive(Drop)]
-pub(crate) enum Place {
+pub(crate) enum Slot {
     /// A record, which has its own key.
     Filled(Numbered),
     /// The key of a slot without a record.
     Empty(Numbered),
 }
 
-impl Place {
+impl Slot {
     /// Returns the slot of a record.
-    pub(crate) fn filled(definition: FileDef, content: Record) -> Place
+    pub(crate) fn filled(definition: FileDef, content: Record) -> Slot
         ensures { result ≡ Filled content }
     {
-        Place::Filled(Numbered::new(content, definition.key_offset, definition.key_length))
+        Slot::Filled(Numbered::new(content, definition.key_offset, definition.key_length))
     }
 
     /// Returns the empty slot of a key.
-    pub(crate) fn empty(key: Record) -> Place
+    pub(crate) fn empty(key: Record) -> Slot
         ensures { result ≡ Empty key }
     {
         let length = key.len() as u64;
-        Place::Empty(Numbered::new(key, 0, length))
+        Slot::Empty(Numbered::new(key, 0, length))
     }
 
     /// Returns the key that the slot is found by.
     pub(crate) fn key(&self, definition: FileDef) -> &[u8]
-        requires { IsPlace definition self.now }
-        ensures { result.now ≡ place_key definition self.now }
+        requires { IsSlot definition self.now }
+        ensures { result.now ≡ slot_key definition self.now }
     {
         match self {
-            Place::Filled(record) => definition.key_in(record.bytes()),
-            Place::Empty(key) => key.bytes(),
+            Slot::Filled(record) => definition.key_in(record.bytes()),
+            Slot::Empty(key) => key.bytes(),
         }
     }
 
     /// Returns the key head of the key.
     pub(crate) fn mark(&self) -> Mark
-        ensures { IsPlaceMark self.now result }
+        ensures { IsSlotMark self.now result }
     {
         match self {
-            Place::Filled(record) => record.mark(),
-            Place::Empty(key) => key.whole_mark(),
+            Slot::Filled(record) => record.mark(),
+            Slot::Empty(key) => key.whole_mark(),
         }
     }
 
     /// Compares the key with one that is sought, whose numbers are known if it is a whole key.
     fn order_to(&self, definition: FileDef, key: &[u8], sought: Option<Numbers>) -> Ordering
-        requires place { IsPlace definition self.now }
+        requires slot { IsSlot definition self.now }
         requires sought { IfSome sought (AreKeyNumbers definition key.now) }
-        ensures { result ≡ bytes_cmp (place_key definition self.now) key.now }
+        ensures { result ≡ bytes_cmp (slot_key definition self.now) key.now }
     {
         match marked_order(self.mark(), definition, key, sought) {
             Some(order) => order,
@@ -89,8 +89,8 @@ impl Place {
         ensures { result ≡ empty_in self.now }
     {
         match self {
-            Place::Filled(_) => 0,
-            Place::Empty(_) => 1,
+            Slot::Filled(_) => 0,
+            Slot::Empty(_) => 1,
         }
     }
 
@@ -99,18 +99,18 @@ impl Place {
         ensures { result ≡ length (listed (self.now ∷ [])) }
     {
         match self {
-            Place::Filled(_) => 1,
-            Place::Empty(_) => 0,
+            Slot::Filled(_) => 1,
+            Slot::Empty(_) => 0,
         }
     }
 
     /// Returns a copy of the slot. The only error is `NoMemory`.
-    pub(crate) fn copy(&self, alloc: Global) -> Result<Place, NoMemory>
+    pub(crate) fn copy(&self, alloc: Global) -> Result<Slot, NoMemory>
         ensures { IfOk result (λ copy. copy ≡ self.now) }
     {
         match self {
-            Place::Filled(record) => Ok(Place::Filled(record.copy(alloc)?)),
-            Place::Empty(key) => Ok(Place::Empty(key.copy(alloc)?)),
+            Slot::Filled(record) => Ok(Slot::Filled(record.copy(alloc)?)),
+            Slot::Empty(key) => Ok(Slot::Empty(key.copy(alloc)?)),
         }
     }
 }
@@ -121,7 +121,7 @@ impl Place {
 pub(crate) struct Position {
     pub(crate) area: usize,
     pub(crate) interval: usize,
-    pub(crate) place: usize,
+    pub(crate) slot: usize,
 }
 
 /// Where the slot of a key is.
@@ -153,8 +153,8 @@ fn marked_order(
     sought: Option<Numbers>,
 ) -> Option<Ordering>
     requires { IfSome sought (AreKeyNumbers definition key.now) }
-    ensures { IfSome result (λ order. (place : Place) → IsPlace definition place
-        → IsPlaceMark place mark → order ≡ bytes_cmp (place_key definition place) key.now) }
+    ensures { IfSome result (λ order. (slot : Slot) → IsSlot definition slot
+        → IsSlotMark slot mark → order ≡ bytes_cmp (slot_key definition slot) key.now) }
 {
     let Some(sought) = sought else {
         return None;
@@ -173,20 +173,20 @@ fn marked_order(
 /// The keys rise, so each step leaves out half of the slots that are left.
 fn search(
     definition: FileDef,
-    places: &[Place],
+    slots: &[Slot],
     key: &[u8],
     sought: Option<Numbers>,
 ) -> Result<usize, usize>
-    requires places { ArePlaces definition places.now }
+    requires slots { AreSlots definition slots.now }
     requires sought { IfSome sought (AreKeyNumbers definition key.now) }
-    ensures found { IfOk result (IsAt definition places.now key.now) }
-    ensures absent { IfErr result (IsGapFor definition places.now key.now) }
+    ensures found { IfOk result (IsAt definition slots.now key.now) }
+    ensures absent { IfErr result (IsGapFor definition slots.now key.now) }
 {
     let mut low = 0;
-    let mut high = places.len();
+    let mut high = slots.len();
     while low < high {
         let middle = low + (high - low) / 2;
-        match places[middle].order_to(definition, key, sought) {
+        match slots[middle].order_to(definition, key, sought) {
             Ordering::Less => low = middle + 1,
             Ordering::Equal => return Ok(middle),
             Ordering::Greater => high = middle,
@@ -208,7 +208,7 @@ fn first_order(
 {
     match marked_order(interval.head(), definition, key, sought) {
         Some(order) => order,
-        None => order_of(interval.places()[0].key(definition), key),
+        None => order_of(interval.slots()[0].key(definition), key),
     }
 }
 
@@ -221,7 +221,7 @@ fn area_order(definition: FileDef, area: &Area, key: &[u8], sought: Option<Numbe
 {
     match marked_order(area.head(), definition, key, sought) {
         Some(order) => order,
-        None => order_of(area.intervals()[0].places()[0].key(definition), key),
+        None => order_of(area.intervals()[0].slots()[0].key(definition), key),
     }
 }
 
@@ -277,54 +277,54 @@ fn area_of(definition: FileDef, areas: &[Area], key: &[u8], sought: Option<Numbe
 
 /// Returns where a key's slot is, or else where it would be inserted. That is in the last interval
 /// that doesn't begin above the key, or if all do, in the first one.
-pub(crate) fn find(definition: FileDef, places: &Dataset, key: &[u8]) -> Result<Position, Position>
-    requires { ArePlaces definition (places_in places.now) }
-    ensures found { IfOk result (IsPlaceOf definition places.now key.now) }
-    ensures absent { IfErr result (IsGapAt definition places.now key.now) }
+pub(crate) fn find(definition: FileDef, slots: &Dataset, key: &[u8]) -> Result<Position, Position>
+    requires { AreSlots definition (slots_in slots.now) }
+    ensures found { IfOk result (IsSlotOf definition slots.now key.now) }
+    ensures absent { IfErr result (IsGapAt definition slots.now key.now) }
 {
-    if places.areas().is_empty() {
+    if slots.areas().is_empty() {
         return Err(Position {
             area: 0,
             interval: 0,
-            place: 0,
+            slot: 0,
         });
     }
     let sought = numbers_of(definition, key);
-    let area = area_of(definition, places.areas(), key, sought);
-    let interval = interval_of(definition, places.intervals(area), key, sought);
-    match search(definition, places.places(area, interval), key, sought) {
-        Ok(place) => Ok(Position {
+    let area = area_of(definition, slots.areas(), key, sought);
+    let interval = interval_of(definition, slots.intervals(area), key, sought);
+    match search(definition, slots.slots(area, interval), key, sought) {
+        Ok(slot) => Ok(Position {
             area,
             interval,
-            place,
+            slot,
         }),
-        Err(place) => Err(Position {
+        Err(slot) => Err(Position {
             area,
             interval,
-            place,
+            slot,
         }),
     }
 }
 
 /// Returns the slot at a position.
-pub(crate) fn place_at(places: &Dataset, at: Position) -> &Place
-    requires there { IsThere places.now at }
-    requires place { at.place < length (interval_at places.now at) }
+pub(crate) fn slot_at(slots: &Dataset, at: Position) -> &Slot
+    requires there { IsThere slots.now at }
+    requires slot { at.slot < length (interval_at slots.now at) }
     ensures { result.now
-        ≡ slice_index_or (places_in places.now) (index_of places.now at) result.now }
+        ≡ slice_index_or (slots_in slots.now) (index_of slots.now at) result.now }
 {
-    &places.places(at.area, at.interval)[at.place]
+    &slots.slots(at.area, at.interval)[at.slot]
 }
 
 /// Returns where the slot of a key is, and whether it has a record: what each change starts from.
-pub(crate) fn spot_of(definition: FileDef, places: &Dataset, key: &[u8]) -> Spot
-    requires { ArePlaces definition (places_in places.now) }
-    ensures { IsSpot definition places.now key.now result }
+pub(crate) fn spot_of(definition: FileDef, slots: &Dataset, key: &[u8]) -> Spot
+    requires { AreSlots definition (slots_in slots.now) }
+    ensures { IsSpot definition slots.now key.now result }
 {
-    match find(definition, places, key) {
-        Ok(at) => match place_at(places, at) {
-            Place::Filled(_) => Spot::At(at),
-            Place::Empty(_) => Spot::AtEmpty(at),
+    match find(definition, slots, key) {
+        Ok(at) => match slot_at(slots, at) {
+            Slot::Filled(_) => Spot::At(at),
+            Slot::Empty(_) => Spot::AtEmpty(at),
         },
         Err(at) => Spot::Gap(at),
     }
@@ -333,65 +333,65 @@ pub(crate) fn spot_of(definition: FileDef, places: &Dataset, key: &[u8]) -> Spot
 /// Returns the record of a key. An empty slot has none.
 pub(crate) fn record_of<'a>(
     definition: FileDef,
-    places: &'a Dataset,
+    slots: &'a Dataset,
     key: &[u8],
 ) -> Option<&'a Record>
-    requires { ArePlaces definition (places_in places.now) }
-    ensures { option_copied result ≡ value_at key.now (file_of definition places.now).records }
+    requires { AreSlots definition (slots_in slots.now) }
+    ensures { option_copied result ≡ value_at key.now (file_of definition slots.now).records }
 {
-    match find(definition, places, key) {
-        Ok(at) => match place_at(places, at) {
-            Place::Filled(record) => Some(record.record()),
-            Place::Empty(_key) => None,
+    match find(definition, slots, key) {
+        Ok(at) => match slot_at(slots, at) {
+            Slot::Filled(record) => Some(record.record()),
+            Slot::Empty(_key) => None,
         },
         Err(_) => None,
     }
 }
 
 /// Replaces the slot of the same key, and returns the old one. It takes no memory.
-pub(crate) fn put_at(definition: FileDef, places: &mut Dataset, at: Position, place: Place) -> Place
-    requires places { ArePlaces definition (places_in places.old) }
-    requires at { IsPlaceOf definition places.old (place_key definition place) at }
-    requires place { IsPlace definition place }
-    ensures places { ArePlaces definition (places_in places.new) }
-    ensures value { file_of definition places.new
-        ≡ placed (file_of definition places.old) (place_key definition place) place }
-    ensures old { Shows (file_of definition places.old) (place_key definition place) result }
-    ensures old_place { IsPlace definition result }
-    ensures old_key { place_key definition result ≡ place_key definition place }
+pub(crate) fn put_at(definition: FileDef, slots: &mut Dataset, at: Position, slot: Slot) -> Slot
+    requires slots { AreSlots definition (slots_in slots.old) }
+    requires at { IsSlotOf definition slots.old (slot_key definition slot) at }
+    requires slot { IsSlot definition slot }
+    ensures slots { AreSlots definition (slots_in slots.new) }
+    ensures value { file_of definition slots.new
+        ≡ placed (file_of definition slots.old) (slot_key definition slot) slot }
+    ensures old { Shows (file_of definition slots.old) (slot_key definition slot) result }
+    ensures old_slot { IsSlot definition result }
+    ensures old_key { slot_key definition result ≡ slot_key definition slot }
 {
-    places.put(at, place)
+    slots.put(at, slot)
 }
 
 /// Inserts a slot into the gap for its key. A full interval is split first.
 pub(crate) fn insert_at(
     definition: FileDef,
-    places: &mut Dataset,
+    slots: &mut Dataset,
     at: Position,
-    place: Place,
+    slot: Slot,
 ) -> Result<(), NoMemory>
-    requires places { ArePlaces definition (places_in places.old) }
-    requires gap { IsGapAt definition places.old (place_key definition place) at }
-    requires place { IsPlace definition place }
-    ensures places { ArePlaces definition (places_in places.new) }
-    ensures value { OnOk result (file_of definition places.new
-        ≡ placed (file_of definition places.old) (place_key definition place) place) }
-    ensures err { OnErr result (places_in places.new ≡ places_in places.old) }
+    requires slots { AreSlots definition (slots_in slots.old) }
+    requires gap { IsGapAt definition slots.old (slot_key definition slot) at }
+    requires slot { IsSlot definition slot }
+    ensures slots { AreSlots definition (slots_in slots.new) }
+    ensures value { OnOk result (file_of definition slots.new
+        ≡ placed (file_of definition slots.old) (slot_key definition slot) slot) }
+    ensures err { OnErr result (slots_in slots.new ≡ slots_in slots.old) }
 {
-    places.insert(at, place)?;
+    slots.insert(at, slot)?;
     Ok(())
 }
 
 /// Removes a slot, and returns it. It takes no memory.
-pub(crate) fn take_at(definition: FileDef, places: &mut Dataset, at: Position) -> Place
-    requires places { ArePlaces definition (places_in places.old) }
-    requires there { IsThere places.old at }
-    requires place { at.place < length (interval_at places.old at) }
-    ensures places { ArePlaces definition (places_in places.new) }
-    ensures value { file_of definition places.new
-        ≡ dropped (file_of definition places.old)
-        (key_at definition (places_in places.old) (index_of places.old at)) }
-    ensures old { result ≡ slice_index_or (places_in places.old) (index_of places.old at) result }
+pub(crate) fn take_at(definition: FileDef, slots: &mut Dataset, at: Position) -> Slot
+    requires slots { AreSlots definition (slots_in slots.old) }
+    requires there { IsThere slots.old at }
+    requires slot { at.slot < length (interval_at slots.old at) }
+    ensures slots { AreSlots definition (slots_in slots.new) }
+    ensures value { file_of definition slots.new
+        ≡ dropped (file_of definition slots.old)
+        (key_at definition (slots_in slots.old) (index_of slots.old at)) }
+    ensures old { result ≡ slice_index_or (slots_in slots.old) (index_of slots.old at) result }
 {
-    places.remove(at)
+    slots.remove(at)
 }
