@@ -7,6 +7,7 @@ pub mod IntervalEdits
 pub mod Finding
 pub mod Edits
 pub mod Values
+pub mod Puts
 pub mod Bounds
 pub mod Walks
 pub mod Counts

@@ -229,6 +229,14 @@ IsSpot d areas key (At at) = record { at : IsSlotOf d areas key at; record_there
 IsSpot d areas key (AtEmpty at) = record { at : IsSlotOf d areas key at; empty_there : Shows (value_of d (slots_in areas)) key (Empty []) }
 IsSpot d areas key (Gap at) = record { gap : IsGapAt d areas key at; nothing_there : ShowsNothing (value_of d (slots_in areas)) key }
 
+-- a slot was replaced by one of the same key, and what it was came out
+pub record IsPut (d : FileDef) (before after : List (List (List Slot))) (slot out : Slot) : Type 0 where
+  pub slots : AreSlots d (slots_in after)
+  pub value : file_of d after ≡ placed (file_of d before) (slot_key d slot) slot
+  pub old : Shows (file_of d before) (slot_key d slot) out
+  pub old_slot : IsSlot d out
+  pub old_key : slot_key d out ≡ slot_key d slot
+
 -- an interval is split into its first 8 slots and the others
 abbrev pub halved : List (List Slot) → ℕ → List (List Slot)
 halved intervals number = insert (slice_set intervals number (take 8 (interval_in intervals number))) (suc number) (drop 8 (interval_in intervals number))

@@ -6,10 +6,12 @@ ghost use Rattle.std.specs.List.{insert, remove};
 ghost use Rattle.cics_ksds.specs.Slots.{joined, slots_in, IsArea, IsThere, IsNext, IsPrevious};
 ghost use Rattle.cics_ksds.specs.Slots.{IsRoom, IsAreaRoom, HasHalves, interval_at, number_of};
 ghost use Rattle.cics_ksds.specs.Slots.{index_of, with_slot, without_slot, halved, empty_count};
+ghost use Rattle.cics_ksds.specs.Slots.{AreSlots, IsSlot, IsSlotOf, IsPut, slot_key};
 
 use crate::areas::{self, Area};
 use crate::intervals::{self, Interval};
 use crate::rooms::insert_reserved;
+use crate::definition::FileDef;
 use crate::slots::{Position, Slot};
 use cics_names::NoMemory;
 use std::alloc::Global;
@@ -196,6 +198,9 @@ impl Dataset {
     pub(crate) fn put(&mut self, at: Position, slot: Slot) -> Slot
         requires there { IsThere self.old at }
         requires slot { at.slot < length (interval_at self.old at) }
+        ensures put { (definition : FileDef) → AreSlots definition (slots_in self.old)
+            → IsSlotOf definition self.old (slot_key definition slot) at
+            → IsSlot definition slot → IsPut definition self.old self.new slot result }
         ensures slots { slots_in self.new
             ≡ slice_set (slots_in self.old) (index_of self.old at) slot }
         ensures old { result ≡ slice_index_or (slots_in self.old) (index_of self.old at) result }

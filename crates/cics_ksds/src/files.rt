@@ -11,7 +11,7 @@ use crate::FileDef;
 use crate::dataset::Dataset;
 use crate::images::{FileImage, added, removed, replaced};
 use crate::ranges::{copies, first_record_from, last_record_to};
-use crate::slots::{Slot, Spot, insert_at, put_at, record_of, spot_of, take_at};
+use crate::slots::{Slot, Spot, insert_at, record_of, spot_of, take_at};
 use cics_images::Changed;
 use cics_names::{Condition, Items, NoMemory, Record};
 use std::alloc::Global;
@@ -177,7 +177,7 @@ impl File {
             Spot::AtEmpty(at) => {
                 let image = added(self.alloc, definition, key, keep)?;
                 let slot = Slot::filled(definition, content);
-                let _ = put_at(definition, &mut self.slots, at, slot);
+                let _ = self.slots.put(at, slot);
                 Ok(made(image))
             }
             Spot::Gap(at) => {
@@ -209,7 +209,7 @@ impl File {
         match spot_of(definition, &self.slots, key) {
             Spot::At(at) => {
                 let slot = Slot::filled(definition, content);
-                let old = put_at(definition, &mut self.slots, at, slot);
+                let old = self.slots.put(at, slot);
                 made(replaced(definition, old, keep))
             }
             _ => not_made(Condition::Notfnd),
@@ -240,7 +240,7 @@ impl File {
             Spot::At(at) => {
                 if keep {
                     let empty = Record::from_slice(self.alloc, key)?;
-                    let old = put_at(definition, &mut self.slots, at, Slot::empty(empty));
+                    let old = self.slots.put(at, Slot::empty(empty));
                     return Ok(made(removed(definition, old)));
                 }
                 drop(take_at(definition, &mut self.slots, at));

@@ -348,21 +348,6 @@ pub(crate) fn record_of<'a>(
     }
 }
 
-/// Replaces the slot of the same key, and returns the old one. It takes no memory.
-pub(crate) fn put_at(definition: FileDef, slots: &mut Dataset, at: Position, slot: Slot) -> Slot
-    requires slots { AreSlots definition (slots_in slots.old) }
-    requires at { IsSlotOf definition slots.old (slot_key definition slot) at }
-    requires slot { IsSlot definition slot }
-    ensures slots { AreSlots definition (slots_in slots.new) }
-    ensures value { file_of definition slots.new
-        ≡ placed (file_of definition slots.old) (slot_key definition slot) slot }
-    ensures old { Shows (file_of definition slots.old) (slot_key definition slot) result }
-    ensures old_slot { IsSlot definition result }
-    ensures old_key { slot_key definition result ≡ slot_key definition slot }
-{
-    slots.put(at, slot)
-}
-
 /// Inserts a slot into the gap for its key. A full interval is split first.
 pub(crate) fn insert_at(
     definition: FileDef,

@@ -6,6 +6,7 @@ use Rattle.cics_ksds.specs.Slots.{joined, slots_in, index_of, number_of, interva
 use Rattle.cics_ksds.proofs.AreaEdits.{set_one, set_each, set_interval, interval_of}
 use Rattle.cics_ksds.proofs.IntervalEdits.{put_slots, read_slot, index_within}
 use Rattle.cics_ksds.proofs.Counts.{Counts, after_set}
+use Rattle.cics_ksds.proofs.Puts.{is_put}
 use Rattle.cics_ksds.proofs.dataset.Dataset.put.Goals as goal
 use Rattle.cics_ksds.proofs.dataset.Dataset.put.Goals.{After-put-old}
 
@@ -54,12 +55,20 @@ invariant_of-self c =
       empties = omega (arith, here.some, here.empties, c.self.invariant.empties, c.empties.ensures, c.empties-comes.ensures);
     }
 
+-- as the caller sees both
+set_seen : (c : After-put-old) → slots_in (set c.self.inside.areas.items c.args.at.area c.put-old.new.self) ≡ set (slots_in c.args.self.now) (index_of c.args.self.now c.args.at) c.args.slot
+set_seen c = subst (λ (areas : List (List (List Slot))). slots_in (set c.self.inside.areas.items c.args.at.area c.put-old.new.self) ≡ set (slots_in areas) (index_of areas c.args.at) c.args.slot) c.self.view_is (set_slots c)
+
+stood_seen : (c : After-put-old) → c.put-old.result ≡ get_or (slots_in c.args.self.now) (index_of c.args.self.now c.args.at) c.put-old.result
+stood_seen c = subst (λ (areas : List (List (List Slot))). c.put-old.result ≡ get_or (slots_in areas) (index_of areas c.args.at) c.put-old.result) c.self.view_is (stood c)
+
+pub returns-clause-put : goal.returns-clause-put
+returns-clause-put c d are at is =
+    let here = (goal.at.returns-clause-put c).After-put-old in
+    is_put d c.args.self.now _ c.args.at c.args.slot c.put-old.result are at is (set_seen here) (stood_seen here)
+
 pub returns-clause-slots : goal.returns-clause-slots
-returns-clause-slots c =
-    subst (λ (areas : List (List (List Slot))). slots_in (set c.self.inside.areas.items c.args.at.area c.put-old.new.self) ≡ set (slots_in areas) (index_of areas c.args.at) c.args.slot) c.self.view_is
-    (set_slots (goal.at.returns-clause-slots c).After-put-old)
+returns-clause-slots c = set_seen (goal.at.returns-clause-slots c).After-put-old
 
 pub returns-clause-old : goal.returns-clause-old
-returns-clause-old c =
-    subst (λ (areas : List (List (List Slot))). c.put-old.result ≡ get_or (slots_in areas) (index_of areas c.args.at) c.put-old.result) c.self.view_is
-    (stood (goal.at.returns-clause-old c).After-put-old)
+returns-clause-old c = stood_seen (goal.at.returns-clause-old c).After-put-old

@@ -1,4 +1,4 @@
-use Rattle.std.proofs.Common.{◌≡◌, ◌∙◌, ap, subst}
+use Rattle.std.proofs.Common.{◌≡◌, ◌∙◌, ap, subst, rules}
 use Rattle.std.specs.Option.{option_map}
 use Rattle.cics_names.specs.Keyed.{Bytes}
 use Rattle.cics_ksds.specs.declared.images.Before.TheVariants.{Removed}
@@ -12,21 +12,23 @@ use Rattle.cics_ksds.proofs.files.File.delete.Goals as goal
 pub returns-then-keep-clause-undoable : goal.returns-then-keep-clause-undoable
 returns-then-keep-clause-undoable c =
     let d = c.self.inside.definition in
+    let put = c.put-old.ensures.put d (search rules) (search rules) (search rules) in
     let old : FileValue = value_of d (slots_in c.self.inside.slots) in
     let key = c.args.key.now in
     let same : c.in_ok-empty-in-At.empty ≡ key = c.in_ok-empty-in-At.ensures in
-    image_seen c.args.self.now old (value_of d (slots_in c.put_at-old.new.slots)) (emptied old key) (λ f. key) c.self.view_is (c.put_at-old.ensures.value ∙ ap (λ (p : Slot). placed old (slot_key d p) p) c.empty.ensures ∙ ap (emptied old) same)
-    c.made.result.image (option_map (λ (r : Bytes). record { definition = d; before = Removed r }) (record_in c.put_at-old.result)) (ap (λ changed. changed.image) c.made.ensures ∙ c.removed.ensures)
-    (image_of_slot old (emptied old key) key (λ r. Removed r) c.put_at-old.result (subst (λ k. Shows old k c.put_at-old.result) (ap (slot_key d) c.empty.ensures ∙ same) c.put_at-old.ensures.old)
-    (c.put_at-old.ensures.old_key ∙ ap (slot_key d) c.empty.ensures ∙ same) (removed_image old key))
+    image_seen c.args.self.now old (value_of d (slots_in c.put-old.new.self)) (emptied old key) (λ f. key) c.self.view_is (put.value ∙ ap (λ (p : Slot). placed old (slot_key d p) p) c.empty.ensures ∙ ap (emptied old) same)
+    c.made.result.image (option_map (λ (r : Bytes). record { definition = d; before = Removed r }) (record_in c.put-old.result)) (ap (λ changed. changed.image) c.made.ensures ∙ c.removed.ensures)
+    (image_of_slot old (emptied old key) key (λ r. Removed r) c.put-old.result (subst (λ k. Shows old k c.put-old.result) (ap (slot_key d) c.empty.ensures ∙ same) put.old)
+    (put.old_key ∙ ap (slot_key d) c.empty.ensures ∙ same) (removed_image old key))
 
 pub returns-then-keep-clause-others : goal.returns-then-keep-clause-others
 returns-then-keep-clause-others c =
     let d = c.self.inside.definition in
+    let put = c.put-old.ensures.put d (search rules) (search rules) (search rules) in
     let old : FileValue = value_of d (slots_in c.self.inside.slots) in
     let key = c.args.key.now in
     let same : c.in_ok-empty-in-At.empty ≡ key = c.in_ok-empty-in-At.ensures in
-    keeps_seen c.args.self.now old (value_of d (slots_in c.put_at-old.new.slots)) (emptied old key) (λ f. key) c.self.view_is (c.put_at-old.ensures.value ∙ ap (λ (p : Slot). placed old (slot_key d p) p) c.empty.ensures ∙ ap (emptied old) same) (emptied_keeps old key)
+    keeps_seen c.args.self.now old (value_of d (slots_in c.put-old.new.self)) (emptied old key) (λ f. key) c.self.view_is (put.value ∙ ap (λ (p : Slot). placed old (slot_key d p) p) c.empty.ensures ∙ ap (emptied old) same) (emptied_keeps old key)
 
 pub returns-else-keep-clause-others : goal.returns-else-keep-clause-others
 returns-else-keep-clause-others c =
