@@ -146,3 +146,7 @@ pub same_cells : {I : Type 0} (cell : I → Cell) (is : List I) (n : ℕ) (i d :
     map cell (reverse (set is n i)) ≡ map cell (reverse is)
 same_cells cell is n i d same =
     map-reverse cell (set is n i) ∙ ap reverse (map-set_same cell is n i d same) ∙ sym (map-reverse cell is)
+
+-- once none is left to undo, the target is what undoing all leads to
+pub none_left : {M : Type 0} {I : Type 0} (undone : M → I → M) (target whole : M) (items : List I) (left : ℕ) → left ≡ 0 → fold undone target (reverse (take left items)) ≡ whole → target ≡ whole
+none_left undone target whole items left none rest = subst (λ n. fold undone target (reverse (take n items)) ≡ whole) none rest

@@ -1,6 +1,6 @@
 use Rattle.std.proofs.Common.{◌≡◌, ◌≤◌, reverse, fold, map, take, length}
 use Rattle.cics_images.specs.Cells.{AreReadyInTurn}
-use Rattle.cics_images.proofs.images.Images.undo_all.Given as goal
+use Rattle.cics_images.proofs.images.Images.back_out.Given as goal
 
 -- the images that are left are ready in turn, undoing them ends where undoing all does, and all name the cells that they
 -- named
