@@ -3,6 +3,7 @@
 ghost use Rattle.std.specs.Prelude.{◌≡◌, ◌+◌, ◌*◌, ◌^◌, ◌<◌, ◌≤◌, [], ◌∷◌, All, IfOk, OnOk, OnErr};
 ghost use Rattle.std.specs.Prelude.{length, slice_set, slice_index_or, vec_len, vec_capacity};
 ghost use Rattle.std.specs.List.{insert, remove};
+ghost use Rattle.cics_ksds.specs.declared.definition.FileDef.{FileDef};
 ghost use Rattle.cics_ksds.specs.Slots.{joined, slots_in, IsArea, IsThere, IsNext, IsPrevious};
 ghost use Rattle.cics_ksds.specs.Slots.{IsRoom, IsAreaRoom, HasHalves, interval_at, number_of};
 ghost use Rattle.cics_ksds.specs.Slots.{index_of, with_slot, without_slot, halved, empty_count};
@@ -11,7 +12,6 @@ ghost use Rattle.cics_ksds.specs.Slots.{AreSlots, IsSlot, IsSlotOf, IsPut, slot_
 use crate::areas::{self, Area};
 use crate::intervals::{self, Interval};
 use crate::rooms::insert_reserved;
-use crate::definition::FileDef;
 use crate::slots::{Position, Slot};
 use cics_names::NoMemory;
 use std::alloc::Global;
