@@ -4,28 +4,12 @@
 accepted=0
 mkdir -p "$room/came"
 
-# Makes the runs of a list on standard input.
-run_some() {
-    while IFS='|' read -r number _; do
-        came=$room/came/$number
-        set --
-        [ ! -f "$room/cases/$number.args" ] || while read -r word; do
-            set -- "$@" "$word"
-        done < "$room/cases/$number.args"
-        "$program" "$@" < "$room/cases/$number" > "$came" 2> "$came.said"
-        echo "$?" > "$came.status"
-    done
-}
-
-# Makes each run by the program that was taken, as many side by side as there are processors. It
-# also waits for what take_tried left running.
+# Makes each run by the program that was taken, as many side by side as there are processors. The
+# runs of orders take longest, so they are the first.
 run_all() {
-    rm -rf -- "$room/came" "$room"/part.* && mkdir "$room/came" || stop 'no folder for the runs'
-    awk -v "parts=$(nproc)" -v "part=$room/part." '{ print > (part NR % parts) }' "$room/list"
-    for part in "$room"/part.*; do
-        run_some < "$part" &
-    done
-    wait
+    rm -rf -- "$room/came" && mkdir "$room/came" || stop 'no folder for the runs'
+    { grep -e ' --orders' "$room/list"; grep -v -e ' --orders' "$room/list"; } | cut -d '|' -f 1 |
+        xargs -n 1 -P "$(nproc)" sh "$root/tools/scripts/one.sh" "$program" "$room"
 }
 
 # Makes each run again, and reads a byte at a time.
@@ -49,22 +33,26 @@ endless() {
     }'
 }
 
-# Takes the program that rt try compiles, with checks. rt try itself needs two seconds for each run.
-# So it makes one alone, of a script that takes hours, and its program is copied meanwhile.
-take_tried() {
+# Begins to compile the program by rt try, with checks. rt try itself needs two seconds for each
+# run. So it makes one alone, of a script that takes hours, and its program is copied meanwhile.
+begin_try() {
     command -v rt > /dev/null || stop 'rt, the command of the Rattle toolchain, is not on the PATH'
     mkdir "$room/try" "$room/endless"
     endless > "$room/endless/1"
     echo --orders > "$room/endless/1.args"
-    (cd -- "$root/crates/cicsrun" && TMPDIR=$room/try exec rt try --steps 1 --seconds 20 \
+    (cd -- "$root/crates/cicsrun" && TMPDIR=$room/try exec rt try --steps 1 --seconds 5 \
         --cases "$room/endless") > /dev/null 2> "$room/reported" &
-    # The program is whole when its run has a file for what it prints.
+    trying=$!
+}
+
+# Takes that program. It is whole when its run has a file for what it prints.
+take_tried() {
     until begun=$(find "$room/try" -name stdout) && [ -n "$begun" ]; do
-        kill -0 "$!" 2> /dev/null || {
+        kill -0 "$trying" 2> /dev/null || {
             tail -n 20 "$room/reported" >&2
             stop 'rt try gave no program, and says why above'
         }
-        sleep 1
+        sleep 0.2
     done
     program=$room/tried
     cp -- "${begun%stdout}program" "$program" || stop 'the program of rt try was not copied'
