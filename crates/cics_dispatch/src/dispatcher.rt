@@ -20,12 +20,12 @@ ghost use Rattle.std.specs.Prelude.{◌≡◌, ◌<◌, ◌≤◌, true, false, 
 ghost use Rattle.std.specs.Prelude.{slice_get, IfErr, IfSome, IfNone, Result, Ok, Err};
 ghost use Rattle.std.specs.Option.{option_copied};
 ghost use Rattle.cics_names.specs.declared.commands.Verb.{Verb as VerbValue};
-ghost use Rattle.cics_dispatch.specs.Words.{task_ended, units_after, definition_of, RegionValue};
+ghost use Rattle.cics_dispatch.specs.Words.{task_ended, definition_of, RegionValue};
 ghost use Rattle.cics_dispatch.specs.Words.{initial_region, task_at, abended, is_waiting};
 ghost use Rattle.cics_dispatch.specs.Words.{unit_closed, state_after, reason_of, IsOpenUnit};
-ghost use Rattle.cics_dispatch.specs.Words.{IsOpenOrNone, key_of, answered, attached, busy_of};
-ghost use Rattle.cics_dispatch.specs.Words.{key_read, op_of, suspended, clock_set};
-ghost use Rattle.cics_dispatch.specs.Words.{file_recoverable, ArePromised, IsRegionKept};
+ghost use Rattle.cics_dispatch.specs.Words.{key_of, answered, attached, busy_of};
+ghost use Rattle.cics_dispatch.specs.Words.{key_read, op_of, clock_set};
+ghost use Rattle.cics_dispatch.specs.Words.{file_recoverable, IsRegionKept};
 ghost use Rattle.cics_dispatch.specs.Words.{is_keeping, unit_of, IsStep, attach_may_want};
 ghost use Rattle.cics_dispatch.specs.Words.{file_named, OfTask, IsAwake, HasReady, MayPerform};
 ghost use Rattle.cics_dispatch.specs.Words.{KeepsRegion, IsStepOf, IsStepOrRefused, IsAttempt};
@@ -77,22 +77,6 @@ fn busy_condition(verb: &Verb) -> Option<Condition>
         Verb::ReadqTd { nosuspend, .. } => nosuspend.then_some(Condition::Qbusy),
         Verb::Enq { nosuspend, .. } => nosuspend.then_some(Condition::Enqbusy),
         _ => None,
-    }
-}
-
-// Ends a unit, if there is one.
-fn end_unit(units: &mut Units, unit: Option<UnitId>, ending: UnitEnding)
-    requires is_open { IsOpenOrNone units.old.state unit }
-    requires promised { ArePromised units.old }
-    ensures state { units.new.state ≡ units_after units.old.state unit (state_after ending) }
-    ensures promised { ArePromised units.new }
-{
-    let Some(unit) = unit else {
-        return;
-    };
-    match ending {
-        UnitEnding::Commit => units.commit(unit),
-        UnitEnding::Backout => units.back_out(unit),
     }
 }
 
@@ -286,8 +270,13 @@ impl Dispatcher {
             ≡ unit_closed self.old.machine t (state_after ending) has_ended) }
         ensures kept { KeepsRegion self.old self.new }
     {
-        let unit = self.tasks.close_unit(at, has_ended);
-        end_unit(&mut self.units, unit, ending);
+        let Some(unit) = self.tasks.close_unit(at, has_ended) else {
+            return;
+        };
+        match ending {
+            UnitEnding::Commit => self.units.commit(unit),
+            UnitEnding::Backout => self.units.back_out(unit),
+        }
     }
 
     // Abends the task at an index: its unit is backed out, its wait ends, and so does the task.
@@ -298,9 +287,8 @@ impl Dispatcher {
         ensures kept { KeepsRegion self.old self.new }
     {
         let label = self.tasks.get(at).label();
-        let unit = self.tasks.close_unit(at, true);
-        end_unit(&mut self.units, unit, UnitEnding::Backout);
         self.waits.remove(&label);
+        self.close(at, UnitEnding::Backout, true);
     }
 
     // Answers a command of the task at an index, or abends the task for a condition that nothing
@@ -319,32 +307,8 @@ impl Dispatcher {
         }
     }
 
-    // Makes a command of the task at an index wait, last of all, for the open unit `holder`. `op`
-    // is the updating command that it asks for.
-    fn suspend(
-        &mut self,
-        at: usize,
-        command: Command,
-        op: Option<Op>,
-        holder: UnitId,
-    ) -> Result<Outcome, NoMemory>
-        requires within { at < length self.old.machine.tasks }
-        requires awake { IsAwake self.old.machine at }
-        requires ready { HasReady self.old.machine at command.verb op }
-        requires is_open { IsOpenUnit self.old.machine.units holder }
-        ensures step { IsStepOrRefused self.old at
-            (λ t. suspended self.old.machine t command op holder) result self.new }
-    {
-        let label = self.tasks.get(at).label();
-        let Some(owner) = self.tasks.label_of(holder) else {
-            unreachable!();
-        };
-        self.waits.begin(label, command, op, self.clock)?;
-        Ok(Outcome::Waiting(owner))
-    }
-
-    // Makes a command of the task at an index wait for the open unit `holder`, or answers it QBUSY
-    // or ENQBUSY if it has NOSUSPEND.
+    // Makes a command of the task at an index wait, last of all, for the open unit `holder`. Answers
+    // it QBUSY or ENQBUSY if it has NOSUSPEND. `op` is the updating command that it asks for.
     fn make_wait(
         &mut self,
         at: usize,
@@ -359,10 +323,15 @@ impl Dispatcher {
         ensures step { IsStepOrRefused self.old at
             (waiting_for self.old.machine command op holder) result self.new }
     {
-        match busy_condition(&command.verb) {
-            Some(busy) => Ok(self.answer(at, command.resp, plain_reply(busy))),
-            None => self.suspend(at, command, op, holder),
+        if let Some(busy) = busy_condition(&command.verb) {
+            return Ok(self.answer(at, command.resp, plain_reply(busy)));
         }
+        let label = self.tasks.get(at).label();
+        let Some(owner) = self.tasks.label_of(holder) else {
+            unreachable!();
+        };
+        self.waits.begin(label, command, op, self.clock)?;
+        Ok(Outcome::Waiting(owner))
     }
 
     // Executes the updating command that `command` of the task at an index asks for, or returns it

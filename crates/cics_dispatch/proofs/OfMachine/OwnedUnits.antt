@@ -21,7 +21,7 @@ use Rattle.cics_history.specs.declared.ops.Done.TheVariants.{Answered, MustWait}
 use Rattle.cics_history.specs.declared.ops.Enqueued.TheVariants.{Taken, CountFull}
 use Rattle.cics_history.specs.declared.ops.UnitState.{UnitState}
 use Rattle.cics_history.specs.declared.ops.UnitState.TheVariants.{Open, Committed, BackedOut}
-use Rattle.cics_dispatch.specs.Machine.Machine.{Machine, Task, Suspended, initial_region, replaced, with_task, with_units, with_waiting, with_unit, with_browses, units_after, unit_closed, abended, not_waiting}
+use Rattle.cics_dispatch.specs.Machine.Machine.{Machine, Task, Suspended, initial_region, replaced, with_task, with_units, with_waiting, with_unit, with_browses, units_after, unit_closed}
 use Rattle.cics_dispatch.specs.Notes.Notes.{is_unit}
 use Rattle.cics_dispatch.specs.Machine.Steps.{new_task, with_new_task, unlocked, dequeued}
 use Rattle.cics_dispatch.specs.Machine.Tasks.{IsOwn, HasNoOwner, own_label, had_by, had_at}
@@ -277,9 +277,6 @@ module _ (m : Machine) (t : Task) (at : ℕ) (there : slice_get m.tasks at ≡ S
       each u live =
           let other = ends m.units outcome closed t.unit u (live_there (units_after m.units t.unit outcome) u live) in
           inl (there_live m.units u other.0, other.1)
-
-  pub owned_abended : AreUnitsOwned (abended m t)
-  owned_abended = owned_suspended (unit_closed m t BackedOut true) (not_waiting m.waiting t.label) (owned_closed BackedOut true refl)
 
   -- the task has other browses
   pub owned_browses : (browses : Map Position) → AreUnitsOwned (with_task m (with_browses t browses))

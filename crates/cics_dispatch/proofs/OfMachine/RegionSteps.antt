@@ -13,18 +13,17 @@ use Rattle.cics_history.specs.declared.ops.Done.TheVariants.{Answered, MustWait}
 use Rattle.cics_history.specs.Headline.{IsHeadline, is_open}
 use Rattle.cics_history.specs.Serial.{IsSerializable}
 use Rattle.cics_history.specs.declared.ops.UnitState.{UnitState}
-use Rattle.cics_history.specs.declared.ops.UnitState.TheVariants.{BackedOut}
 use Rattle.cics_dispatch.specs.declared.machine.outcomes.UnitEnding.{UnitEnding}
 use Rattle.cics_dispatch.specs.declared.machine.outcomes.UnitEnding.TheVariants.{Commit, Backout}
 use Rattle.std.proofs.lemmas.Bool.{true≢false, false≢true}
-use Rattle.cics_dispatch.specs.Machine.Machine.{Machine, Task, Suspended, RegionValue, replaced, is_waiting, not_waiting, units_after, state_after, unit_closed, abended, with_unit, with_task, with_units}
+use Rattle.cics_dispatch.specs.Machine.Machine.{Machine, Task, Suspended, RegionValue, replaced, is_waiting, not_waiting, units_after, state_after, unit_closed, with_unit, with_task, with_units, with_waiting}
 use Rattle.cics_dispatch.specs.Machine.Answers.{IsHeadlineRegion, IsSerializableRegion}
 use Rattle.cics_dispatch.specs.Machine.KeptTasks.{AreTasksKept}
 use Rattle.cics_dispatch.specs.Machine.OwnedUnits.{AreUnitsOwned}
 use Rattle.cics_dispatch.specs.Machine.Regions.{region_of, IsRegionKept, ArePromised}
 use Rattle.cics_dispatch.specs.Machine.Tasks.{own_label, IsOwn, HasNoOwner}
 use Rattle.cics_dispatch.specs.Machine.Steps.{Stepped, executed, by_op, answered, reply_of}
-use Rattle.cics_dispatch.specs.Machine.Calls.{OfTask, IsAwake, HasBrowse, HasReady, IsStepOf, IsStepOrRefused, IsAttempt, going_on, waiting_for}
+use Rattle.cics_dispatch.specs.Machine.Calls.{OfTask, HasChanged, IsAwake, HasBrowse, HasReady, IsStepOf, IsStepOrRefused, IsAttempt, going_on, waiting_for}
 use Rattle.cics_names.specs.declared.records.NoMemory.{NoMemory}
 use Rattle.cics_dispatch.specs.Machine.Waking.{awaited_by}
 use Rattle.cics_dispatch.specs.declared.machine.outcomes.Attempt.{Attempt}
@@ -32,8 +31,8 @@ use Rattle.cics_dispatch.specs.declared.machine.outcomes.Attempt.TheVariants.{To
 use Rattle.cics_dispatch.specs.declared.machine.outcomes.Outcome.{Outcome}
 use Rattle.cics_dispatch.specs.declared.machine.outcomes.Reply.{Reply}
 use Rattle.cics_names.specs.declared.commands.Command.{Command}
-use Rattle.cics_dispatch.proofs.OfMachine.KeptTasks.{kept_closed, kept_abended, kept_executed, no_owner_next, with_task_placed}
-use Rattle.cics_dispatch.proofs.OfMachine.OwnedUnits.{owned_closed, owned_abended, owned_executed}
+use Rattle.cics_dispatch.proofs.OfMachine.KeptTasks.{kept_closed, kept_not_waiting, kept_executed, no_owner_next, with_task_placed}
+use Rattle.cics_dispatch.proofs.OfMachine.OwnedUnits.{owned_closed, owned_suspended, owned_executed}
 use Rattle.cics_dispatch.proofs.OfMachine.TaskPlaces.{replaced-set, set_same}
 
 -- a task is at each place of the list
@@ -62,13 +61,11 @@ module _ {units : UnitsValue} {tasks : List Task} {waiting : List Suspended} {cl
       kept_as (region_of after ts waiting clock is_down) (unit_closed machine t outcome has_ended) (λ i. record { units = state i; tasks = is i; waiting = waiting; clock = clock; is_down = is_down })
       (kept_closed machine at t kept.tasks there awake outcome has_ended) (owned_closed machine t at there kept.tasks.labels kept.owned outcome has_ended shut) (record { headline = promised.0 }) (record { serializable = promised.1 })
 
-  -- a task is abended
-  pub abended_kept : (after : UnitsValue) (ts : List Task) (ws : List Suspended) (at : ℕ) (t : Task) → slice_get tasks at ≡ Some t →
-      after.state ≡ units_after units.state t.unit BackedOut → ts ≡ replaced tasks (record t { unit = None; browses = []; has_ended = true }) → ws ≡ not_waiting waiting t.label →
-      ArePromised after → IsRegionKept (region_of after ts ws clock is_down)
-  abended_kept after ts ws at t there state is gone promised =
-      kept_as (region_of after ts ws clock is_down) (abended machine t) (λ i. record { units = state i; tasks = is i; waiting = gone i; clock = clock; is_down = is_down })
-      (kept_abended machine at t kept.tasks there) (owned_abended machine t at there kept.tasks.labels kept.owned) (record { headline = promised.0 }) (record { serializable = promised.1 })
+  -- the wait of a task ends
+  pub unwaiting_kept : (ws : List Suspended) (label : Bytes) → ws ≡ not_waiting waiting label → IsRegionKept (region_of units tasks ws clock is_down)
+  unwaiting_kept ws label gone =
+      kept_as (region_of units tasks ws clock is_down) (with_waiting machine (not_waiting waiting label)) (λ i. record machine { waiting = gone i })
+      (kept_not_waiting machine label kept.tasks) (owned_suspended machine (not_waiting waiting label) kept.owned) (record { headline = kept.headline.headline }) (record { serializable = kept.serializable.serializable })
 
 -- a task that stands at its place stays if it is put in its own place
 pub replaced_same : (ts : List Task) (at : ℕ) (t : Task) → IsOwn own_label ts → slice_get ts at ≡ Some t → replaced ts t ≡ ts
@@ -197,6 +194,23 @@ seen_awake at seen = subst (λ v. IsAwake v.machine at) (sym seen)
 
 pub seen_browse : {old now : RegionValue} (at : ℕ) (f : Bytes) → old ≡ now → HasBrowse now.machine at f → HasBrowse old.machine at f
 seen_browse at f seen = subst (λ v. HasBrowse v.machine at f) (sym seen)
+
+-- the unit of a task ends, and with it the task if has_ended
+pub closed_step : {units : UnitsValue} {tasks : List Task} {waiting : List Suspended} {clock : ℕ} {is_down : Bool} {old : RegionValue} → IsRegionKept (region_of units tasks waiting clock is_down) →
+    (at : ℕ) → region_of units tasks waiting clock is_down ≡ old → at < length old.machine.tasks → IsAwake old.machine at → (after : UnitsValue) (ts : List Task) (ending : UnitEnding) (has_ended : Bool) →
+    OfTask tasks at (λ t. after.state ≡ units_after units.state t.unit (state_after ending)) → HasChanged tasks at (λ t. record t { unit = None; browses = []; has_ended = has_ended }) ts → ArePromised after →
+    IsRegionKept (region_of after ts waiting clock is_down) × OfTask old.machine.tasks at (λ t. (region_of after ts waiting clock is_down).machine ≡ unit_closed old.machine t (state_after ending) has_ended)
+closed_step {units} {tasks} {waiting} {clock} {is_down} kept at seen within awake after ts ending has_ended state task promised = (
+  seen_task at seen within (λ t there.
+      closed_kept kept after ts at t (state_after ending) has_ended there (seen_awake at seen awake t there) (end_shut ending) (state t there) (task t there) promised),
+  subst (λ v. OfTask v.machine.tasks at (λ t. (region_of after ts waiting clock is_down).machine ≡ unit_closed v.machine t (state_after ending) has_ended)) seen (λ t there i. record {
+    units = state t there i;
+    tasks = task t there i;
+    waiting = waiting;
+    clock = clock;
+    is_down = is_down;
+  }),
+)
 
 -- a step of the task at a place is one whichever way the region is seen
 pub seen_step : {old now new : RegionValue} {x : Outcome} (at : ℕ) (f : Machine → Task → Stepped Outcome) → old ≡ now → IsStepOf old at (f old.machine) x new → IsStepOf now at (f now.machine) x new

@@ -1,9 +1,8 @@
 //! The deadlocks of a region.
 
-ghost use Rattle.std.specs.Prelude.{◌≡◌, ◌↔◌, ℕ, List, Some, map, true, All, IfOk, slice_get};
+ghost use Rattle.std.specs.Prelude.{◌≡◌, ◌↔◌, ℕ, List, Some, true, All, IfOk, slice_get};
 ghost use Rattle.std.specs.List.{filter_map};
 ghost use Rattle.cics_dispatch.specs.Machine.Blockers.{number_of};
-ghost use Rattle.cics_dispatch.specs.Deadlocks.Searches.{circles};
 ghost use Rattle.cics_dispatch.specs.Deadlocks.Circles.{Leads};
 ghost use Rattle.cics_dispatch.specs.Deadlocks.Deadlocks.{blockers_at, waits_of, is_blocked};
 ghost use Rattle.cics_dispatch.specs.Deadlocks.Deadlocks.{waiting_count, labels_of, deadlocks};
@@ -75,14 +74,6 @@ fn waits_of(alloc: Global, region: &Region) -> Result<Items<Items<usize>>, NoMem
     Ok(waits)
 }
 
-// Returns the circles of tasks that wait for each other, by their numbers.
-fn circles_of(alloc: Global, region: &Region) -> Result<Items<Items<usize>>, NoMemory>
-    ensures { IfOk result (λ found. found ≡ circles (waits_of region.now.machine)) }
-{
-    let waits = waits_of(alloc, region)?;
-    circles::circles(alloc, waits.as_slice())
-}
-
 // Returns the labels of tasks.
 fn labels_of(alloc: Global, region: &Region, numbers: &[usize]) -> Result<Items<Name8>, NoMemory>
     ensures { IfOk result (λ labels. labels ≡ labels_of region.now.machine numbers.now) }
@@ -94,21 +85,6 @@ fn labels_of(alloc: Global, region: &Region, numbers: &[usize]) -> Result<Items<
         }
     }
     Ok(labels)
-}
-
-// Returns the labels of the tasks of circles.
-fn all_labels_of(
-    alloc: Global,
-    region: &Region,
-    circles: &[Items<usize>],
-) -> Result<Items<Items<Name8>>, NoMemory>
-    ensures { IfOk result (λ all. all ≡ map (labels_of region.now.machine) circles.now) }
-{
-    let mut all = Items::new(alloc);
-    for circle in circles {
-        all.push(labels_of(alloc, region, circle.as_slice())?)?;
-    }
-    Ok(all)
 }
 
 /// Returns one circle of each deadlock of a region, in the order of their first tasks.
@@ -129,8 +105,13 @@ pub fn deadlocks(alloc: Global, region: &Region) -> Result<Items<Items<Name8>>, 
         → Leads (blockers_at region.now.machine) task task
         → IsTold region.now.machine found task) }
 {
-    let all = circles_of(alloc, region)?;
-    all_labels_of(alloc, region, all.as_slice())
+    let waits = waits_of(alloc, region)?;
+    let circles = circles::circles(alloc, waits.as_slice())?;
+    let mut all = Items::new(alloc);
+    for circle in circles.as_slice() {
+        all.push(labels_of(alloc, region, circle.as_slice())?)?;
+    }
+    Ok(all)
 }
 
 /// Returns for each task of a region, by its number, whether it is in a deadlock: it waits for

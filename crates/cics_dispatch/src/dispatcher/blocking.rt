@@ -2,12 +2,11 @@
 
 ghost use Rattle.std.specs.Prelude.{◌≡◌, ◌<◌, true, IfOk, IfSome, length};
 ghost use Rattle.std.specs.List.{filter_map};
-ghost use Rattle.std.specs.Option.{option_to_list};
-ghost use Rattle.cics_history.specs.Execution.{IsOpenUnit, is_ready_op};
+ghost use Rattle.cics_history.specs.Execution.{is_ready_op};
 ghost use Rattle.cics_dispatch.specs.Machine.Calls.{OfTask};
 ghost use Rattle.cics_dispatch.specs.Machine.Blockers.{unit_of, shared_op, blocking_label, blockers_of};
 ghost use Rattle.std.specs.Option.{option_copied};
-ghost use Rattle.cics_dispatch.specs.Machine.Blockers.{awaited_at, blocker_of, label_at, number_of};
+ghost use Rattle.cics_dispatch.specs.Machine.Blockers.{blocker_of, label_at, number_of};
 ghost use Rattle.cics_dispatch.specs.Machine.Blockers.{waiting_command, browse_of};
 
 use crate::dispatcher::Dispatcher;
@@ -25,21 +24,13 @@ impl Dispatcher {
         Some(wait.command())
     }
 
-    // Returns the unit that blocks the waiting command of a label's task now, if one does.
-    fn awaited_at(&self, label: &Name8) -> Option<UnitId>
-        ensures unit { result ≡ awaited_at self.now.machine label.now }
-        ensures is_open { IfSome result (IsOpenUnit self.now.machine.units) }
-    {
-        let wait = self.waits.get(label)?;
-        let at = self.tasks.find(label)?;
-        self.awaited(at, wait)
-    }
-
     /// Returns the label of the task whose unit blocks the waiting command of a label's task.
     pub(crate) fn blocker(&self, label: &Name8) -> Option<Name8>
         ensures { result ≡ blocker_of self.now.machine label.now }
     {
-        let unit = self.awaited_at(label)?;
+        let wait = self.waits.get(label)?;
+        let at = self.tasks.find(label)?;
+        let unit = self.awaited(at, wait)?;
         self.tasks.label_of(unit)
     }
 
@@ -91,26 +82,18 @@ impl Dispatcher {
         Ok(labels)
     }
 
-    // Returns the blocker of a label's task, if there is one, as a list.
-    fn blocker_alone(&self, label: &Name8) -> Result<Items<Name8>, NoMemory>
-        ensures { IfOk result (λ labels. labels
-            ≡ option_to_list (blocker_of self.now.machine label.now)) }
+    /// Returns the labels of the tasks that block the waiting command of a label's task.
+    pub(crate) fn blockers(&self, label: &Name8) -> Result<Items<Name8>, NoMemory>
+        ensures { IfOk result (λ labels. labels ≡ blockers_of self.now.machine label.now) }
     {
+        if let Some(op) = self.shared_op(label) {
+            return self.blocking_labels(&self.unit_of(label), op);
+        }
         let mut labels = Items::new(self.alloc);
         if let Some(blocker) = self.blocker(label) {
             labels.push(blocker)?;
         }
         Ok(labels)
-    }
-
-    /// Returns the labels of the tasks that block the waiting command of a label's task.
-    pub(crate) fn blockers(&self, label: &Name8) -> Result<Items<Name8>, NoMemory>
-        ensures { IfOk result (λ labels. labels ≡ blockers_of self.now.machine label.now) }
-    {
-        match self.shared_op(label) {
-            Some(op) => self.blocking_labels(&self.unit_of(label), op),
-            None => self.blocker_alone(label),
-        }
     }
 
     /// Returns the browse of a file that a label's task has open.

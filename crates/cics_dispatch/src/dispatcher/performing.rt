@@ -3,14 +3,11 @@
 ghost use Rattle.std.specs.Prelude.{◌≡◌, ◌<◌, true, false, None, is_some, length, slice_get};
 ghost use Rattle.std.specs.Prelude.{IsTrue, IfOk, OnErr};
 ghost use Rattle.cics_names.specs.Commands.{file_named};
-ghost use Rattle.cics_dispatch.specs.Machine.Machine.{task_at, unit_closed, state_after};
+ghost use Rattle.cics_dispatch.specs.Machine.Machine.{task_at};
 ghost use Rattle.cics_dispatch.specs.Machine.Checks.{reason_for};
 ghost use Rattle.cics_dispatch.specs.Machine.Steps.{op_of, code_of, performed, issued};
 ghost use Rattle.cics_dispatch.specs.Machine.Answers.{is_growing, may_want, IsStep};
-ghost use Rattle.cics_dispatch.specs.Machine.Replies.{plain};
-ghost use Rattle.cics_names.specs.declared.conditions.Condition.TheVariants.{Normal};
-ghost use Rattle.cics_dispatch.specs.declared.machine.outcomes.Outcome.TheVariants.{Replied};
-ghost use Rattle.cics_dispatch.specs.Machine.Calls.{OfTask, IsAwake, MayPerform, KeepsRegion};
+ghost use Rattle.cics_dispatch.specs.Machine.Calls.{OfTask, MayPerform, KeepsRegion};
 ghost use Rattle.cics_dispatch.specs.Machine.Calls.{IsStepOrRefused, going_on, reads_or_unlocks};
 ghost use Rattle.cics_dispatch.specs.Machine.Emptied.{whole};
 
@@ -139,8 +136,14 @@ impl Dispatcher {
             Verb::Deq { resource, length } => {
                 Ok(self.dequeue(at, resp, &resource.bytes()[..*length as usize]))
             }
-            Verb::Syncpoint => Ok(self.end_of_unit(at, UnitEnding::Commit)),
-            Verb::Rollback => Ok(self.end_of_unit(at, UnitEnding::Backout)),
+            Verb::Syncpoint => {
+                self.close(at, UnitEnding::Commit, false);
+                Ok(Outcome::Replied(plain_reply(Condition::Normal)))
+            }
+            Verb::Rollback => {
+                self.close(at, UnitEnding::Backout, false);
+                Ok(Outcome::Replied(plain_reply(Condition::Normal)))
+            }
             Verb::Return => {
                 self.close(at, UnitEnding::Commit, true);
                 Ok(Outcome::Ended)
@@ -151,19 +154,6 @@ impl Dispatcher {
             }
             _ => Ok(self.answer(at, resp, plain_reply(Condition::Invreq))),
         }
-    }
-
-    // Executes SYNCPOINT, with or without ROLLBACK.
-    fn end_of_unit(&mut self, at: usize, ending: UnitEnding) -> Outcome
-        requires within { at < length self.old.machine.tasks }
-        requires awake { IsAwake self.old.machine at }
-        ensures outcome { result ≡ Replied (plain Normal) }
-        ensures machine { OfTask self.old.machine.tasks at
-            (λ t. self.new.machine ≡ unit_closed self.old.machine t (state_after ending) false) }
-        ensures kept { KeepsRegion self.old self.new }
-    {
-        self.close(at, ending, false);
-        Outcome::Replied(plain_reply(Condition::Normal))
     }
 
     // Performs a command of the task at an index whose checks have passed. `op` is the updating

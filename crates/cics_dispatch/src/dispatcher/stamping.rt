@@ -2,15 +2,14 @@
 
 ghost use Rattle.std.specs.Prelude.{◌≡◌, ◌++◌, OnOk};
 ghost use Rattle.cics_names.specs.Stamps.{option_stamp, list_stamp};
-ghost use Rattle.cics_history.specs.Stamps.{op_stamp, unit_stamp};
+ghost use Rattle.cics_history.specs.Stamps.{unit_stamp};
 ghost use Rattle.cics_dispatch.specs.Machine.Stamps.{task_stamp, wait_stamp, region_stamp};
-ghost use Rattle.std.specs.Option.{option_copied};
 
 use crate::dispatcher::Dispatcher;
 use crate::machine::{Suspended, Task, Tasks, Waits};
 use cics_history::{UnitId, stamp_op};
 use cics_names::{NoMemory, stamp_flag, stamp_number, stamp_text};
-use cics_units::{Op, OpRef, Units};
+use cics_units::{OpRef, Units};
 
 // Appends the stamp of a task's unit, if it has one.
 fn stamp_unit(units: &Units, unit: Option<UnitId>, out: &mut Vec<u8>) -> Result<(), NoMemory>
@@ -49,18 +48,6 @@ fn stamp_tasks(units: &Units, tasks: &Tasks, out: &mut Vec<u8>) -> Result<(), No
     stamp_number(out, 0)
 }
 
-// Appends the stamp of the updating command that a waiting command asks for, if it asks for one.
-fn stamp_asked(op: Option<&Op>, out: &mut Vec<u8>) -> Result<(), NoMemory>
-    ensures { OnOk result (out.new.items
-        ≡ out.old.items ++ option_stamp op_stamp (option_copied op.entry)) }
-{
-    let Some(op) = op else {
-        return stamp_number(out, 0);
-    };
-    stamp_number(out, 1)?;
-    stamp_op(&OpRef::of(op), out)
-}
-
 // Appends the stamp of a waiting command.
 #[tactic(auto, unfolding(crate::specs::Machine::Stamps::wait_stamp))]
 fn stamp_wait(wait: &Suspended, out: &mut Vec<u8>) -> Result<(), NoMemory>
@@ -68,7 +55,11 @@ fn stamp_wait(wait: &Suspended, out: &mut Vec<u8>) -> Result<(), NoMemory>
 {
     stamp_text(out, &wait.label().bytes())?;
     stamp_number(out, wait.since())?;
-    stamp_asked(wait.op(), out)
+    let Some(op) = wait.op() else {
+        return stamp_number(out, 0);
+    };
+    stamp_number(out, 1)?;
+    stamp_op(&OpRef::of(op), out)
 }
 
 // Appends the stamp of all waiting commands, in the order in which the waits began.

@@ -11,11 +11,10 @@ ghost use Rattle.cics_dispatch.specs.Words.{IsFirstFree, IsFirstFreeOf, MayClose
 ghost use Rattle.cics_dispatch.specs.Words.{IsFreeAt, AreSettled, IsUse, OwnerIsElsewhere};
 ghost use Rattle.cics_dispatch.specs.Words.{IsFirstOpen, count, IsPlaceOf, deadline_of};
 ghost use Rattle.cics_dispatch.specs.Words.{reads_queue, IsBlocked, AreApart, OfTask, IsAwake};
-ghost use Rattle.cics_dispatch.specs.Words.{HasReady, KeepsRegion, IsStepOrRefused, IsAttempt};
-ghost use Rattle.cics_dispatch.specs.Words.{going_on};
+ghost use Rattle.cics_dispatch.specs.Words.{HasReady, KeepsRegion, IsAttempt};
 
 use crate::dispatcher::Dispatcher;
-use crate::machine::{Attempt, Expired, Free, Late, Outcome, Suspended, WaitLook, Waits, Woken};
+use crate::machine::{Attempt, Expired, Free, Late, Suspended, WaitLook, Waits, Woken};
 use crate::notes::{Notes, WaitNote};
 use cics_history::{Resource, UnitId};
 use cics_names::{AbendCode, Name4, Name8, NoMemory, Verb};
@@ -326,22 +325,6 @@ impl Dispatcher {
         }
     }
 
-    // Resumes a waiting command of the task at an index. It no longer has to wait.
-    fn go_on(&mut self, at: usize, wait: &Suspended) -> Result<Outcome, NoMemory>
-        requires within { at < length self.old.machine.tasks }
-        requires awake { IsAwake self.old.machine at }
-        requires ready { HasReady self.old.machine at wait.now.command.verb wait.now.op }
-        requires free { OfTask self.old.machine.tasks at (λ t.
-            awaited_by self.old.machine.units t.unit wait.now.command.verb wait.now.op ≡ None) }
-        ensures step { IsStepOrRefused self.old at
-            (going_on self.old.machine wait.now.command wait.now.op) result self.new }
-    {
-        match self.attempt(at, wait)? {
-            Attempt::Told(outcome) => Ok(outcome),
-            Attempt::MustWait(_, _) => unreachable!(),
-        }
-    }
-
     // Resumes the waiting command of a label's task, the first of `waits` that may resume. `waits`
     // were taken out of the dispatcher.
     fn go_on_first(&mut self, waits: &Waits, label: Name8) -> Result<Woken, NoMemory>
@@ -359,8 +342,10 @@ impl Dispatcher {
         let Some(at) = self.tasks.find(&label) else {
             unreachable!();
         };
-        let outcome = self.go_on(at, wait)?;
-        Ok(Woken { label, outcome })
+        match self.attempt(at, wait)? {
+            Attempt::Told(outcome) => Ok(Woken { label, outcome }),
+            Attempt::MustWait(_, _) => unreachable!(),
+        }
     }
 
     /// Resumes the waiting command of a label's task, the first that may resume, and returns its

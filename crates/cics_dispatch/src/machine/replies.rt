@@ -1,20 +1,13 @@
 //! Replies: what a task is told of an answer, cut to LENGTH.
 
-ghost use Rattle.std.specs.Prelude.{◌≡◌, take, option_map};
+ghost use Rattle.std.specs.Prelude.{◌≡◌, option_map};
 ghost use Rattle.cics_dispatch.specs.Machine.Replies.{cut};
 ghost use Rattle.cics_dispatch.specs.Machine.Steps.{browse_reply, reply_of, reply_with};
 
 use crate::machine::outcomes::{Number, Reply};
 use cics_browse::Browsed;
-use cics_names::{Condition, Record, Verb};
+use cics_names::{Condition, Verb};
 use cics_units::Answer;
-
-// Returns the first bytes of a content. Takes no memory.
-fn first_bytes(content: Record, count: usize) -> Record
-    ensures { result ≡ take count content }
-{
-    content.first(count)
-}
 
 // Returns a reply to a command with this LENGTH. A longer content is LENGERR, with its first bytes.
 fn cut(reply: Reply, length: Option<u64>) -> Reply
@@ -30,7 +23,7 @@ fn cut(reply: Reply, length: Option<u64>) -> Reply
         (Some(content), Some(length)) if length < content.len() as u64 => Reply {
             condition: Condition::Lengerr,
             key,
-            content: Some(first_bytes(content, length as usize)),
+            content: Some(content.first(length as usize)),
             number,
         },
         (content, _) => Reply {

@@ -1,17 +1,21 @@
-use Rattle.std.proofs.Common.{◌∙◌, sym, ap, subst}
+use Rattle.std.proofs.Common.{◌≡◌, ◌∙◌, ◌++◌, sym, ap, subst, append-nil}
 use Rattle.std.specs.Prelude.{All, map}
-use Rattle.std.proofs.lemmas.Result.{IfOk-weaker}
-use Rattle.cics_dispatch.specs.Deadlocks.Deadlocks.{labels_of, IsDeadlock, IsTold}
+use Rattle.std.proofs.lemmas.List.{at_drop_all}
+use Rattle.cics_dispatch.specs.Deadlocks.Searches.{circles as found}
+use Rattle.cics_dispatch.specs.Deadlocks.Deadlocks.{labels_of, deadlocks, IsDeadlock, IsTold}
 use Rattle.cics_dispatch.proofs.OfDeadlocks.Told.{told_each, told_all}
 use Rattle.cics_dispatch.proofs.deadlocks.waiting.deadlocks.Goals as goal
 
-pub returns-clause-each : goal.returns-clause-each
-returns-clause-each c =
+pub returns : goal.returns
+returns c =
     let m = c.args.region.now.machine in
-    IfOk-weaker c.all_labels_of.result _ _ (λ found is. subst (All (IsDeadlock m)) (sym (is ∙ ap (map (labels_of m)) (c.as_slice.ensures ∙ c.in_ok-all.ensures))) (told_each m)) c.all_labels_of.ensures
-
-pub returns-clause-all : goal.returns-clause-all
-returns-clause-all c =
-    let m = c.args.region.now.machine in
-    IfOk-weaker c.all_labels_of.result _ _
-    (λ found is task l. subst (λ f. IsTold m f task) (sym (is ∙ ap (map (labels_of m)) (c.as_slice.ensures ∙ c.in_ok-all.ensures))) (told_all m task l)) c.all_labels_of.ensures
+    let all = c.loop-circle.all in
+    let circles = c.as_slice-circle-items.result.now in
+    let are : all ≡ deadlocks m =
+    sym (append-nil all) ∙ ap (λ rest. all ++ rest) (sym (at_drop_all (map (labels_of m)) circles c.loop-circle.circle-index c.loop-circle-test.false))
+    ∙ c.loop-circle.invariant ∙ ap (map (labels_of m)) (c.as_slice-circle-items.ensures ∙ c.in_ok-circles.ensures ∙ ap found (c.as_slice.ensures ∙ c.in_ok-waits.ensures)) in
+    record {
+      deadlocks = are;
+      each = subst (All (IsDeadlock m)) (sym are) (told_each m);
+      all = λ task l. subst (λ labels. IsTold m labels task) (sym are) (told_all m task l);
+    }

@@ -1,43 +1,36 @@
-use Rattle.std.proofs.Common.{◌≡◌, ◌∙◌, sym, ap, subst}
-use Rattle.cics_history.specs.Execution.{IsOpenOrNone}
+use Rattle.std.proofs.Common.{◌≡◌, ◌∙◌, ap, subst, true}
 use Rattle.cics_history.specs.declared.ops.UnitState.TheVariants.{BackedOut}
-use Rattle.cics_dispatch.specs.Machine.Machine.{abended, not_waiting, units_after}
+use Rattle.cics_dispatch.specs.Machine.Machine.{abended, is_waiting, not_waiting, unit_closed, with_waiting}
 use Rattle.cics_dispatch.specs.Machine.Regions.{region_of}
 use Rattle.cics_dispatch.specs.Machine.Calls.{OfTask}
-use Rattle.cics_dispatch.proofs.OfMachine.KeptTasks.{acting_or_none}
-use Rattle.cics_dispatch.proofs.OfMachine.RegionSteps.{abended_kept, one_task}
+use Rattle.cics_dispatch.proofs.OfMachine.KeptTasks.{not_waiting_then}
+use Rattle.cics_dispatch.proofs.OfMachine.RegionSteps.{unwaiting_kept, placed_within, one_task}
 use Rattle.cics_dispatch.proofs.dispatcher.Dispatcher.abend.Goals as goal
-
-pub end_unit-requires-clause-is_open : goal.end_unit-requires-clause-is_open
-end_unit-requires-clause-is_open c =
-    let u = c.self.inside in
-    let m = (region_of u.units u.tasks u.waits u.clock u.is_down).machine in
-    subst (IsOpenOrNone u.units.state) (sym (c.close_unit-unit.ensures.unit c.get.result.now c.get.ensures)) (acting_or_none m c.args.at c.get.result.now c.self.invariant.tasks c.get.ensures)
 
 pub invariant_of-self : goal.invariant_of-self
 invariant_of-self c =
+    unwaiting_kept c.self.invariant c.remove.new.self c.get.result.now.label (c.remove.ensures ∙ ap (not_waiting c.self.inside.waits) c.label-label.ensures)
+
+pub close-requires-clause-within : goal.close-requires-clause-within
+close-requires-clause-within c = placed_within c.self.inside.tasks c.args.at c.get.result.now c.get.ensures
+
+pub close-requires-clause-awake : goal.close-requires-clause-awake
+close-requires-clause-awake c = λ t there.
     let u = c.self.inside in
-    let t = c.get.result.now in
-    abended_kept c.self.invariant c.end_unit.new.units c.close_unit-unit.new.self c.remove.new.self c.args.at t c.get.ensures
-    (c.end_unit.ensures.state ∙ ap (λ o. units_after u.units.state o BackedOut) (c.close_unit-unit.ensures.unit t c.get.ensures))
-    (c.close_unit-unit.ensures.task t c.get.ensures) (c.remove.ensures ∙ ap (not_waiting u.waits) c.label-label.ensures) c.end_unit.ensures.promised
+    let label = c.get.result.now.label in
+    ap (λ x. is_waiting c.remove.new.self x.label) (one_task u.tasks c.args.at there c.get.ensures)
+    ∙ ap (λ ws. is_waiting ws label) (c.remove.ensures ∙ ap (not_waiting u.waits) c.label-label.ensures) ∙ not_waiting_then u.waits label
 
 pub returns-clause-kept : goal.returns-clause-kept
 returns-clause-kept c = λ was.
-    let u = c.self.inside in
-    let t = c.get.result.now in
-    abended_kept c.self.invariant c.end_unit.new.units c.close_unit-unit.new.self c.remove.new.self c.args.at t c.get.ensures
-    (c.end_unit.ensures.state ∙ ap (λ o. units_after u.units.state o BackedOut) (c.close_unit-unit.ensures.unit t c.get.ensures))
-    (c.close_unit-unit.ensures.task t c.get.ensures) (c.remove.ensures ∙ ap (not_waiting u.waits) c.label-label.ensures) c.end_unit.ensures.promised
+    c.close.ensures.kept (unwaiting_kept c.self.invariant c.remove.new.self c.get.result.now.label (c.remove.ensures ∙ ap (not_waiting c.self.inside.waits) c.label-label.ensures))
 
 pub returns-clause-machine : goal.returns-clause-machine
 returns-clause-machine c =
     let u = c.self.inside in
-    let new = (region_of c.end_unit.new.units c.close_unit-unit.new.self c.remove.new.self u.clock u.is_down).machine in
-    subst (λ v. OfTask v.machine.tasks c.args.at (λ t. new ≡ abended v.machine t)) c.self.view_is (λ t there i. record {
-      units = (c.end_unit.ensures.state ∙ ap (λ o. units_after u.units.state o BackedOut) (c.close_unit-unit.ensures.unit t there)) i;
-      tasks = c.close_unit-unit.ensures.task t there i;
-      waiting = (c.remove.ensures ∙ ap (not_waiting u.waits) (c.label-label.ensures ∙ ap (λ x. x.label) (one_task u.tasks c.args.at c.get.ensures there))) i;
-      clock = u.clock;
-      is_down = u.is_down;
-    })
+    let m = (region_of u.units u.tasks u.waits u.clock u.is_down).machine in
+    let new = c.close.new.self.machine in
+    subst (λ v. OfTask v.machine.tasks c.args.at (λ t. new ≡ abended v.machine t)) c.self.view_is (λ t there.
+    c.close.ensures.machine t there
+    ∙ ap (λ ws. unit_closed (with_waiting m ws) t BackedOut true)
+    (c.remove.ensures ∙ ap (not_waiting u.waits) (c.label-label.ensures ∙ ap (λ x. x.label) (one_task u.tasks c.args.at c.get.ensures there))))

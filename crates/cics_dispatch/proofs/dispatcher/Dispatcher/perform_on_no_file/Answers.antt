@@ -7,7 +7,7 @@ use Rattle.cics_dispatch.specs.Machine.Calls.{going_on}
 use Rattle.cics_dispatch.specs.Machine.Machine.{Task}
 use Rattle.cics_dispatch.specs.Machine.Replies.{plain}
 use Rattle.cics_dispatch.specs.Machine.Steps.{answered, other_command, with_outcome}
-use Rattle.cics_dispatch.specs.declared.machine.outcomes.Outcome.TheVariants.{Abended, Ended}
+use Rattle.cics_dispatch.specs.declared.machine.outcomes.Outcome.TheVariants.{Abended, Ended, Replied}
 use Rattle.cics_dispatch.proofs.OfMachine.Ready.{ready_value}
 use Rattle.cics_dispatch.proofs.OfMachine.RegionSteps.{told_as}
 use Rattle.cics_dispatch.proofs.OfMachine.RegionPerforming.{deq_fits}
@@ -27,8 +27,8 @@ dequeue-requires-clause-most c =
 
 pub returns : goal.returns
 returns c = record {
-  step = told_as c.args.at (λ t. answered c.args.self.now.machine t c.args.command.resp c.plain_reply.result) (going_on c.args.self.now.machine c.args.command None)
-      (λ t there. ap (answered c.args.self.now.machine t c.args.command.resp) c.plain_reply.ensures ∙ by t c.args.command.verb refl c.requires.named) c.answer.ensures.step;
+  step = told_as c.args.at (λ t. answered c.args.self.now.machine t c.args.command.resp c.plain_reply-in_default-verb.result) (going_on c.args.self.now.machine c.args.command None)
+      (λ t there. ap (answered c.args.self.now.machine t c.args.command.resp) c.plain_reply-in_default-verb.ensures ∙ by t c.args.command.verb refl c.requires.named) c.answer.ensures.step;
   growing = tt;
 }
   where
@@ -51,17 +51,17 @@ returns c = record {
 
 pub returns-in-Syncpoint : goal.returns-in-Syncpoint
 returns-in-Syncpoint c =
-    let by = c.end_of_unit.ensures in
-    record { step = (λ t there. (λ i. with_outcome (by.outcome i) (by.machine t there i)) ∙ ap (other_command c.args.self.now.machine t c.args.command) (sym c.in-Syncpoint.is), by.kept); growing = tt }
+    let by = c.close.ensures in
+    record { step = (λ t there. (λ i. with_outcome (Replied (c.plain_reply.ensures i)) (by.machine t there i)) ∙ ap (other_command c.args.self.now.machine t c.args.command) (sym c.in-Syncpoint.is), by.kept); growing = tt }
 
 pub returns-in-Rollback : goal.returns-in-Rollback
 returns-in-Rollback c =
-    let by = c.end_of_unit-in-Rollback.ensures in
-    record { step = (λ t there. (λ i. with_outcome (by.outcome i) (by.machine t there i)) ∙ ap (other_command c.args.self.now.machine t c.args.command) (sym c.in-Rollback.is), by.kept); growing = tt }
+    let by = c.close-in-Rollback.ensures in
+    record { step = (λ t there. (λ i. with_outcome (Replied (c.plain_reply-in-Rollback.ensures i)) (by.machine t there i)) ∙ ap (other_command c.args.self.now.machine t c.args.command) (sym c.in-Rollback.is), by.kept); growing = tt }
 
 pub returns-in-Return : goal.returns-in-Return
 returns-in-Return c =
-    record { step = (λ t there. ap (with_outcome Ended) (c.close.ensures.machine t there) ∙ ap (other_command c.args.self.now.machine t c.args.command) (sym c.in-Return.is), c.close.ensures.kept); growing = tt }
+    record { step = (λ t there. ap (with_outcome Ended) (c.close-in-Return.ensures.machine t there) ∙ ap (other_command c.args.self.now.machine t c.args.command) (sym c.in-Return.is), c.close-in-Return.ensures.kept); growing = tt }
 
 pub returns-in-Abend : goal.returns-in-Abend
 returns-in-Abend c =
