@@ -9,35 +9,12 @@ use crate::stage::Observer;
 use cics_dispatch::{Event, Region, Request};
 use cics_names::NoMemory;
 
-/// Plays a request of the line with this number, and drains the region. An observer sees the
-/// request, and each event.
+/// Shows a request of the line with this number to an observer, plays it, and drains the region. The
+/// observer sees each event too. It isn't inlined: a request whose address is taken is copied.
 ///
 /// Errors: `NoMemory`.
-#[inline(always)]
-pub fn play<O: Observer>(
-    region: &mut Region,
-    number: u64,
-    request: Request,
-    observer: &mut O,
-) -> Result<(), NoMemory>
-    ensures region { OnOk result (region.new
-        ≡ region_at (all_played region.old.machine request).machine) }
-    ensures seen { OnOk result (O.seen observer.new ≡ after_events O.sight number
-        (O.sight.with_request (O.seen observer.old) number request region.old)
-        (all_played region.old.machine request).turns) }
-{
-    if observer.sees_requests() {
-        return play_seen(region, number, request, observer);
-    }
-    let event = region.play(request)?;
-    show(region, number, event, observer)?;
-    drain(region, number, observer)
-}
-
-// Does the same, and shows the request. It isn't inlined: a request whose address is taken is
-// copied.
 #[inline(never)]
-fn play_seen<O: Observer>(
+pub fn play_seen<O: Observer>(
     region: &mut Region,
     number: u64,
     request: Request,
@@ -55,9 +32,9 @@ fn play_seen<O: Observer>(
     drain(region, number, observer)
 }
 
-// Shows an event to an observer. It owns the event, so that it is dropped by one call.
+/// Shows an event to an observer. It owns the event, so that it is dropped by one call.
 #[inline(always)]
-fn show<O: Observer>(
+pub fn show<O: Observer>(
     region: &Region,
     number: u64,
     event: Event,
@@ -69,8 +46,12 @@ fn show<O: Observer>(
     observer.see(number, &event, region)
 }
 
-// Drains a region.
-fn drain<O: Observer>(region: &mut Region, number: u64, observer: &mut O) -> Result<(), NoMemory>
+/// Drains a region, and shows each event to an observer.
+pub fn drain<O: Observer>(
+    region: &mut Region,
+    number: u64,
+    observer: &mut O,
+) -> Result<(), NoMemory>
     ensures region { OnOk result (region.new ≡ region_at (drained region.old.machine).machine) }
     ensures seen { OnOk result (O.seen observer.new ≡ after_events O.sight number
         (O.seen observer.old) (drained region.old.machine).turns) }

@@ -5,13 +5,13 @@ ghost use Rattle.cics_history.specs.State.{OpeningState};
 ghost use Rattle.cics_units.specs.Opening.Faults.{AnswersFault};
 ghost use Rattle.cics_units.specs.declared.opening.opening.DefineFault.{DefineFault};
 ghost use Rattle.cics_run.specs.Stage.Seen.{after_all, after_step};
-ghost use Rattle.cics_run.specs.Stage.Stages.{initial_stage, region_of, defined, requested};
-ghost use Rattle.cics_run.specs.Stage.Stages.{followed, step, IsPlayed};
+ghost use Rattle.cics_run.specs.Stage.Stages.{initial_stage, region_of, defined};
+ghost use Rattle.cics_run.specs.Stage.Stages.{requested, followed, step, IsPlayed};
 ghost use Rattle.cics_run.specs.declared.stage.stage.Stage.TheVariants.{Opening as OpeningStage};
 ghost use Rattle.cics_run.specs.declared.stage.stage.Stage.TheVariants.{Running};
 
 use crate::stage::Observer;
-use crate::stage::draining::play;
+use crate::stage::draining::{drain, play_seen, show};
 use cics_dispatch::{Region, Request};
 use cics_names::NoMemory;
 use cics_script::{Line, LineFault, read_line};
@@ -78,32 +78,15 @@ impl Stage {
         ensures seen { OnOk result (O.seen observer.new
             ≡ after_step O.sight number (O.seen observer.old) (step self.old line.now)) }
     {
-        match self.run_events(alloc, number, line, observer)? {
-            Some(fault) => {
-                observer.see_fault(number, fault)?;
-                Ok(Some(fault))
-            }
-            None => Ok(None),
+        let fault = match read_line(alloc, line) {
+            Ok(line) => self.follow(number, line, observer)?,
+            Err(LineFault::NoMemory) => return Err(NoMemory),
+            Err(fault) => Some(Fault::Line(fault)),
+        };
+        if let Some(fault) = fault {
+            observer.see_fault(number, fault)?;
         }
-    }
-
-    // Runs a line, and returns its fault. The observer sees the line's request and its events.
-    fn run_events<O: Observer>(
-        &mut self,
-        alloc: Global,
-        number: u64,
-        line: &[u8],
-        observer: &mut O,
-    ) -> Result<Option<Fault>, NoMemory>
-        ensures played { IfOk result (IsPlayed (step self.old line.now) self.new) }
-        ensures seen { OnOk result (O.seen observer.new
-            ≡ after_all O.sight number (O.seen observer.old) (step self.old line.now)) }
-    {
-        match read_line(alloc, line) {
-            Ok(line) => self.follow(number, line, observer),
-            Err(LineFault::NoMemory) => Err(NoMemory),
-            Err(fault) => Ok(Some(Fault::Line(fault))),
-        }
+        Ok(fault)
     }
 
     /// Runs a line that was read. The observer sees its request and its events.
@@ -145,19 +128,20 @@ impl Stage {
                     transaction,
                     dtimout,
                 };
-                self.request(number, request, observer)
+                self.play(number, request, observer)
             }
-            Line::Clock(seconds) => self.request(number, Request::Clock(seconds), observer),
+            Line::Clock(seconds) => self.play(number, Request::Clock(seconds), observer),
             Line::Issue(label, command) => {
-                self.request(number, Request::Issue(label, command), observer)
+                self.play(number, Request::Issue(label, command), observer)
             }
-            Line::Shutdown => self.request(number, Request::Shutdown, observer),
+            Line::Shutdown => self.play(number, Request::Shutdown, observer),
         }
     }
 
-    // Plays a request on the region, and returns no fault.
+    // Plays a request on the region, which then drains, and returns no fault. The observer sees the
+    // request and each event.
     #[inline(always)]
-    fn request<O: Observer>(
+    fn play<O: Observer>(
         &mut self,
         number: u64,
         request: Request,
@@ -168,10 +152,16 @@ impl Stage {
             ≡ after_all O.sight number (O.seen observer.old) (requested self.old request)) }
     {
         self.open()?;
-        match self {
-            Stage::Running(region) => play(region, number, request, observer)?,
-            Stage::Opening(_) => unreachable!(),
+        let Stage::Running(region) = self else {
+            unreachable!();
+        };
+        if observer.sees_requests() {
+            play_seen(region, number, request, observer)?;
+            return Ok(None);
         }
+        let event = region.play(request)?;
+        show(region, number, event, observer)?;
+        drain(region, number, observer)?;
         Ok(None)
     }
 
