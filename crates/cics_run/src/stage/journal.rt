@@ -5,7 +5,7 @@ ghost use Rattle.std.specs.Prelude.{◌≡◌, ◌++◌, OnOk};
 ghost use Rattle.std.specs.Option.{option_copied};
 ghost use Rattle.cics_run.specs.Stage.Journal.{numbered, condition_text, part, number_part, reply_text};
 ghost use Rattle.cics_run.specs.Stage.Journal.{abend_text, outcome_text, issued_text, outcome_line};
-ghost use Rattle.cics_run.specs.Stage.Journal.{refusal_title, refusal_text, subject_text, define_title};
+ghost use Rattle.cics_run.specs.Stage.Journal.{refusal_title, subject_text, define_title};
 ghost use Rattle.cics_run.specs.Stage.Journal.{event_text, event_line, fault_text, fault_line};
 ghost use Rattle.cics_run.specs.Stage.Journal.{script_line};
 
@@ -98,8 +98,8 @@ fn push_event_text(out: &mut Vec<u8>, event: &Event) -> Result<(), NoMemory>
         }
         Event::Refused(subject, refusal) => {
             push_subject(out, *subject)?;
-            push_str(out, " ")?;
-            push_refusal(out, *refusal)
+            push_str(out, " REFUSED ")?;
+            push_numbered(out, refusal.number(), refusal_title(*refusal))
         }
     }
 }
@@ -207,13 +207,6 @@ fn push_what_came(out: &mut Vec<u8>, outcome: &Outcome) -> Result<(), NoMemory>
         Outcome::Abended(code, reply) => push_abend(out, *code, reply.as_ref()),
         Outcome::Ended => push_str(out, "ENDED"),
     }
-}
-
-fn push_refusal(out: &mut Vec<u8>, refusal: Refused) -> Result<(), NoMemory>
-    ensures { OnOk result (out.new.items ≡ out.old.items ++ refusal_text refusal) }
-{
-    push_str(out, "REFUSED ")?;
-    push_numbered(out, refusal.number(), refusal_title(refusal))
 }
 
 fn refusal_title(refusal: Refused) -> &'static str

@@ -1,8 +1,8 @@
 //! Which events of a run are told to a person at its end.
 
 ghost use Rattle.std.specs.Prelude.{◌≡◌, OnOk};
-ghost use Rattle.cics_run.specs.Stage.Notices.{raised_by, noted_abend, noted_late, is_no_task};
-ghost use Rattle.cics_run.specs.Stage.Notices.{refused_notice, noted_refusal, noted_on, with_notice};
+ghost use Rattle.cics_run.specs.Stage.Notices.{raised_by, noted_abend, noted_late, noted_refusal};
+ghost use Rattle.cics_run.specs.Stage.Notices.{noted_on, with_notice};
 ghost use Rattle.cics_run.specs.Stage.Notices.{is_undefined, names_undefined};
 
 use crate::stage::amiss::is_time_out;
@@ -81,33 +81,18 @@ fn noted_late(scope: Scope, label: Name8, outcome: &Outcome) -> Option<Notice>
     }
 }
 
-// Returns whether a request was refused since no task has its label.
-fn is_no_task(refusal: Refused) -> bool
-    ensures { result ≡ is_no_task refusal }
-{
-    matches!(refusal, Refused::NoTask)
-}
-
-// Returns what is told of a refused request.
-fn refused_notice(subject: Subject, refusal: Refused) -> Notice
-    ensures { result ≡ refused_notice subject refusal }
-{
-    match subject {
-        Subject::Task(label) => Notice::Refused(label, refusal),
-        Subject::Clock => Notice::ClockRefused(refusal),
-        Subject::Shutdown => Notice::ShutdownRefused(refusal),
-    }
-}
-
 // Returns the notice on a refused request, if it is told.
 fn noted_refusal(scope: Scope, subject: Subject, refusal: Refused) -> Option<Notice>
     ensures { result ≡ noted_refusal scope subject refusal }
 {
-    if scope.strict || is_no_task(refusal) {
-        Some(refused_notice(subject, refusal))
-    } else {
-        None
+    if !scope.strict && !matches!(refusal, Refused::NoTask) {
+        return None;
     }
+    Some(match subject {
+        Subject::Task(label) => Notice::Refused(label, refusal),
+        Subject::Clock => Notice::ClockRefused(refusal),
+        Subject::Shutdown => Notice::ShutdownRefused(refusal),
+    })
 }
 
 // Returns what is told of an event that is amiss, or of one of a run with `why`.

@@ -115,21 +115,16 @@ fn play(stage: &mut Stage, said: Line) -> Result<Option<Fault>, NoMemory>
     Ok(None)
 }
 
-// Tries a line that was read.
-fn try_read(stage: &mut Stage, said: Line) -> Result<Found, NoMemory>
-    ensures { IfOk result (IsTried stage.old (Ok said) stage.new) }
-{
-    let notice = notice_on(stage, &said);
-    let fault = play(stage, said)?;
-    Ok(Found { fault, notice })
-}
-
 // Tries a line: plays it if it is a definition or an ATTACH, and returns what is found in it.
 fn try_line(alloc: Global, stage: &mut Stage, line: &[u8]) -> Result<Found, NoMemory>
     ensures { IfOk result (IsTried stage.old (line_of line.now) stage.new) }
 {
     match read_line(alloc, line) {
-        Ok(said) => try_read(stage, said),
+        Ok(said) => {
+            let notice = notice_on(stage, &said);
+            let fault = play(stage, said)?;
+            Ok(Found { fault, notice })
+        }
         Err(LineFault::NoMemory) => Err(NoMemory),
         Err(fault) => Ok(Found {
             fault: Some(Fault::Line(fault)),

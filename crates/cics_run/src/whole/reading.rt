@@ -1,19 +1,10 @@
 //! A script that is read whole.
 
-ghost use Rattle.std.specs.Prelude.{◌≡◌, ◌++◌, [], OnOk};
+ghost use Rattle.std.specs.Prelude.{◌≡◌, []};
 ghost use Rattle.cics_run.specs.Session.{most_reads, read_failures, Rises, RisesAtMost, failures};
 ghost use Rattle.cics_run.specs.Whole.Reads.{Reads};
 
 use crate::session::{CHUNK, MOST_SCRIPT_BYTES, RunFault, Source};
-use cics_names::NoMemory;
-
-// Adds the bytes of a source to the end of a text.
-fn push_chunk(script: &mut Vec<u8>, chunk: &[u8]) -> Result<(), NoMemory>
-    ensures { OnOk result (script.new.items ≡ script.old.items ++ chunk.now) }
-{
-    script.extend_from_slice(chunk)?;
-    Ok(())
-}
 
 /// Reads a script to its end: at most `MOST_SCRIPT_BYTES`, and one more to see whether there are
 /// more.
@@ -36,7 +27,7 @@ pub fn read_script<S: Source>(source: &mut S, script: &mut Vec<u8>) -> Result<()
         match source.read(&mut buffer[..size]) {
             Ok(0) => return Ok(()),
             Ok(_) if room == 0 => return Err(RunFault::InputTooLong),
-            Ok(n) => match push_chunk(script, &buffer[..n]) {
+            Ok(n) => match script.extend_from_slice(&buffer[..n]) {
                 Ok(()) => room -= n,
                 Err(_) => return Err(RunFault::NoMemory),
             },

@@ -3,7 +3,7 @@
 ghost use Rattle.std.specs.Prelude.{◌≡◌};
 ghost use Rattle.cics_names.specs.Commands.{file_named};
 ghost use Rattle.cics_run.specs.Whole.Requests.{is_played, is_attached, name_reason, name_notice};
-ghost use Rattle.cics_run.specs.Whole.Requests.{command_notice, notice_on};
+ghost use Rattle.cics_run.specs.Whole.Requests.{notice_on};
 
 use crate::stage::{Notice, Raised, Stage};
 use crate::told::meant_queue;
@@ -61,16 +61,6 @@ fn name_notice(region: &Region, verb: &Verb) -> Option<Notice>
     }
 }
 
-// Returns what is amiss in the name that a command has.
-fn command_notice(stage: &Stage, verb: &Verb) -> Option<Notice>
-    ensures { result ≡ command_notice stage.now verb.now }
-{
-    match stage {
-        Stage::Running(region) => name_notice(region, verb),
-        Stage::Opening(_) => None,
-    }
-}
-
 /// Returns what is amiss in a line, by what was attached and defined before it: its label was
 /// attached before, or never was, or the file or queue that it names isn't defined, or is one of
 /// transient data and not of temporary storage.
@@ -84,7 +74,10 @@ pub fn notice_on(stage: &Stage, line: &Line) -> Option<Notice>
         Line::Issue(label, _) if !is_attached(stage, label) => {
             Some(Notice::Refused(*label, Refused::NoTask))
         }
-        Line::Issue(_, command) => command_notice(stage, &command.verb),
+        Line::Issue(_, command) => match stage {
+            Stage::Running(region) => name_notice(region, &command.verb),
+            Stage::Opening(_) => None,
+        },
         _ => None,
     }
 }

@@ -15,8 +15,8 @@ returns-in-Ok-clause-reads g c =
     let one : n ≡ 1 = omega (arith, fits, c.in-Ok.field-0-test.1, c.read.auto.buffer, length-take c.max-size.result c.reads.buffer, c.max-size.ensures, c.min.ensures, c.if-room-eq0.true) in
     (bytes ++ take n got, consumes-append _ _ _ bytes _ read c.in-Ok.ensures.bytes.0, (one_more bytes got n MOST_SCRIPT_BYTES full one fits).0)
 
-pub returns-in-Err-push_chunk-clause-reads : goal.returns-in-Err-push_chunk-clause-reads
-returns-in-Err-push_chunk-clause-reads g c =
+pub returns-in-Err-extend_from_slice-clause-reads : goal.returns-in-Err-extend_from_slice-clause-reads
+returns-in-Err-extend_from_slice-clause-reads g c =
     let (read, room, whole, asked, failed) = c.reads.invariant in
     let bytes = c.reads.script.items in
     let n = c.in-Ok.field-0 in
