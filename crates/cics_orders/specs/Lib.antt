@@ -10,5 +10,5 @@ pub mod Space
 pub mod Plans
 pub mod Report
 pub mod Endings
-pub mod Survey
+pub mod Command
 pub mod Words

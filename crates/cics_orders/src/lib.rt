@@ -1,6 +1,7 @@
 //! Every order in which the tasks of a plan may give their lines.
 #![tactic(auto)]
 
+pub mod command;
 pub mod endings;
 mod lanes;
 mod laws;
@@ -12,7 +13,6 @@ pub mod search;
 pub mod space;
 mod stamping;
 mod starting;
-pub mod survey;
 mod turns;
 mod walks;
 

@@ -1,6 +1,6 @@
 pub mod OfSession
 pub mod OfStage
 mod OfListing
-pub mod OfWhole
-pub mod OfTold
+pub mod OfReading
+pub mod OfMessages
 pub mod OfReads

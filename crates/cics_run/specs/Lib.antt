@@ -1,6 +1,6 @@
 pub mod Session
 pub mod Stage
 pub mod Listing
-pub mod Whole
-pub mod Told
+pub mod Reading
+pub mod Messages
 pub mod Reads

@@ -3,11 +3,11 @@
 
 mod command_line;
 pub mod listing;
+pub mod messages;
+pub mod reading;
 pub mod reads;
 pub mod session;
 pub mod stage;
-pub mod told;
-pub mod whole;
 
 pub use crate::session::{
     CHUNK, Failed, MOST_SCRIPT_BYTES, Options, Orders, RunFault, Session, Sink, Source, Status,

@@ -25,6 +25,6 @@ mod writing;
 
 pub use found::{Fate, Finding, Pair};
 pub use noting::Reads;
-pub use steps::{Act, Bound, Cell, Change, Place, Spot, Step};
+pub use steps::{Act, Bound, Cell, Change, Moment, Spot, Step};
 pub use watching::Watcher;
 pub use writing::{is_amiss, is_any_amiss, push_findings};

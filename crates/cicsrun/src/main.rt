@@ -8,12 +8,12 @@ mod progress;
 
 use crate::input::{Input, Stream};
 use crate::progress::ProgressLines;
+use cics_orders::command::{Surveyed, Surveyor};
 use cics_orders::report::AmissEnding;
-use cics_orders::survey::{Surveyed, Surveyor};
 use cics_picture::draw::{NoPicture, run_picture};
 use cics_picture::page::{NoPage, run_page};
-use cics_run::told::{is_amiss, told_at_end, told_of};
-use cics_run::whole::{check_script, read_script};
+use cics_run::messages::{is_amiss, told_at_end, told_of};
+use cics_run::reading::{check_script, read_script};
 use cics_run::{
     Action, CommandLine, Options, Orders, RunFault, Session, Status, Wanted, exit_status,
     read_arguments, run_over, strict_status,

@@ -1,6 +1,6 @@
 //! Lines on standard error that say how far a search is.
 
-use cics_orders::survey::{Progress, Stand};
+use cics_orders::command::{Progress, Stand};
 use std::time::Instant;
 
 // How many seconds pass at least between two lines.

@@ -10,7 +10,7 @@ use Rattle.cics_run.proofs.OfSession.Counting.{rises-nothing}
 use Rattle.cics_run.proofs.OfSession.Known.{appends-nothing}
 use Rattle.cics_picture.specs.declared.drawing.Undrawn.{Undrawn}
 use Rattle.cics_picture.specs.declared.drawing.Undrawn.TheVariants as undrawns
-use Rattle.cics_run.specs.Whole.Reads.{StopsBehind}
+use Rattle.cics_run.specs.Reading.Reads.{StopsBehind}
 use Rattle.cics_picture.specs.Draw.Pictures.{KeepsLast, KeepsFault, HasTooMany, Answers, failures_of, undrawn, run_status}
 
 -- reading writes nothing

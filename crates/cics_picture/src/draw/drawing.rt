@@ -18,9 +18,9 @@ use crate::draw::standings::{entries_at, fills_at, standings_at};
 use crate::draw::titles::title_of;
 use crate::{Drawing, Standing, Undrawn, push_sheet};
 use cics_names::{Items, NoMemory};
+use cics_run::reading::next_line;
 use cics_run::session::Session;
 use cics_run::stage::Observer;
-use cics_run::whole::next_line;
 
 /// Runs a line and returns whether it has a fault. The observer sees what it leads to. The session
 /// keeps a line with a fault, for what is told on standard error.

@@ -8,8 +8,8 @@ ghost use Rattle.cics_picture.specs.Draw.Pictures.{Pictures, KeepsFault, failure
 
 use crate::Undrawn;
 use crate::draw::drawing::draw_script;
+use cics_run::reading::read_script;
 use cics_run::session::{RunFault, Session, Sink, Source, Status, write_all};
-use cics_run::whole::read_script;
 use thiserror::Error;
 
 /// Why a script has no picture.

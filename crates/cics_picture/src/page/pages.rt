@@ -29,9 +29,9 @@ use crate::page::recording::Pager;
 use crate::xml::Tag;
 use cics_names::NoMemory;
 use cics_run::listing::push_listing;
+use cics_run::reading::{Nobody, next_line};
 use cics_run::session::Session;
 use cics_run::stage::Stage;
-use cics_run::whole::{Nobody, next_line};
 use cics_script::spelling::{Part, push_parts, push_str};
 use std::alloc::Global;
 

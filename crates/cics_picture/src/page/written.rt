@@ -9,8 +9,8 @@ ghost use Rattle.cics_picture.specs.Page.Pages.{Pages, KeepsFault, failures_of, 
 use crate::draw::run_status;
 use crate::page::lines::Unwritten;
 use crate::page::pages::page_script;
+use cics_run::reading::read_script;
 use cics_run::session::{RunFault, Session, Sink, Source, Status, write_all};
-use cics_run::whole::read_script;
 use thiserror::Error;
 
 /// Why a script has no page.

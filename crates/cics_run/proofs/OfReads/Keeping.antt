@@ -58,14 +58,14 @@ same_number a b = grind (arith, nat_tests)
 pub turn_known : (t : ℕ) (run : Run) → lookup (is_at (nat_cmp t)) (turns_of run) ≡ option_map latest_of (last_in t run)
 turn_known t [] = refl
 turn_known t (s ∷ run) =
-    lookup-inserted nat_cmp nat_cmp_total t s.place.turn (latest_of s) (turns_of run)
-    ∙ ap (λ b. cond b (Some (latest_of s)) (lookup (is_at (nat_cmp t)) (turns_of run))) (same_number t s.place.turn)
+    lookup-inserted nat_cmp nat_cmp_total t s.moment.turn (latest_of s) (turns_of run)
+    ∙ ap (λ b. cond b (Some (latest_of s)) (lookup (is_at (nat_cmp t)) (turns_of run))) (same_number t s.moment.turn)
     ∙ ap (cond (is_in t s) (Some (latest_of s))) (turn_known t run) ∙ map-cond latest_of (is_in t s) s (last_in t run)
 
 pub task_known : (task : Bytes) (run : Run) → lookup (is_at (bytes_cmp task)) (tasks_of run) ≡ option_map latest_of (find (is_by task) run)
 task_known task [] = refl
 task_known task (s ∷ run) =
-    lookup-inserted bytes_cmp nat_list_cmp_total task s.place.task (latest_of s) (tasks_of run)
+    lookup-inserted bytes_cmp nat_list_cmp_total task s.moment.task (latest_of s) (tasks_of run)
     ∙ ap (cond (is_by task s) (Some (latest_of s))) (task_known task run) ∙ map-cond latest_of (is_by task s) s (find (is_by task) run)
 
 -- ---- Cells are ordered totally

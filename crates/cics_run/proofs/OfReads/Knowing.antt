@@ -19,7 +19,7 @@ none_at f xs x none (k, below, is) =
     in omega (arith, ap length none)
 
 -- a look before the last change is told
-told_if : (d r c : Step) → is_view r.act ≡ true → length (replaced d (Some r) (Some (mark_of c))) ≡ 0 → c.place.at ≤ r.place.at
+told_if : (d r c : Step) → is_view r.act ≡ true → length (replaced d (Some r) (Some (mark_of c))) ≡ 0 → c.moment.at ≤ r.moment.at
 told_if d r c view none = grind (arith, common_steps)
 
 pub knows_what_it_replaces : KnowsWhatItReplaces

@@ -39,7 +39,7 @@ pub touched_ordered : TouchedOrd.ghosts.cmp ≡ touched_cmp
 touched_ordered = λ i a b. ordering_then (bytes_cmp a.task b.task) (cells_ordered i a.cell b.cell)
 
 abbrev number : Step → ℕ
-number s = s.place.at
+number s = s.moment.at
 
 -- whether a task is at a cell by a step that names it
 abbrev is_point : Touched → Step → Bool
@@ -57,26 +57,26 @@ none_at true k o = refl
 none_at false k o = refl
 
 at_points : (t : Touched) (s : Step) (xs : List Cell) (m : List (Touched × ℕ))
-    → lookup (is_at (touched_cmp t)) (fold (put_point s.place) m xs) ≡ cond (is_by t.task s && list_any (same_cell t.cell) xs) (Some s.place.at) (lookup (is_at (touched_cmp t)) m)
-at_points t s [] m = sym (none_at (is_by t.task s) (Some s.place.at) (lookup (is_at (touched_cmp t)) m))
+    → lookup (is_at (touched_cmp t)) (fold (put_point s.moment) m xs) ≡ cond (is_by t.task s && list_any (same_cell t.cell) xs) (Some s.moment.at) (lookup (is_at (touched_cmp t)) m)
+at_points t s [] m = sym (none_at (is_by t.task s) (Some s.moment.at) (lookup (is_at (touched_cmp t)) m))
 at_points t s (x ∷ xs) m =
-    let k : Touched = record { task = s.place.task; cell = x } in
+    let k : Touched = record { task = s.moment.task; cell = x } in
     let rest = lookup (is_at (touched_cmp t)) m in
-    at_points t s xs (put_point s.place m x)
-    ∙ ap (cond (is_by t.task s && list_any (same_cell t.cell) xs) (Some s.place.at))
-    (lookup-inserted touched_cmp touched_total t k s.place.at m
-    ∙ ap (λ b. cond b (Some s.place.at) rest) (both (bytes_cmp t.task s.place.task) (cell_cmp t.cell x) ∙ ap (λ b. is_by t.task s && b) (same-tie t.cell x)))
-    ∙ twice (same_cell t.cell x) (list_any (same_cell t.cell) xs) (is_by t.task s) (Some s.place.at) rest
+    at_points t s xs (put_point s.moment m x)
+    ∙ ap (cond (is_by t.task s && list_any (same_cell t.cell) xs) (Some s.moment.at))
+    (lookup-inserted touched_cmp touched_total t k s.moment.at m
+    ∙ ap (λ b. cond b (Some s.moment.at) rest) (both (bytes_cmp t.task s.moment.task) (cell_cmp t.cell x) ∙ ap (λ b. is_by t.task s && b) (same-tie t.cell x)))
+    ∙ twice (same_cell t.cell x) (list_any (same_cell t.cell) xs) (is_by t.task s) (Some s.moment.at) rest
 
 pub point_known : (t : Touched) (run : Run) → lookup (is_at (touched_cmp t)) (points_of run) ≡ option_map number (find (is_point t) run)
 point_known t [] = refl
 point_known t (s ∷ run) =
-    at_points t s (points s) (points_of run) ∙ ap (cond (is_point t s) (Some s.place.at)) (point_known t run)
+    at_points t s (points s) (points_of run) ∙ ap (cond (is_point t s) (Some s.moment.at)) (point_known t run)
     ∙ map-cond number (is_point t s) s (find (is_point t) run)
 
 -- ---- Steps by their numbers
 abbrev pub IsThere : List Step → Step → Type 0
-IsThere steps s = slice_get steps s.place.at ≡ Some s
+IsThere steps s = slice_get steps s.moment.at ≡ Some s
 
 get_last : (xs zs : List Step) (s : Step) → slice_get (xs ++ s ∷ zs) (length xs) ≡ Some s
 get_last [] zs s = refl
@@ -119,17 +119,17 @@ module _ (steps : List Step) (t : Touched) where
   abbrev newest_of : List (Bytes × List ℕ) → Option ℕ
   newest_of m = find (covers_at steps t.cell) (reverse (numbers_at t.task m))
 
-  put_known : (s : Step) (m : List (Bytes × List ℕ)) → IsThere steps s → newest_of (put_span s m) ≡ cond (is_wide t s) (Some s.place.at) (newest_of m)
+  put_known : (s : Step) (m : List (Bytes × List ℕ)) → IsThere steps s → newest_of (put_span s m) ≡ cond (is_wide t s) (Some s.moment.at) (newest_of m)
   put_known s m is =
-      elim (is_span s.act) as (λ b. newest_of (if b then insert_entry bytes_cmp m s.place.task (numbers_at s.place.task m ++ s.place.at ∷ []) else m) ≡ cond (is_by t.task s && (b && looks_at s t.cell)) (Some s.place.at) (newest_of m)) [
-        | true ↦ newest_put bytes_cmp nat_list_cmp_total (covers_at steps t.cell) t.task s.place.at m s.place.task ∙ ap (λ (o : Option Step). cond (is_by t.task s && covering t.cell o) (Some s.place.at) (newest_of m)) is
-        | false ↦ sym (ap (λ b. cond b (Some s.place.at) (newest_of m)) (none_in (is_by t.task s) (looks_at s t.cell)))
+      elim (is_span s.act) as (λ b. newest_of (if b then insert_entry bytes_cmp m s.moment.task (numbers_at s.moment.task m ++ s.moment.at ∷ []) else m) ≡ cond (is_by t.task s && (b && looks_at s t.cell)) (Some s.moment.at) (newest_of m)) [
+        | true ↦ newest_put bytes_cmp nat_list_cmp_total (covers_at steps t.cell) t.task s.moment.at m s.moment.task ∙ ap (λ (o : Option Step). cond (is_by t.task s && covering t.cell o) (Some s.moment.at) (newest_of m)) is
+        | false ↦ sym (ap (λ b. cond b (Some s.moment.at) (newest_of m)) (none_in (is_by t.task s) (looks_at s t.cell)))
       ]
 
   pub span_known : (run : Run) → AllByRecursion (IsThere steps) run → newest_of (spans_of run) ≡ option_map number (find (is_wide t) run)
   span_known [] all = refl
   span_known (s ∷ run) all =
-      put_known s (spans_of run) all.0 ∙ ap (cond (is_wide t s) (Some s.place.at)) (span_known run all.1)
+      put_known s (spans_of run) all.0 ∙ ap (cond (is_wide t s) (Some s.moment.at)) (span_known run all.1)
       ∙ map-cond number (is_wide t s) s (find (is_wide t) run)
 
 -- ---- The later of both
@@ -167,9 +167,9 @@ newer_known p q (s ∷ run) n = by (p s) (q s) (newer_known p q run n.1)
   where
     by : (a b : Bool) → newer (option_map number (find p run)) (option_map number (find q run)) ≡ option_map number (find (λ s. p s || q s) run)
         → newer (option_map number (cond a (Some s) (find p run))) (option_map number (cond b (Some s) (find q run))) ≡ option_map number (cond (a || b) (Some s) (find (λ s. p s || q s) run))
-    by true true e = newer_same s.place.at
-    by true false e = newer_left s.place.at (length run) (option_map number (find q run)) n.0 (below q run n.1)
-    by false true e = newer_right s.place.at (length run) (option_map number (find p run)) n.0 (below p run n.1)
+    by true true e = newer_same s.moment.at
+    by true false e = newer_left s.moment.at (length run) (option_map number (find q run)) n.0 (below q run n.1)
+    by false true e = newer_right s.moment.at (length run) (option_map number (find p run)) n.0 (below p run n.1)
     by false false e = e
 
 -- ---- A step at a cell names it, or is a look at several keys

@@ -13,9 +13,9 @@ use Rattle.cics_run.specs.Stage.Printed.{watched_on}
 use Rattle.cics_run.specs.Reads.Watched.{Watched}
 use Rattle.cics_run.specs.Session.Running.{Form, Played, has_fault, next, stepped, play, start, journal_of, journal, output, whole, is_faulty}
 use Rattle.cics_run.specs.Session.Printing.{IsFront}
-use Rattle.cics_run.specs.Told.Remarks.{remarked}
+use Rattle.cics_run.specs.Messages.Remarks.{remarked}
 use Rattle.cics_run.specs.declared.stage.notices.Scope.{Scope}
-use Rattle.cics_run.specs.declared.told.remarks.Remarks.{Remarks}
+use Rattle.cics_run.specs.declared.messages.remarks.Remarks.{Remarks}
 
 -- what isn't so is false
 pub not-true : (b : Bool) → not b ≡ true → b ≡ false

@@ -7,7 +7,7 @@ use Rattle.std.specs.List.{fold}
 use Rattle.std.specs.Prelude.{Result, Ok, Err, option_map}
 use Rattle.std.specs.Io.KnownBytes.{Appends, Consumes, IsAtEnd}
 use Rattle.std.specs.Io.BufRead.{strip_last}
-use Rattle.cics_run.specs.declared.told.remarks.Remarks.{Remarks}
+use Rattle.cics_run.specs.declared.messages.remarks.Remarks.{Remarks}
 use Rattle.cics_run.specs.Session.Lines.{Pieces, pieces, with_first, completed}
 use Rattle.cics_run.specs.Session.Running.{Form, Played, has_fault, initially_watched, next, start, journal, is_stopped, Answers, ReadsOn, RunsOver}
 use Rattle.cics_run.specs.Session.Printing.{AppendsFront, Prints}
@@ -18,7 +18,7 @@ use Rattle.cics_run.specs.declared.session.writing.Stop.TheVariants as stops
 use Rattle.cics_run.specs.declared.session.running.Status.{Status}
 use Rattle.cics_run.specs.declared.session.running.Status.TheVariants as status
 use Rattle.cics_run.specs.declared.session.running.TheConstants.{MOST_SCRIPT_BYTES, CHUNK}
-use Rattle.cics_run.specs.Told.Remarks.{no_remarks}
+use Rattle.cics_run.specs.Messages.Remarks.{no_remarks}
 use Rattle.cics_run.specs.Reads.Watching.{watched_in}
 use Rattle.cics_run.specs.declared.reads.watching.Watcher.{Watcher}
 use Rattle.cics_run.specs.declared.session.session.Session.{Session}

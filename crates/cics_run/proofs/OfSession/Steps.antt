@@ -15,7 +15,7 @@ use Rattle.cics_run.specs.Session.Printing.{AppendsFront, Prints}
 use Rattle.cics_run.specs.Session.Running.{Form, has_fault, next, play, start, stepped, journal_of, journal}
 use Rattle.cics_run.specs.Session.Standing.{next_step, next_text, ended_line, Ran, Stands, Keeps, HasTold, HasWatched, Stopped}
 use Rattle.cics_run.specs.Stage.Printed.{watched_by, watched_on}
-use Rattle.cics_run.specs.Told.Remarks.{remarked}
+use Rattle.cics_run.specs.Messages.Remarks.{remarked}
 use Rattle.cics_run.specs.declared.session.session.Session.{Session}
 use Rattle.cics_run.proofs.OfSession.Printing.{prints-prints, prints-all, prints-front, prints-part, front-longer}
 use Rattle.cics_run.proofs.OfSession.Playing.{pieces-lf, pieces-bytes, next-going, journal-stepped, told-stepped, watched-stepped, journal-front, fault-stays}

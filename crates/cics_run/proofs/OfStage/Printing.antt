@@ -7,8 +7,8 @@ use Rattle.cics_dispatch.specs.Machine.Events.{Happened}
 use Rattle.cics_run.specs.Stage.Amiss.{is_amiss, any_amiss}
 use Rattle.cics_run.specs.Stage.Journal.{event_line, fault_lines, text_of}
 use Rattle.cics_run.specs.Stage.Notices.{noted, with_notice, notices_of}
-use Rattle.cics_run.specs.Told.Remarks as remarks
-use Rattle.cics_run.specs.declared.told.remarks.Remarks.{Remarks}
+use Rattle.cics_run.specs.Messages.Remarks as remarks
+use Rattle.cics_run.specs.declared.messages.remarks.Remarks.{Remarks}
 use Rattle.cics_run.specs.declared.stage.notices.Notice.{Notice}
 use Rattle.cics_run.specs.declared.stage.stage.Stage.{Stage}
 use Rattle.cics_run.specs.Stage.Printed.{Printed, journal_sight, watched_on}

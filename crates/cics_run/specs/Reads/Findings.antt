@@ -17,12 +17,12 @@ use Rattle.cics_run.specs.Reads.Runs.{Run, is_open, is_undone, last, near}
 
 -- a look and a change that it saw
 abbrev pub seen : Step → Mark → Seen
-seen r c = record { pair = record { look = r.place; change = c.place }; lasts = c.lasts }
+seen r c = record { pair = record { look = r.moment; change = c.moment }; lasts = c.lasts }
 
 -- what a look saw at a cell whose last change this is: a change of another task
 abbrev pub of_another : Step → Option Mark → List Seen
 of_another r None = []
-of_another r (Some c) = if is_same r.place.task c.place.task then [] else seen r c ∷ []
+of_another r (Some c) = if is_same r.moment.task c.moment.task then [] else seen r c ∷ []
 
 -- what a look behind a run saw at a cell: the last change that stands, if another task made it
 abbrev pub seen_in : Run → Step → Cell → List Seen
@@ -65,14 +65,14 @@ dirty_reads (s ∷ run) = dirty_reads run ++ dirty_at run s
 -- what a change replaces at a cell, if its task's last step there is a look before the last change
 abbrev pub replaced : Step → Option Step → Option Mark → List Lost
 replaced d (Some r) (Some c) =
-    if is_view r.act && nat_lt r.place.at c.place.at
-    then record { missed = record { look = r.place; change = c.place }; by = d.place; lasts = is_lasting d.act } ∷ []
+    if is_view r.act && nat_lt r.moment.at c.moment.at
+    then record { missed = record { look = r.moment; change = c.moment }; by = d.moment; lasts = is_lasting d.act } ∷ []
     else []
 replaced d r c = []
 
 -- what a change behind a run replaces at a cell, without knowing of it
 abbrev pub replaced_at : Run → Step → Cell → List Lost
-replaced_at run d x = replaced d (near d.place.task x run) (option_map mark_of (last x run))
+replaced_at run d x = replaced d (near d.moment.task x run) (option_map mark_of (last x run))
 
 -- what it replaces so, in the order of its cells
 abbrev pub lost_at : Run → Step → List Lost

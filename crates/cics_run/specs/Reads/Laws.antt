@@ -10,8 +10,8 @@ use Rattle.cics_run.specs.Reads.Findings.{lost_at}
 -- cells is a look, then no change of the cell that stands came behind that look
 abbrev pub IsUpToDate : Run → Step → Type 0
 IsUpToDate run d =
-    (x : Cell) (r c : Step) → Contains (cells_of d) x → near d.place.task x run ≡ Some r → is_view r.act ≡ true →
-    last x run ≡ Some c → c.place.at ≤ r.place.at
+    (x : Cell) (r c : Step) → Contains (cells_of d) x → near d.moment.task x run ≡ Some r → is_view r.act ≡ true →
+    last x run ≡ Some c → c.moment.at ≤ r.moment.at
 
 -- a change without a lost update is up to date
 abbrev pub KnowsWhatItReplaces : Type 0

@@ -18,21 +18,21 @@ use Rattle.cics_run.specs.Reads.Runs.{Run, is_undone, fate_by}
 
 -- what is kept of a last step
 abbrev pub latest_of : Step → Latest
-latest_of s = record { at = s.place.at; turn = s.place.turn; fate = fate_by s.act }
+latest_of s = record { at = s.moment.at; turn = s.moment.turn; fate = fate_by s.act }
 
 -- what is kept of a change
 abbrev pub mark_of : Step → Mark
-mark_of s = record { place = s.place; lasts = is_lasting s.act }
+mark_of s = record { moment = s.moment; lasts = is_lasting s.act }
 
 -- the last step of each turn
 abbrev pub turns_of : Run → List (ℕ × Latest)
 turns_of [] = []
-turns_of (s ∷ run) = insert_entry nat_cmp (turns_of run) s.place.turn (latest_of s)
+turns_of (s ∷ run) = insert_entry nat_cmp (turns_of run) s.moment.turn (latest_of s)
 
 -- the last step of each task
 abbrev pub tasks_of : Run → List (Bytes × Latest)
 tasks_of [] = []
-tasks_of (s ∷ run) = insert_entry bytes_cmp (tasks_of run) s.place.task (latest_of s)
+tasks_of (s ∷ run) = insert_entry bytes_cmp (tasks_of run) s.moment.task (latest_of s)
 
 -- the order of cells
 abbrev pub cell_cmp : Cell → Cell → Ordering
@@ -56,7 +56,7 @@ marks_of (s ∷ run) = fold (put_mark (mark_of s)) (marks_of run) (cells_of s)
 
 -- whether a change stands
 abbrev pub is_standing : Run → Mark → Bool
-is_standing run m = m.lasts || not (is_undone m.place.turn run)
+is_standing run m = m.lasts || not (is_undone m.moment.turn run)
 
 -- the cells that were changed, in rising order
 abbrev pub cells : Run → List Cell

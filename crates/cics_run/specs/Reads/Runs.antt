@@ -9,7 +9,7 @@ use Rattle.cics_run.specs.declared.reads.steps.Act.{Act}
 use Rattle.cics_run.specs.declared.reads.steps.Act.TheVariants.{LookForUpdate, End}
 use Rattle.cics_run.specs.declared.reads.found.Fate.{Fate}
 use Rattle.cics_run.specs.declared.reads.found.Fate.TheVariants.{Committed, BackedOut, Open}
-use Rattle.cics_run.specs.declared.reads.steps.Place.{Place}
+use Rattle.cics_run.specs.declared.reads.steps.Moment.{Moment}
 use Rattle.cics_run.specs.declared.reads.steps.Step.{Step}
 use Rattle.cics_run.specs.Reads.Steps.{changes, touches, is_plain, is_lasting, is_ending, is_undoing}
 
@@ -24,11 +24,11 @@ fate_by act = Open
 
 -- whether a task did a step
 abbrev pub is_by : Bytes → Step → Bool
-is_by task s = is_same task s.place.task
+is_by task s = is_same task s.moment.task
 
 -- whether a step is of a turn
 abbrev pub is_in : ℕ → Step → Bool
-is_in turn s = s.place.turn == turn
+is_in turn s = s.moment.turn == turn
 
 -- the last step of a turn
 abbrev pub last_in : ℕ → Run → Option Step
@@ -58,7 +58,7 @@ fate_of turn run = if is_open turn run then Open else if is_undone turn run then
 
 -- whether a change stands: it lasts, or no backout of its turn came
 abbrev pub stands : Run → Step → Bool
-stands run c = is_lasting c.act || not (is_undone c.place.turn run)
+stands run c = is_lasting c.act || not (is_undone c.moment.turn run)
 
 -- the last change of a cell that stands
 abbrev pub last : Cell → Run → Option Step
@@ -71,7 +71,7 @@ near task x run = find (λ s. is_by task s && touches s x) run
 -- the turn behind a task's last step: the same one, or a new one behind an end
 abbrev pub turn_after : Option Step → ℕ → ℕ
 turn_after None count = count
-turn_after (Some s) count = if is_ending s.act then count else s.place.turn
+turn_after (Some s) count = if is_ending s.act then count else s.moment.turn
 
 -- the turn of a task's next step: by the number of steps before its first one
 abbrev pub next_turn : Bytes → Run → ℕ
@@ -88,10 +88,10 @@ is_no_step task (LookForUpdate f k) run = is_plain_look (near task (Record f k) 
 is_no_step task act run = false
 
 -- where a task's next step stands
-abbrev pub next_place : ℕ → Bytes → Run → Place
-next_place line task run = record { at = length run; line = line; task = task; turn = next_turn task run }
+abbrev pub next_moment : ℕ → Bytes → Run → Moment
+next_moment line task run = record { at = length run; line = line; task = task; turn = next_turn task run }
 
 -- the run with what a task did by a line
 abbrev pub with_step : Run → ℕ → Bytes → Act → Run
 with_step run line task act =
-    if is_no_step task act run then run else record { place = next_place line task run; act = act } ∷ run
+    if is_no_step task act run then run else record { moment = next_moment line task run; act = act } ∷ run

@@ -7,7 +7,7 @@ use Rattle.std.specs.declared.cmp.Ordering.{Ordering}
 use Rattle.std.specs.Ordering.{nat_cmp, ordering_then}
 use Rattle.cics_names.specs.Keyed.{Bytes, is_same}
 use Rattle.cics_run.specs.declared.reads.steps.Cell.{Cell}
-use Rattle.cics_run.specs.declared.reads.steps.Place.{Place}
+use Rattle.cics_run.specs.declared.reads.steps.Moment.{Moment}
 use Rattle.cics_run.specs.declared.reads.steps.Step.{Step}
 use Rattle.cics_run.specs.declared.reads.found.Pair.{Pair}
 use Rattle.cics_run.specs.declared.reads.found.Seen.{Seen}
@@ -23,7 +23,7 @@ use Rattle.cics_run.specs.Reads.Findings.{all_seen}
 -- where a step stands, 0 without one
 abbrev pub number_of : Option Step → ℕ
 number_of None = 0
-number_of (Some s) = s.place.at
+number_of (Some s) = s.moment.at
 
 -- how many steps there are from one to another one
 abbrev pub count_from : Run → ℕ → ℕ → ℕ
@@ -34,16 +34,16 @@ abbrev pub turn_of : Run → Bytes → ℕ → ℕ → Turn
 turn_of run task number last = record { task = task; number = number; last = last; count = count_from run number last }
 
 -- the turn of a step
-abbrev pub turn_at : Run → Place → Turn
+abbrev pub turn_at : Run → Moment → Turn
 turn_at run p = turn_of run p.task p.turn (number_of (last_in p.turn run))
 
 -- whether a step is the first one of its turn
 abbrev pub begins : Step → Bool
-begins s = s.place.turn == s.place.at
+begins s = s.moment.turn == s.moment.at
 
 -- the turns
 abbrev pub turns : Run → List Turn
-turns run = map (λ s. turn_at run s.place) (filter begins (reverse run))
+turns run = map (λ s. turn_at run s.moment) (filter begins (reverse run))
 
 -- whether a turn begins before the last step of another one
 abbrev pub begins_within : Turn → Turn → Bool
@@ -59,11 +59,11 @@ within run t = take t.count (drop t.number (reverse run))
 
 -- a look and a change
 abbrev pub pair : Step → Step → Pair
-pair r c = record { look = r.place; change = c.place }
+pair r c = record { look = r.moment; change = c.moment }
 
 -- whether a step is of a turn, and comes behind a look
 abbrev pub is_behind : Turn → Step → Step → Bool
-is_behind t r c = is_in t.number c && nat_lt r.place.at c.place.at
+is_behind t r c = is_in t.number c && nat_lt r.moment.at c.moment.at
 
 -- whether a turn has a change of a cell that stands
 abbrev pub is_changed_in : Run → Turn → Cell → Bool

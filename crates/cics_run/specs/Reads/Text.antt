@@ -3,7 +3,7 @@ use Rattle.std.specs.Prelude.{ℕ, Bool, true, false, not, ◌||◌, List, ◌++
 use Rattle.std.specs.Fmt.{decimal}
 use Rattle.std.specs.List.{filter, flat_map, list_any}
 use Rattle.cics_script.specs.Texts.{bare}
-use Rattle.cics_run.specs.declared.reads.steps.Place.{Place}
+use Rattle.cics_run.specs.declared.reads.steps.Moment.{Moment}
 use Rattle.cics_run.specs.declared.reads.found.Pair.{Pair}
 use Rattle.cics_run.specs.declared.reads.found.Fate.{Fate}
 use Rattle.cics_run.specs.declared.reads.found.Fate.TheVariants.{Committed, BackedOut, Open}
@@ -11,16 +11,16 @@ use Rattle.cics_run.specs.declared.reads.found.Finding.{Finding}
 use Rattle.cics_run.specs.declared.reads.found.Finding.TheVariants.{DirtyRead, LostUpdate, ReadSkew, WriteSkew}
 
 -- the line and the task of a step
-abbrev pub place_text : Place → List ℕ
-place_text p = codes "LINE " ++ (decimal p.line ++ (codes " " ++ bare p.task))
+abbrev pub moment_text : Moment → List ℕ
+moment_text p = codes "LINE " ++ (decimal p.line ++ (codes " " ++ bare p.task))
 
 -- a look and a change that it saw
 abbrev pub saw_text : Pair → List ℕ
-saw_text p = place_text p.look ++ (codes " SAW " ++ place_text p.change)
+saw_text p = moment_text p.look ++ (codes " SAW " ++ moment_text p.change)
 
 -- a look and a change that it missed
 abbrev pub missed_text : Pair → List ℕ
-missed_text p = place_text p.look ++ (codes " MISSED " ++ place_text p.change)
+missed_text p = moment_text p.look ++ (codes " MISSED " ++ moment_text p.change)
 
 -- how a turn ended
 abbrev pub fate_text : Fate → List ℕ
@@ -33,11 +33,11 @@ abbrev pub dirty_text : Pair → Fate → List ℕ
 dirty_text p fate = codes "DIRTY READ " ++ (saw_text p ++ fate_text fate)
 
 -- a step and the change that it replaced
-abbrev pub replaced_text : Pair → Place → List ℕ
-replaced_text p d = place_text d ++ (codes " REPLACED " ++ place_text p.change)
+abbrev pub replaced_text : Pair → Moment → List ℕ
+replaced_text p d = moment_text d ++ (codes " REPLACED " ++ moment_text p.change)
 
 -- a lost update
-abbrev pub lost_text : Pair → Place → List ℕ
+abbrev pub lost_text : Pair → Moment → List ℕ
 lost_text p d = codes "LOST UPDATE " ++ (missed_text p ++ (codes " AND " ++ replaced_text p d))
 
 -- what a turn missed and saw

@@ -9,7 +9,7 @@ use Rattle.std.specs.BTreeMap.{insert_entry, is_at}
 use Rattle.cics_names.specs.Keyed.{Bytes, bytes_cmp}
 use Rattle.cics_run.specs.declared.reads.steps.Act.{Act}
 use Rattle.cics_run.specs.declared.reads.steps.Cell.{Cell}
-use Rattle.cics_run.specs.declared.reads.steps.Place.{Place}
+use Rattle.cics_run.specs.declared.reads.steps.Moment.{Moment}
 use Rattle.cics_run.specs.declared.reads.steps.Step.{Step}
 use Rattle.cics_run.specs.declared.reads.past.Touched.{Touched}
 use Rattle.cics_run.specs.Reads.Steps.{cells_of, looks_at, is_view, single}
@@ -25,13 +25,13 @@ abbrev pub points : Step → List Cell
 points s = cells_of s ++ option_to_list (single s.act)
 
 -- what is kept of single cells, with a step at one more
-abbrev pub put_point : Place → List (Touched × ℕ) → Cell → List (Touched × ℕ)
+abbrev pub put_point : Moment → List (Touched × ℕ) → Cell → List (Touched × ℕ)
 put_point p m x = insert_entry touched_cmp m (record { task = p.task; cell = x }) p.at
 
 -- the number of each task's last step at each cell
 abbrev pub points_of : Run → List (Touched × ℕ)
 points_of [] = []
-points_of (s ∷ run) = fold (put_point s.place) (points_of run) (points s)
+points_of (s ∷ run) = fold (put_point s.moment) (points_of run) (points s)
 
 -- whether it is a look at several keys
 abbrev pub is_span : Act → Bool
@@ -47,7 +47,7 @@ put_number task n m = insert_entry bytes_cmp m task (numbers_at task m ++ n ∷ 
 
 -- the looks by task, with one more if it is at several keys
 abbrev pub put_span : Step → List (Bytes × List ℕ) → List (Bytes × List ℕ)
-put_span s m = if is_span s.act then put_number s.place.task s.place.at m else m
+put_span s m = if is_span s.act then put_number s.moment.task s.moment.at m else m
 
 -- the numbers of each task's looks at several keys, in order
 abbrev pub spans_of : Run → List (Bytes × List ℕ)
@@ -77,4 +77,4 @@ newer (Some a) (Some b) = Some (if nat_lt a b then b else a)
 -- each step has the number of steps before it
 abbrev pub IsNumbered : Run → Type 0
 IsNumbered [] = Unit {0}
-IsNumbered (s ∷ run) = (s.place.at ≡ length run) × IsNumbered run
+IsNumbered (s ∷ run) = (s.moment.at ≡ length run) × IsNumbered run

@@ -10,7 +10,7 @@ use Rattle.cics_run.specs.Stage.Printed.{watched_on}
 use Rattle.cics_run.specs.Stage.Stages.{step, Step, initial_stage, listing_at, replay_at}
 use Rattle.cics_run.specs.Session.Printing.{AppendsFront}
 use Rattle.cics_run.specs.Session.Streams.{Tells}
-use Rattle.cics_run.specs.Told.Remarks.{no_remarks, remarked}
+use Rattle.cics_run.specs.Messages.Remarks.{no_remarks, remarked}
 use Rattle.cics_run.specs.declared.session.running.TheConstants.{CHUNK}
 use Rattle.cics_run.specs.declared.stage.notices.Scope.{Scope}
 use Rattle.cics_run.specs.declared.stage.stage.Fault.{Fault}
@@ -20,7 +20,7 @@ use Rattle.cics_run.specs.declared.session.running.Status.TheVariants as status
 use Rattle.cics_run.specs.declared.session.running.RunFault.{RunFault}
 use Rattle.cics_run.specs.declared.session.running.RunFault.TheVariants as faults
 use Rattle.cics_run.specs.declared.session.running.Options.{Options}
-use Rattle.cics_run.specs.declared.told.remarks.Remarks.{Remarks}
+use Rattle.cics_run.specs.declared.messages.remarks.Remarks.{Remarks}
 
 -- The state after some lines: the stage, their number, the last of them, its fault, if any. It
 -- tells whether an event was amiss, and what was noted of reads, if that is wanted. The journal is

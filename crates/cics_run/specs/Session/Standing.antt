@@ -9,7 +9,7 @@ use Rattle.cics_run.specs.Stage.Stages.{step, Step, initial_stage, region_of}
 use Rattle.cics_run.specs.Stage.Printed.{watched_by, watched_on}
 use Rattle.cics_run.specs.Session.Running.{Form, Played, are_reads_amiss, play, has_fault, journal_of, journal, output, is_faulty}
 use Rattle.cics_run.specs.Session.Printing.{AppendsFront, Prints}
-use Rattle.cics_run.specs.Told.Remarks.{no_remarks, remarked}
+use Rattle.cics_run.specs.Messages.Remarks.{no_remarks, remarked}
 use Rattle.cics_run.specs.declared.session.running.RunFault.{RunFault}
 use Rattle.cics_run.specs.declared.session.running.RunFault.TheVariants as faults
 use Rattle.cics_run.specs.declared.session.writing.Stop.{Stop}

@@ -9,7 +9,7 @@ use Rattle.cics_run.specs.Reads.Watched.{Watched, watcher_sight}
 use Rattle.cics_run.specs.Reads.Watching.{watched_in}
 use Rattle.cics_run.specs.declared.stage.notices.Notice.{Notice}
 use Rattle.cics_run.specs.declared.stage.printing.Journal.{Journal}
-use Rattle.cics_run.specs.declared.told.remarks.Remarks.{Remarks}
+use Rattle.cics_run.specs.declared.messages.remarks.Remarks.{Remarks}
 
 -- The text, whether an event in it is amiss, and the notices on the last line's events. Also the
 -- remarks on the lines before, and the steps of the run, if they are wanted.

@@ -1,13 +1,13 @@
 //! What is found in a run.
 
-use crate::reads::steps::Place;
+use crate::reads::steps::Moment;
 use cics_names::Name8;
 
 /// A look, and a change that it saw or missed.
 #[derive(Clone, Copy)]
 pub struct Pair {
-    pub look: Place,
-    pub change: Place,
+    pub look: Moment,
+    pub change: Moment,
 }
 
 /// A look and a change that it saw.
@@ -22,7 +22,7 @@ pub struct Seen {
 #[derive(Clone, Copy)]
 pub struct Lost {
     pub missed: Pair,
-    pub by: Place,
+    pub by: Moment,
     /// Whether the change that replaced it lasts.
     pub lasts: bool,
 }
@@ -41,7 +41,7 @@ pub enum Finding {
     /// A look saw an open change, whose turn ended like this.
     DirtyRead(Pair, Fate),
     /// A look missed a change, and another change of the look's task replaced that.
-    LostUpdate(Pair, Place),
+    LostUpdate(Pair, Moment),
     /// A turn missed a change of another turn, and saw that one or another one of it.
     ReadSkew(Pair, Pair),
     /// Two turns each missed a change of the other one.

@@ -70,8 +70,8 @@ impl Reads {
             self.past = Some(past);
             return Ok(());
         }
-        let place = past.next_place(line, task);
-        let step = Step { place, act };
+        let moment = past.next_moment(line, task);
+        let step = Step { moment, act };
         self.effects.add(&past, &step)?;
         self.past = Some(past.with_step(step)?);
         Ok(())

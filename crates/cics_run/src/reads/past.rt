@@ -8,7 +8,7 @@ ghost use Rattle.std.specs.BTreeMap.{insert_entry};
 ghost use Rattle.std.specs.Ordering.{nat_cmp};
 ghost use Rattle.cics_names.specs.Keyed.{bytes_cmp};
 ghost use Rattle.cics_run.specs.Reads.Runs.{fate_by, fate_of, is_by, is_no_step, is_undone, last};
-ghost use Rattle.cics_run.specs.Reads.Runs.{last_in, near, next_place};
+ghost use Rattle.cics_run.specs.Reads.Runs.{last_in, near, next_moment};
 ghost use Rattle.cics_run.specs.Reads.Past.{latest_of, put_mark, mark_of, is_standing, cells};
 ghost use Rattle.cics_run.specs.Reads.Skews.{number_of};
 ghost use Rattle.cics_run.specs.Reads.Touches.{points, put_number, put_point, put_span, spans_of, numbers_at};
@@ -17,7 +17,7 @@ ghost use Rattle.cics_run.specs.Reads.Findings.{of_another, with_seen, seen_in};
 ghost use Rattle.cics_run.specs.Reads.Steps.{cells_of, looks_at, single, view_ends};
 
 use crate::reads::found::{Fate, Pair, Seen};
-use crate::reads::steps::{Act, Cell, Place, Step, is_same};
+use crate::reads::steps::{Act, Cell, Moment, Step, is_same};
 use cics_names::{Items, Name8, NoMemory};
 use std::alloc::Global;
 use std::collections::BTreeMap;
@@ -34,7 +34,7 @@ pub struct Latest {
 /// A change of a cell.
 #[derive(Clone, Copy)]
 pub struct Mark {
-    pub place: Place,
+    pub moment: Moment,
     /// Whether the change lasts.
     pub lasts: bool,
 }
@@ -130,12 +130,12 @@ fn put_number(
 
 impl Kept {
     // Adds a step at a cell.
-    fn put_point(&mut self, place: &Place, cell: Cell) -> Result<(), NoMemory>
+    fn put_point(&mut self, moment: &Moment, cell: Cell) -> Result<(), NoMemory>
         ensures { OnOk result (self.new ≡ record (self.old) { points = self.new.points }
-            × (self.new.points.entries ≡ put_point place.now self.old.points.entries cell)) }
+            × (self.new.points.entries ≡ put_point moment.now self.old.points.entries cell)) }
     {
-        let task = place.task;
-        self.points.insert(Touched { task, cell }, place.at)?;
+        let task = moment.task;
+        self.points.insert(Touched { task, cell }, moment.at)?;
         Ok(())
     }
 
@@ -144,13 +144,18 @@ impl Kept {
         ensures { OnOk result (self.new ≡ record (self.old) {
           points = self.new.points;
           spans = self.new.spans;
-        } × (self.new.points.entries ≡ fold (put_point look.now.place) self.old.points.entries (option_to_list (single look.now.act)))
+        } × (self.new.points.entries ≡ fold (put_point look.now.moment) self.old.points.entries (option_to_list (single look.now.act)))
             × (self.new.spans.entries ≡ put_span look.now self.old.spans.entries)) }
     {
         match look.act.single()? {
-            Some(cell) => self.put_point(&look.place, cell),
+            Some(cell) => self.put_point(&look.moment, cell),
             None if matches!(look.act, Act::Look(_)) => {
-                put_number(self.alloc, &mut self.spans, look.place.task, look.place.at)
+                put_number(
+                    self.alloc,
+                    &mut self.spans,
+                    look.moment.task,
+                    look.moment.at,
+                )
             }
             None => Ok(()),
         }
@@ -159,28 +164,28 @@ impl Kept {
     // Adds what is kept of a step.
     fn add(&mut self, step: &Step) -> Result<(), NoMemory>
         ensures turns { OnOk result (self.new.turns.entries ≡ insert_entry nat_cmp
-            self.old.turns.entries step.now.place.turn (latest_of step.now)) }
+            self.old.turns.entries step.now.moment.turn (latest_of step.now)) }
         ensures tasks { OnOk result (self.new.tasks.entries ≡ insert_entry bytes_cmp
-            self.old.tasks.entries step.now.place.task (latest_of step.now)) }
+            self.old.tasks.entries step.now.moment.task (latest_of step.now)) }
         ensures marks { OnOk result (self.new.marks.entries
             ≡ fold (put_mark (mark_of step.now)) self.old.marks.entries (cells_of step.now)) }
         ensures points { OnOk result (self.new.points.entries
-            ≡ fold (put_point step.now.place) self.old.points.entries (points step.now)) }
+            ≡ fold (put_point step.now.moment) self.old.points.entries (points step.now)) }
         ensures spans { OnOk result (self.new.spans.entries
             ≡ put_span step.now self.old.spans.entries) }
     {
-        let Place { at, turn, task, .. } = step.place;
+        let Moment { at, turn, task, .. } = step.moment;
         let fate = fate_by(&step.act);
         self.turns.insert(turn, Latest { at, turn, fate })?;
         self.tasks.insert(task, Latest { at, turn, fate })?;
         let alloc = self.alloc;
         let mark = Mark {
-            place: step.place,
+            moment: step.moment,
             lasts: step.act.lasts(),
         };
         for cell in step.act.cells() {
             put_mark(alloc, &mut self.marks, cell.copy()?, mark)?;
-            self.put_point(&step.place, cell.copy()?)?;
+            self.put_point(&step.moment, cell.copy()?)?;
         }
         self.add_look(step)
     }
@@ -196,13 +201,13 @@ fn keep_seen(
         (of_another look.now (option_copied change.entry))) }
 {
     match change {
-        Some(change) if !is_same(&look.place.task, &change.place.task) => {
+        Some(change) if !is_same(&look.moment.task, &change.moment.task) => {
             let pair = Pair {
-                look: look.place,
-                change: change.place,
+                look: look.moment,
+                change: change.moment,
             };
             let lasts = change.lasts;
-            found.insert(change.place.at, Seen { pair, lasts })?;
+            found.insert(change.moment.at, Seen { pair, lasts })?;
             Ok(())
         }
         _ => Ok(()),
@@ -318,7 +323,7 @@ impl Past {
         marks
             .iter()
             .rev()
-            .find(|mark| self.stands(mark.lasts, mark.place.turn))
+            .find(|mark| self.stands(mark.lasts, mark.moment.turn))
     }
 
     /// Returns the last change of a cell that stands.
@@ -400,15 +405,15 @@ impl Past {
     }
 
     /// Returns where a task's next step stands.
-    pub fn next_place(&self, line: u64, task: Name8) -> Place
-        ensures { result ≡ next_place line task self.now }
+    pub fn next_moment(&self, line: u64, task: Name8) -> Moment
+        ensures { result ≡ next_moment line task self.now }
     {
         let at = self.steps.len() as u64;
         let turn = match self.latest_by(&task) {
             Some(step) if step.fate == Fate::Open => step.turn,
             _ => at,
         };
-        Place {
+        Moment {
             at,
             line,
             task,
@@ -418,7 +423,7 @@ impl Past {
 
     /// Adds a step, whose number is how many there are.
     pub fn with_step(self, step: Step) -> Result<Past, NoMemory>
-        requires { step.place.at ≡ length self }
+        requires { step.moment.at ≡ length self }
         ensures { IfOk result (λ past. past ≡ step ∷ self) }
     {
         let Past {

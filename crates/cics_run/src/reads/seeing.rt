@@ -37,19 +37,19 @@ fn push_replaced(
     ensures { OnOk result (found.new ≡ found.old ++ replaced_at past.now change.now cell.now) }
 {
     let at = Touched {
-        task: change.place.task,
+        task: change.moment.task,
         cell: cell.copy()?,
     };
     match (past.near(&at), past.last(cell)) {
         (Some(look), Some(missed))
             if matches!(look.act, Act::Look(_) | Act::LookForUpdate(..))
-                && look.place.at < missed.place.at => {
+                && look.moment.at < missed.moment.at => {
             found.push(Lost {
                 missed: Pair {
-                    look: look.place,
-                    change: missed.place,
+                    look: look.moment,
+                    change: missed.moment,
                 },
-                by: change.place,
+                by: change.moment,
                 lasts: change.act.lasts(),
             })
         }

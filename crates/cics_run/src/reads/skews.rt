@@ -11,7 +11,7 @@ ghost use Rattle.cics_run.specs.Reads.Written.{in_order};
 use crate::reads::found::{Finding, Pair, Seen, Turn, Turns};
 use crate::reads::ordering::{push_all, put};
 use crate::reads::past::Past;
-use crate::reads::steps::{Cell, Place, Step, is_same};
+use crate::reads::steps::{Cell, Moment, Step, is_same};
 use cics_names::{Items, NoMemory};
 use std::collections::BTreeMap;
 
@@ -23,15 +23,15 @@ pub struct Sides {
 }
 
 // Returns the turn of a step.
-fn turn_at(past: &Past, place: &Place) -> Turn
-    ensures { result ≡ turn_at past.now place.now }
+fn turn_at(past: &Past, moment: &Moment) -> Turn
+    ensures { result ≡ turn_at past.now moment.now }
 {
-    let last = past.number_of(place.turn);
+    let last = past.number_of(moment.turn);
     Turn {
-        task: place.task,
-        number: place.turn,
+        task: moment.task,
+        number: moment.turn,
         last,
-        count: (past.steps().len() as u64).min(last.saturating_sub(place.turn)) + 1,
+        count: (past.steps().len() as u64).min(last.saturating_sub(moment.turn)) + 1,
     }
 }
 
@@ -41,8 +41,8 @@ fn turns(past: &Past) -> Result<Items<Turn>, NoMemory>
 {
     let mut found = Items::new(past.alloc());
     for step in past.steps() {
-        if step.place.turn == step.place.at {
-            found.push(turn_at(past, &step.place))?;
+        if step.moment.turn == step.moment.at {
+            found.push(turn_at(past, &step.moment))?;
         }
     }
     Ok(found)
@@ -74,9 +74,9 @@ fn is_changed_in(past: &Past, turn: &Turn, cell: &Cell) -> bool
     ensures { result ≡ is_changed_in past.now turn.now cell.now }
 {
     within(past, turn).iter().any(|change| {
-        change.place.turn == turn.number
+        change.moment.turn == turn.number
             && change.changes(cell)
-            && past.stands(change.act.lasts(), change.place.turn)
+            && past.stands(change.act.lasts(), change.moment.turn)
     })
 }
 
@@ -93,10 +93,10 @@ fn meets(past: &Past, turns: &Turns, look: &Step, change: &Step) -> bool
 fn missed(past: &Past, turns: &Turns, look: &Step, change: &Step) -> bool
     ensures { result ≡ missed past.now turns.now look.now change.now }
 {
-    change.place.turn == turns.writer.number
-        && look.place.at < change.place.at
+    change.moment.turn == turns.writer.number
+        && look.moment.at < change.moment.at
         && meets(past, turns, look, change)
-        && past.stands(change.act.lasts(), change.place.turn)
+        && past.stands(change.act.lasts(), change.moment.turn)
 }
 
 // Returns the first change of one turn that the other turn missed.
@@ -104,12 +104,12 @@ fn first_missed(past: &Past, turns: &Turns) -> Option<Pair>
     ensures { result ≡ first_missed past.now turns.now }
 {
     for look in within(past, &turns.reader) {
-        if look.place.turn == turns.reader.number {
+        if look.moment.turn == turns.reader.number {
             for change in within(past, &turns.writer) {
                 if missed(past, turns, look, change) {
                     return Some(Pair {
-                        look: look.place,
-                        change: change.place,
+                        look: look.moment,
+                        change: change.moment,
                     });
                 }
             }

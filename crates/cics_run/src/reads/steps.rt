@@ -55,10 +55,10 @@ pub enum Act {
     End { is_committed: bool },
 }
 
-/// Where a step stands: the number of steps before it, its line and its task, and its turn, by the
+/// When a step happened: the number of steps before it, its line and its task, and its turn, by the
 /// number of steps before the turn's first one.
 #[derive(Clone, Copy)]
-pub struct Place {
+pub struct Moment {
     pub at: u64,
     pub line: u64,
     pub task: Name8,
@@ -68,7 +68,7 @@ pub struct Place {
 /// A step of a run.
 #[derive(Drop)]
 pub struct Step {
-    pub place: Place,
+    pub moment: Moment,
     pub act: Act,
 }
 

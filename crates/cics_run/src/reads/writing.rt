@@ -1,7 +1,7 @@
 //! The lines on what is found.
 
 ghost use Rattle.std.specs.Prelude.{◌≡◌, ◌++◌, OnOk};
-ghost use Rattle.cics_run.specs.Reads.Text.{place_text, fate_text, finding_text};
+ghost use Rattle.cics_run.specs.Reads.Text.{moment_text, fate_text, finding_text};
 ghost use Rattle.cics_run.specs.Reads.Text.{is_amiss, is_any_amiss, findings_text};
 
 use crate::reads::found::{Fate, Finding, Pair};
@@ -11,7 +11,7 @@ use cics_script::spelling::{Part, push_parts, push_str};
 // Appends two steps, by their lines and tasks, each behind a text.
 fn push_steps(out: &mut Vec<u8>, head: &str, pair: &Pair, verb: &str) -> Result<(), NoMemory>
     ensures { OnOk result (out.new.items ≡ out.old.items ++ (head.now
-        ++ (place_text pair.now.look ++ (verb.now ++ place_text pair.now.change)))) }
+        ++ (moment_text pair.now.look ++ (verb.now ++ moment_text pair.now.change)))) }
 {
     let Pair { look, change } = pair;
     push_parts(

@@ -1,18 +1,18 @@
 //! The journal of a run, as it is printed.
 
 ghost use Rattle.std.specs.Prelude.{◌≡◌, ◌++◌, ◌||◌, [], false, OnOk, IfOk};
-ghost use Rattle.cics_run.specs.Told.Remarks.{no_remarks, remarked};
+ghost use Rattle.cics_run.specs.Messages.Remarks.{no_remarks, remarked};
 ghost use Rattle.cics_run.specs.Stage.Amiss.{any_amiss};
 ghost use Rattle.cics_run.specs.Stage.Journal.{text_of};
 ghost use Rattle.cics_run.specs.Stage.Printed.{printed_in, watched_by, watched_on};
 ghost use Rattle.cics_run.specs.Stage.Stages.{step, IsPlayed};
 
+use crate::messages::{Remarks, keep_alone};
 use crate::reads::Watcher;
 use crate::stage::amiss::is_amiss;
 use crate::stage::journal::{push_event, push_fault};
 use crate::stage::notices::{Notice, names_undefined, push_noted};
 use crate::stage::{Fault, Observer, Stage};
-use crate::told::{Remarks, keep_alone};
 use cics_dispatch::{Event, Region, Request};
 use cics_names::NoMemory;
 use std::alloc::Global;

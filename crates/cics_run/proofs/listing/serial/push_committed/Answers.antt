@@ -2,7 +2,7 @@ use Rattle.cics_names.specs.declared.commands.Verb.TheVariants.{Syncpoint}
 use Rattle.cics_run.specs.Listing.Serial.{committed_lines, unit_command_line, unit_lines}
 use Rattle.cics_run.specs.Listing.UnitLines.{lines_at}
 use Rattle.cics_script.proofs.OfSpelling.Each.{each-step}
-use Rattle.cics_run.proofs.OfTold.Put.{put-put}
+use Rattle.cics_run.proofs.OfMessages.Put.{put-put}
 use Rattle.cics_run.proofs.listing.serial.push_committed.Goals as goal
 
 pub loop-unit-preserved : goal.loop-unit-preserved

@@ -1,6 +1,6 @@
 use Rattle.std.proofs.Common.{append_assoc, refl}
 use Rattle.cics_run.specs.Listing.Serial.{option_with_value, bare_option, key_and_size_options, file_line}
-use Rattle.cics_run.proofs.OfTold.Put.{put-as}
+use Rattle.cics_run.proofs.OfMessages.Put.{put-as}
 use Rattle.cics_run.proofs.listing.serial.push_file_line.Goals as goal
 
 pub returns : goal.returns

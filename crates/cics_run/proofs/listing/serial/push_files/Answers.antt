@@ -2,7 +2,7 @@ use Rattle.std.proofs.Common.{codes}
 use Rattle.std.specs.List.{flat_map}
 use Rattle.cics_run.specs.Listing.Serial.{file_line, file_lines, load_line}
 use Rattle.cics_script.proofs.OfSpelling.Each.{each-step}
-use Rattle.cics_run.proofs.OfTold.Put.{put-put}
+use Rattle.cics_run.proofs.OfMessages.Put.{put-put}
 use Rattle.cics_run.proofs.listing.serial.push_files.Goals as goal
 
 pub loop-file-preserved : goal.loop-file-preserved

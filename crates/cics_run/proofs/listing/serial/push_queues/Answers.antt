@@ -2,7 +2,7 @@ use Rattle.std.proofs.Common.{codes}
 use Rattle.std.specs.List.{flat_map}
 use Rattle.cics_run.specs.Listing.Serial.{queue_line, queue_lines, load_line}
 use Rattle.cics_script.proofs.OfSpelling.Each.{each-step}
-use Rattle.cics_run.proofs.OfTold.Put.{put-put}
+use Rattle.cics_run.proofs.OfMessages.Put.{put-put}
 use Rattle.cics_run.proofs.listing.serial.push_queues.Goals as goal
 
 pub loop-queue-preserved : goal.loop-queue-preserved

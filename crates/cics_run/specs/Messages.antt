@@ -1,0 +1,12 @@
+pub mod Amiss
+pub mod Deadlocked
+pub mod Messages
+pub mod Waiting
+pub mod Parts
+pub mod Reasons
+pub mod Causes
+pub mod Nearest
+pub mod Instead
+pub mod Noted
+pub mod Remarks
+pub mod Findings
