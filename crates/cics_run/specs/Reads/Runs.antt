@@ -87,7 +87,7 @@ abbrev pub is_no_step : Bytes → Act → Run → Bool
 is_no_step task (LookForUpdate f k) run = is_plain_look (near task (Record f k) run)
 is_no_step task act run = false
 
--- where a task's next step stands
+-- the moment of a task's next step
 abbrev pub next_moment : ℕ → Bytes → Run → Moment
 next_moment line task run = record { at = length run; line = line; task = task; turn = next_turn task run }
 

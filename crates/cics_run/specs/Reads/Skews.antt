@@ -20,7 +20,7 @@ use Rattle.cics_run.specs.Reads.Steps.{looks_at, changes, cells_of}
 use Rattle.cics_run.specs.Reads.Runs.{Run, is_in, last_in, is_undone, stands}
 use Rattle.cics_run.specs.Reads.Findings.{all_seen}
 
--- where a step stands, 0 without one
+-- the number of a step, 0 without one
 abbrev pub number_of : Option Step → ℕ
 number_of None = 0
 number_of (Some s) = s.moment.at

@@ -1,7 +1,8 @@
 //! What is told of a condition that came up as a command was executed, and not by a check.
 
 ghost use Rattle.std.specs.Prelude.{◌≡◌, ◌++◌, OnOk};
-ghost use Rattle.cics_run.specs.Messages.Causes.{general_text, search_words, sought_text, absent_text};
+ghost use Rattle.cics_run.specs.Messages.Causes.{general_text, search_words};
+ghost use Rattle.cics_run.specs.Messages.Causes.{sought_text, absent_text};
 ghost use Rattle.cics_run.specs.Messages.Causes.{item_text, cause_text};
 
 use crate::messages::parts::{key_in, length_in, push_about, used_in};

@@ -1,7 +1,8 @@
 //! The lines on the deadlocks in which a run leaves its tasks.
 
 ghost use Rattle.std.specs.Prelude.{◌≡◌, ◌++◌, OnOk, codes};
-ghost use Rattle.cics_run.specs.Messages.Deadlocked.{keys_text, resource_text, wait_text, waits_text};
+ghost use Rattle.cics_run.specs.Messages.Deadlocked.{keys_text, resource_text};
+ghost use Rattle.cics_run.specs.Messages.Deadlocked.{wait_text, waits_text};
 ghost use Rattle.cics_run.specs.Messages.Deadlocked.{deadlock_line, deadlock_lines};
 
 use crate::messages::parts::first_bytes;

@@ -3,7 +3,8 @@
 ghost use Rattle.std.specs.Prelude.{◌≡◌, length};
 ghost use Rattle.cics_units.specs.Opening.RegionFiles.{opened_files};
 ghost use Rattle.cics_units.specs.Opening.RegionQueues.{opened_queues};
-ghost use Rattle.cics_run.specs.Messages.Nearest.{capital, capital_at, differences, is_near, near_at};
+ghost use Rattle.cics_run.specs.Messages.Nearest.{capital, capital_at, differences};
+ghost use Rattle.cics_run.specs.Messages.Nearest.{is_near, near_at};
 ghost use Rattle.cics_run.specs.Messages.Nearest.{or_next, first_near, first_near_label};
 ghost use Rattle.cics_run.specs.Messages.Nearest.{nearest_label};
 ghost use Rattle.cics_run.specs.Messages.Instead.{nearest_file, nearest_queue, same_queue};
@@ -114,7 +115,7 @@ fn first_near_file(opening: &Opening, places: usize, name: &Name8) -> Option<Nam
 /// name differs in one place.
 ///
 /// Cost: O(files).
-#[tactic(auto, unfolding(crate::specs::Told::Nearest::nearest_key))]
+#[tactic(auto, unfolding(crate::specs::Messages::Nearest::nearest_key))]
 pub fn nearest_file(opening: &Opening, name: &Name8) -> Option<Name8>
     ensures { result ≡ nearest_file opening.now name.now }
 {
@@ -151,7 +152,7 @@ pub fn same_queue(opening: &Opening, name: &[u8]) -> Option<Name4>
 /// else the first whose name differs in one place.
 ///
 /// Cost: O(queues).
-#[tactic(auto, unfolding(crate::specs::Told::Nearest::nearest_key))]
+#[tactic(auto, unfolding(crate::specs::Messages::Nearest::nearest_key))]
 pub fn nearest_queue(opening: &Opening, name: &[u8]) -> Option<Name4>
     ensures { result ≡ nearest_queue opening.now name.now }
 {

@@ -2,7 +2,8 @@
 
 ghost use Rattle.std.specs.Prelude.{◌≡◌, ◌++◌, OnOk};
 ghost use Rattle.cics_run.specs.Messages.Parts.{key_in, from_in, length_in, used_in, key_length_in};
-ghost use Rattle.cics_run.specs.Messages.Parts.{number_or_none, first_bytes, about_text, bytes_word};
+ghost use Rattle.cics_run.specs.Messages.Parts.{number_or_none, first_bytes};
+ghost use Rattle.cics_run.specs.Messages.Parts.{about_text, bytes_word};
 ghost use Rattle.cics_script.specs.Texts.{bare};
 
 use cics_names::{NoMemory, Verb};

@@ -1,7 +1,8 @@
 //! What is told of the check that a command failed.
 
 ghost use Rattle.std.specs.Prelude.{◌≡◌, ◌++◌, OnOk, if◌then◌else◌};
-ghost use Rattle.cics_run.specs.Messages.Reasons.{key_in_from, plain_reason, state_reason, size_reason};
+ghost use Rattle.cics_run.specs.Messages.Reasons.{key_in_from, plain_reason};
+ghost use Rattle.cics_run.specs.Messages.Reasons.{state_reason, size_reason};
 ghost use Rattle.cics_run.specs.Messages.Reasons.{length_reason, record_reason, reason_text};
 ghost use Rattle.cics_dispatch.specs.declared.machine.reasons.Reason.TheVariants.{
   RecordTooShort,

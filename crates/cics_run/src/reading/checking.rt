@@ -8,7 +8,8 @@ ghost use Rattle.cics_script.specs.Lines.{line as line_of};
 ghost use Rattle.cics_run.specs.Messages.Remarks.{remark_lines};
 ghost use Rattle.cics_run.specs.Reading.Checks.{Checked, IsBehind, checked, count_line};
 ghost use Rattle.cics_run.specs.Stage.Stages.{IsPlayed};
-ghost use Rattle.cics_run.specs.Reading.Checks.{Checks, tried, IsTried, told_fault, told_notice, with_found};
+ghost use Rattle.cics_run.specs.Reading.Checks.{Checks, tried, IsTried};
+ghost use Rattle.cics_run.specs.Reading.Checks.{told_fault, told_notice, with_found};
 ghost use Rattle.cics_run.specs.Reading.Checks.{status_of, TellsBehind};
 
 use crate::messages::{Remarks, push_remarks, push_told};

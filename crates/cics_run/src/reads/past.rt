@@ -23,7 +23,7 @@ use std::alloc::Global;
 use std::collections::BTreeMap;
 use std::marker::Model;
 
-/// The last step of a turn or of a task: where it stands, its turn, and how it ended that.
+/// The last step of a turn or of a task: its number, its turn, and how it ended that.
 #[derive(Clone, Copy)]
 pub struct Latest {
     pub at: u64,
@@ -404,7 +404,7 @@ impl Past {
         Ok(found)
     }
 
-    /// Returns where a task's next step stands.
+    /// Returns the moment of a task's next step.
     pub fn next_moment(&self, line: u64, task: Name8) -> Moment
         ensures { result ≡ next_moment line task self.now }
     {

@@ -55,8 +55,8 @@ pub enum Act {
     End { is_committed: bool },
 }
 
-/// When a step happened: the number of steps before it, its line and its task, and its turn, by the
-/// number of steps before the turn's first one.
+/// When a step happened: its number, line and task, and the number of its turn's first step. Both
+/// numbers count the steps before.
 #[derive(Clone, Copy)]
 pub struct Moment {
     pub at: u64,

@@ -9,8 +9,8 @@ use crate::stage::Observer;
 use cics_dispatch::{Event, Region, Request};
 use cics_names::NoMemory;
 
-/// Shows a request of the line with this number to an observer, plays it, and drains the region. The
-/// observer sees each event too. It isn't inlined: a request whose address is taken is copied.
+/// Shows a request of the line with this number to an observer, plays it, and drains the region.
+/// The observer sees each event too. Never inlined: a request whose address is taken is copied.
 ///
 /// Errors: `NoMemory`.
 #[inline(never)]

@@ -138,8 +138,8 @@ impl Stage {
         }
     }
 
-    // Plays a request on the region, which then drains, and returns no fault. The observer sees the
-    // request and each event.
+    // Plays a request, drains the region, and returns `None`: a request has no fault. The observer
+    // sees the request and each event.
     #[inline(always)]
     fn play<O: Observer>(
         &mut self,
