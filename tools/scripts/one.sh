@@ -1,5 +1,5 @@
-# Makes one run of bin/test: PROGRAM ROOM NUMBER. $ROOM/came/NUMBER has what it printed, NUMBER.said
-# what it said, NUMBER.status its status.
+# Makes one run of bin/test, by `sh one.sh PROGRAM ROOM NUMBER`. ROOM/came/NUMBER has what it
+# printed, NUMBER.said what it said, NUMBER.status its status.
 program=$1
 room=$2
 number=$3

@@ -2,6 +2,9 @@
 # what a run printed, NUMBER.said what it said, NUMBER.status its status.
 
 accepted=0
+trying=
+trap 'end_try; rm -rf -- "$room"' EXIT
+trap 'exit 130' INT TERM HUP
 mkdir -p "$room/came"
 
 # Makes each run by the program that was taken, as many side by side as there are processors. The
@@ -40,22 +43,31 @@ begin_try() {
     mkdir "$room/try" "$room/endless"
     endless > "$room/endless/1"
     echo --orders > "$room/endless/1.args"
-    (cd -- "$root/crates/cicsrun" && TMPDIR=$room/try exec rt try --steps 1 --seconds 5 \
+    (cd -- "$root/crates/cicsrun" && TMPDIR=$room/try exec rt try --steps 1 --seconds 60 \
         --cases "$room/endless") > /dev/null 2> "$room/reported" &
     trying=$!
 }
 
-# Takes that program. It is whole when its run has a file for what it prints.
+# Ends rt try, and what it runs, if it runs.
+end_try() {
+    [ -n "$trying" ] || return 0
+    kill "$trying" 2> /dev/null
+    wait "$trying"
+    trying=
+}
+
+# Takes the program that begin_try compiles. It is whole when its run has a file for what it prints.
 take_tried() {
     until begun=$(find "$room/try" -name stdout) && [ -n "$begun" ]; do
         kill -0 "$trying" 2> /dev/null || {
             tail -n 20 "$room/reported" >&2
             stop 'rt try gave no program, and says why above'
         }
-        sleep 0.2
+        sleep 1
     done
     program=$room/tried
     cp -- "${begun%stdout}program" "$program" || stop 'the program of rt try was not copied'
+    end_try
 }
 
 # Prints a file, with LF at its end.
