@@ -7,7 +7,7 @@ use Rattle.cics_names.specs.Keyed.{Bytes, Map, with_value, without}
 use Rattle.cics_names.specs.declared.conditions.Condition.{Condition}
 use Rattle.cics_names.specs.declared.conditions.Condition.TheVariants.{Normal, Notfnd, Invreq, Endfile}
 use Rattle.cics_browse.specs.declared.browses.Browsed.{Browsed}
-use Rattle.cics_browse.specs.declared.browses.Place.TheVariants.{Forward}
+use Rattle.cics_browse.specs.declared.browses.Move.TheVariants.{Forward}
 use Rattle.cics_browse.specs.Positions.{Position, finds_start, start_at, read_next, after_next, read_prev, after_prev, reset_condition, after_reset}
 
 -- a text in EBCDIC
@@ -57,7 +57,7 @@ row_back : (read_prev letters from_high ≡ given zero zero) × (read_prev lette
 row_back = (refl, refl, refl, refl)
 
 -- ENDFILE leaves the position, so a change of direction gives the last record again
-row_endfile : (at_last ≡ record { key = zero; place = Forward; generic = false }) × (after_next letters at_last ≡ at_last) × (read_prev letters (after_next letters at_last) ≡ given zero zero)
+row_endfile : (at_last ≡ record { key = zero; last_move = Forward; generic = false }) × (after_next letters at_last ≡ at_last) × (read_prev letters (after_next letters at_last) ≡ given zero zero)
 row_endfile = (refl, refl, refl)
 
 -- ---- accounts

@@ -9,28 +9,28 @@ use cics_ksds::{FileDef, Ordered};
 use cics_names::{Condition, NoMemory, Record, stamp_flag, stamp_number, stamp_text};
 use std::marker::Model;
 
-/// What the key of a position is.
+/// What a browse did last, by which it came to its key.
 #[derive(Clone, Copy, PartialEq, Eq)]
-pub enum Place {
-    /// The key that STARTBR or RESETBR asked for.
+pub enum Move {
+    /// STARTBR or RESETBR asked for it.
     Start,
-    /// The key last read, by READNEXT.
+    /// READNEXT read it last.
     Forward,
-    /// The key last read, by READPREV.
+    /// READPREV read it last.
     Back,
 }
 
-impl Place {
-    ghost use Rattle.cics_browse.specs.Stamps.{place_number};
+impl Move {
+    ghost use Rattle.cics_browse.specs.Stamps.{move_number};
 
     // Returns the number that its stamp has.
     fn number(self) -> u64
-        ensures { result ≡ place_number self }
+        ensures { result ≡ move_number self }
     {
         match self {
-            Place::Start => 0,
-            Place::Forward => 1,
-            Place::Back => 2,
+            Move::Start => 0,
+            Move::Forward => 1,
+            Move::Back => 2,
         }
     }
 }
@@ -55,7 +55,7 @@ pub struct Browsed {
 #[derive(Drop)]
 pub struct Browse {
     key: Record,
-    place: Place,
+    last_move: Move,
     generic: bool,
 }
 
@@ -64,7 +64,7 @@ impl Model for Browse {
 
     ghost Value = { Position };
 
-    ghost view = { λ b. record { key = b.key; place = b.place; generic = b.generic } };
+    ghost view = { λ b. record { key = b.key; last_move = b.last_move; generic = b.generic } };
 }
 
 /// Returns an answer without a record.
@@ -103,7 +103,7 @@ impl Browse {
         if finds(file, key.bytes(), generic, equal) {
             Some(Browse {
                 key,
-                place: Place::Start,
+                last_move: Move::Start,
                 generic,
             })
         } else {
@@ -125,11 +125,11 @@ impl Browse {
         self.key.bytes()
     }
 
-    /// Returns what the key of its position is.
-    pub fn place(&self) -> Place
-        ensures { result ≡ self.now.place }
+    /// Returns what it did last.
+    pub fn last_move(&self) -> Move
+        ensures { result ≡ self.now.last_move }
     {
-        self.place
+        self.last_move
     }
 
     /// Appends the stamp of its position.
@@ -139,7 +139,7 @@ impl Browse {
         ensures { OnOk result (out.new.items ≡ out.old.items ++ position_stamp self.now) }
     {
         stamp_text(out, self.key.bytes())?;
-        stamp_number(out, self.place.number())?;
+        stamp_number(out, self.last_move.number())?;
         stamp_flag(out, self.generic)
     }
 
@@ -160,7 +160,7 @@ impl Browse {
             return Condition::Notfnd;
         }
         self.key = key;
-        self.place = Place::Start;
+        self.last_move = Move::Start;
         self.generic = generic;
         Condition::Normal
     }
@@ -176,8 +176,8 @@ impl Browse {
         ensures position { OnOk result (self.new ≡ after_next (F.file_records file.now) self.old) }
         ensures err { OnErr result (self.new ≡ self.old) }
     {
-        let found = file.first_from(self.key.bytes(), self.place == Place::Forward);
-        self.give(file.definition(), found, Place::Forward, Condition::Endfile)
+        let found = file.first_from(self.key.bytes(), self.last_move == Move::Forward);
+        self.give(file.definition(), found, Move::Forward, Condition::Endfile)
     }
 
     /// READPREV: reads the record of the greatest key that isn't above the position, or after a
@@ -198,9 +198,9 @@ impl Browse {
         if self.generic {
             return Ok(nothing(Condition::Invreq));
         }
-        let found = entry_before(file, self.key.bytes(), self.place);
-        let none = none_before(self.key.bytes(), self.place);
-        self.give(file.definition(), found, Place::Back, none)
+        let found = entry_before(file, self.key.bytes(), self.last_move);
+        let none = none_before(self.key.bytes(), self.last_move);
+        self.give(file.definition(), found, Move::Back, none)
     }
 
     /// Returns the record that was found and makes its key the position, or returns the condition.
@@ -208,14 +208,14 @@ impl Browse {
         &mut self,
         definition: FileDef,
         found: Option<&Record>,
-        place: Place,
+        last_move: Move,
         none: Condition,
     ) -> Result<Browsed, NoMemory>
         requires { IfSome found (λ r. IsTrue (fits_file definition r.now)) }
         ensures reply { IfOk result (λ reply. reply
             ≡ reply_of none (option_map (entry_of definition) (option_copied found.entry))) }
         ensures position { OnOk result (self.new
-            ≡ position_after self.old place (option_map (entry_of definition)
+            ≡ position_after self.old last_move (option_map (entry_of definition)
             (option_copied found.entry))) }
         ensures err { OnErr result (self.new ≡ self.old) }
     {
@@ -229,7 +229,7 @@ impl Browse {
         let key = from.part(offset, count)?;
         let position = key.copy()?;
         self.key = position;
-        self.place = place;
+        self.last_move = last_move;
         Ok(Browsed {
             condition: Condition::Normal,
             key: Some(key),
@@ -264,15 +264,15 @@ fn finds<F: Ordered>(file: &F, key: &[u8], generic: bool, equal: bool) -> bool
 }
 
 /// Returns the record that READPREV reads from a position that no generic key set.
-fn entry_before<'a, F: Ordered>(file: &'a F, key: &[u8], place: Place) -> Option<&'a Record>
-    ensures found { prev_entry_at (F.file_records file.now) key.now false place
+fn entry_before<'a, F: Ordered>(file: &'a F, key: &[u8], last_move: Move) -> Option<&'a Record>
+    ensures found { prev_entry_at (F.file_records file.now) key.now false last_move
         ≡ option_map (entry_of (F.file_definition file.now)) (option_copied result) }
     ensures fits { IfSome result (λ r. IsTrue (fits_file (F.file_definition file.now) r.now)) }
 {
-    match place {
-        Place::Forward => file.last_to(key, false),
-        Place::Back => file.last_to(key, true),
-        Place::Start => {
+    match last_move {
+        Move::Forward => file.last_to(key, false),
+        Move::Back => file.last_to(key, true),
+        Move::Start => {
             if is_all_high(key) {
                 file.last_to(key, false)
             } else {
@@ -298,10 +298,10 @@ fn own_entry<'a, F: Ordered>(file: &'a F, key: &[u8]) -> Option<&'a Record>
 
 /// Returns what READPREV is answered without a record. The key asked for must be there, but the
 /// file's end may be that of an empty file.
-fn none_before(key: &[u8], place: Place) -> Condition
-    ensures { result ≡ prev_none key.now false place }
+fn none_before(key: &[u8], last_move: Move) -> Condition
+    ensures { result ≡ prev_none key.now false last_move }
 {
-    if place == Place::Start && !is_all_high(key) {
+    if last_move == Move::Start && !is_all_high(key) {
         Condition::Notfnd
     } else {
         Condition::Endfile

@@ -3,4 +3,4 @@
 
 mod browses;
 
-pub use browses::{Browse, Browsed, Place};
+pub use browses::{Browse, Browsed, Move};

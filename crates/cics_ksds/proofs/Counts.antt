@@ -10,7 +10,7 @@ use Rattle.cics_ksds.specs.Files.{later}
 use Rattle.cics_ksds.specs.Slots.{keyed_slots, empty_slots, empty_in, empty_count, listed, last_record}
 use Rattle.cics_ksds.proofs.Bounds.{listed-append}
 
--- one slot in the stead of another
+-- one slot in place of another
 pub count_set : (slots : List Slot) (i : ℕ) (p old : Slot) → i < length slots → old ≡ get_or slots i old → empty_count (set slots i p) + empty_in old ≡ empty_count slots + empty_in p
 count_set [] i p old lt is = absurd (omega (arith, lt))
 count_set (x ∷ xs) zero p old lt is = omega (arith, ap empty_in is)

@@ -63,14 +63,14 @@ record_in (Empty _) = None
 -- the records in slots, by key
 abbrev pub filled_slots : Map Slot → Map Bytes
 filled_slots [] = []
-filled_slots ((key, Filled r) ∷ keyed_slots) = (key, r) ∷ filled_slots keyed_slots
-filled_slots ((key, Empty _) ∷ keyed_slots) = filled_slots keyed_slots
+filled_slots ((key, Filled r) ∷ rest) = (key, r) ∷ filled_slots rest
+filled_slots ((key, Empty _) ∷ rest) = filled_slots rest
 
 -- the keys of the empty slots
 abbrev pub empty_slots : Map Slot → List Bytes
 empty_slots [] = []
-empty_slots ((key, Filled _) ∷ keyed_slots) = empty_slots keyed_slots
-empty_slots ((key, Empty _) ∷ keyed_slots) = key ∷ empty_slots keyed_slots
+empty_slots ((key, Filled _) ∷ rest) = empty_slots rest
+empty_slots ((key, Empty _) ∷ rest) = key ∷ empty_slots rest
 
 -- what the slots show: the file's value
 abbrev pub value_of : FileDef → List Slot → FileValue
@@ -86,7 +86,7 @@ abbrev pub Shows : FileValue → Bytes → Slot → Type 0
 Shows f key (Filled r) = (value_at key f.records ≡ Some r) × (is_key_in key f.empties ≡ false)
 Shows f key (Empty _) = (value_at key f.records ≡ None) × (is_key_in key f.empties ≡ true)
 
--- it has no slot of the key
+-- a file has no slot of a key
 abbrev pub ShowsNothing : FileValue → Bytes → Type 0
 ShowsNothing f key = (value_at key f.records ≡ None) × (is_key_in key f.empties ≡ false)
 

@@ -2,7 +2,7 @@
 use Rattle.std.specs.Prelude.{◌≡◌, ℕ, ◌+◌, ◌-◌, ◌*◌, ◌<◌, ◌≤◌, List, [], ◌∷◌, length, take, drop}
 use Rattle.std.specs.List.{slice_index}
 use Rattle.cics_ksds.specs.declared.comparing.Numbers.{Numbers}
-use Rattle.cics_ksds.specs.declared.numbered.Mark.{Mark}
+use Rattle.cics_ksds.specs.declared.numbered.KeyHead.{KeyHead}
 
 -- the number that bytes are as digits of base 256, the highest first, behind those of a number
 abbrev pub number : ℕ → List ℕ → ℕ
@@ -27,5 +27,5 @@ pub record AreNumbers (key : List ℕ) (n : Numbers) : Type 0 where
   pub second_bytes : AreBytes 8 (drop (second_at key) key)
 
 -- if the key head has numbers, they are those of the key that lies in the bytes
-abbrev pub IsMarked : List ℕ → Mark → Type 0
-IsMarked bytes mark = 0 < mark.length → AreNumbers (take mark.length (drop mark.offset bytes)) mark.numbers
+abbrev pub IsHeadOf : List ℕ → KeyHead → Type 0
+IsHeadOf bytes head = 0 < head.length → AreNumbers (take head.length (drop head.offset bytes)) head.numbers

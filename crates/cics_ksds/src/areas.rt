@@ -7,7 +7,7 @@ ghost use Rattle.cics_ksds.specs.Slots.{interval_in};
 ghost use Rattle.cics_ksds.specs.Heads.{IsAreaHead};
 
 use crate::intervals::Interval;
-use crate::numbered::Mark;
+use crate::numbered::KeyHead;
 use crate::rooms::{insert_reserved, move_tail};
 use crate::slots::Slot;
 use cics_names::NoMemory;
@@ -26,7 +26,7 @@ pub(crate) const HALF: usize = 32;
 pub(crate) struct Area {
     intervals: Vec<Interval>,
     /// The key head of the first slot, by which an area is found without reading its intervals.
-    head: Mark,
+    head: KeyHead,
 }
 
 impl Model for Area {
@@ -63,7 +63,7 @@ impl Area {
     }
 
     /// Returns the key head of the first slot, if there is one. It is stored beside the intervals.
-    pub(crate) fn head(&self) -> Mark
+    pub(crate) fn head(&self) -> KeyHead
         ensures { IsAreaHead self.now result }
     {
         self.head
@@ -180,11 +180,11 @@ impl Area {
 }
 
 /// Returns the key head of the first slot of the first interval, or of none.
-fn head_of(intervals: &[Interval]) -> Mark
+fn head_of(intervals: &[Interval]) -> KeyHead
     ensures { IsAreaHead intervals.now result }
 {
     if intervals.is_empty() {
-        return Mark::none();
+        return KeyHead::none();
     }
     intervals[0].head()
 }

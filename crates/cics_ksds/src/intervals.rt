@@ -6,7 +6,7 @@ ghost use Rattle.std.specs.List.{insert, remove};
 ghost use Rattle.cics_ksds.specs.Slots.{listed};
 ghost use Rattle.cics_ksds.specs.Heads.{IsHead};
 
-use crate::numbered::Mark;
+use crate::numbered::KeyHead;
 use crate::rooms::{insert_reserved, move_tail};
 use crate::slots::Slot;
 use cics_names::NoMemory;
@@ -28,7 +28,7 @@ pub(crate) struct Interval {
     /// How many of the slots have a record.
     records: u64,
     /// The key head of the first slot, by which an interval is found without reading its slots.
-    head: Mark,
+    head: KeyHead,
 }
 
 impl Model for Interval {
@@ -57,7 +57,7 @@ impl Interval {
         Ok(Interval {
             slots: Vec::with_capacity(alloc, FULL)?,
             records: 0,
-            head: Mark::none(),
+            head: KeyHead::none(),
         })
     }
 
@@ -77,7 +77,7 @@ impl Interval {
     }
 
     /// Returns the key head of the first slot, if there is one. It is stored beside the slots.
-    pub(crate) fn head(&self) -> Mark
+    pub(crate) fn head(&self) -> KeyHead
         ensures { IsHead self.now result }
     {
         self.head
@@ -158,13 +158,13 @@ impl Interval {
 }
 
 /// Returns the key head of the first of the slots, or of none.
-fn head_of(slots: &[Slot]) -> Mark
+fn head_of(slots: &[Slot]) -> KeyHead
     ensures { IsHead slots.now result }
 {
     if slots.is_empty() {
-        return Mark::none();
+        return KeyHead::none();
     }
-    slots[0].mark()
+    slots[0].head()
 }
 
 /// Returns how many of the slots have a record.

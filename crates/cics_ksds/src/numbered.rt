@@ -1,7 +1,7 @@
 //! Records beside their key heads: the first bytes of their keys as numbers.
 
 ghost use Rattle.std.specs.Prelude.{◌≡◌, ◌<◌, IfOk, length};
-ghost use Rattle.cics_ksds.specs.Words.{AreNumbers, IsMarked};
+ghost use Rattle.cics_ksds.specs.Words.{AreNumbers, IsHeadOf};
 
 use crate::comparing::{Numbers, WORD};
 use cics_names::{NoMemory, Record};
@@ -10,7 +10,7 @@ use std::marker::Model;
 
 /// A key head: where a key lies in a record, and its first bytes as numbers.
 #[derive(Clone, Copy)]
-pub(crate) struct Mark {
+pub(crate) struct KeyHead {
     /// How many bytes of the record stand before the key.
     pub(crate) offset: u32,
     /// How many bytes the key has. It is 0 if there are no numbers of it.
@@ -23,12 +23,12 @@ pub(crate) struct Mark {
 /// no key of a record of up to 32,767 bytes.
 const FARTHEST: u64 = 32_767;
 
-impl Mark {
+impl KeyHead {
     /// Returns the key head of no key.
-    pub(crate) fn none() -> Mark
+    pub(crate) fn none() -> KeyHead
         ensures { result.length ≡ 0 }
     {
-        Mark {
+        KeyHead {
             offset: 0,
             length: 0,
             numbers: Numbers {
@@ -40,19 +40,19 @@ impl Mark {
 
     /// Returns the key head of the key of `length` bytes at `offset`. It has no numbers if that key
     /// is shorter than a number, or reaches out of the record.
-    fn of(bytes: &[u8], offset: u64, length: u64) -> Mark
-        ensures { IsMarked bytes.now result }
+    fn of(bytes: &[u8], offset: u64, length: u64) -> KeyHead
+        ensures { IsHeadOf bytes.now result }
     {
         if length < WORD as u64
             || length > FARTHEST
             || offset > FARTHEST
             || (bytes.len() as u64) < offset + length
         {
-            return Mark::none();
+            return KeyHead::none();
         }
         let start = offset as usize;
         let end = start + length as usize;
-        Mark {
+        KeyHead {
             offset: offset as u32,
             length: length as u32,
             numbers: Numbers::of(&bytes[start..end]),
@@ -68,18 +68,18 @@ impl Mark {
 pub(crate) struct Numbered {
     content: Record,
     /// Where the key lies in the record, and its numbers.
-    mark: Mark,
+    head: KeyHead,
 }
 
 impl Model for Numbered {
     ghost use Rattle.std.specs.Prelude.{ℕ, List};
-    ghost use Rattle.cics_ksds.specs.Words.{IsMarked};
+    ghost use Rattle.cics_ksds.specs.Words.{IsHeadOf};
 
     ghost Value = { List ℕ };
 
     ghost view = { λ n. n.content };
 
-    ghost invariant = { λ n. IsMarked n.content n.mark };
+    ghost invariant = { λ n. IsHeadOf n.content n.head };
 }
 
 impl Numbered {
@@ -87,8 +87,8 @@ impl Numbered {
     pub(crate) fn new(content: Record, offset: u64, length: u64) -> Numbered
         ensures { result ≡ content }
     {
-        let mark = Mark::of(content.bytes(), offset, length);
-        Numbered { content, mark }
+        let head = KeyHead::of(content.bytes(), offset, length);
+        Numbered { content, head }
     }
 
     /// Returns a record with the same bytes and key head. The only error is `NoMemory`.
@@ -97,7 +97,7 @@ impl Numbered {
     {
         Ok(Numbered {
             content: Record::from_slice(alloc, self.content.bytes())?,
-            mark: self.mark,
+            head: self.head,
         })
     }
 
@@ -123,21 +123,21 @@ impl Numbered {
     }
 
     /// Returns the key head of the key that lies in the record.
-    pub(crate) fn mark(&self) -> Mark
-        ensures { IsMarked self.now result }
+    pub(crate) fn head(&self) -> KeyHead
+        ensures { IsHeadOf self.now result }
     {
-        self.mark
+        self.head
     }
 
     /// Returns the key head of a key that is all there is, or of none.
-    pub(crate) fn whole_mark(&self) -> Mark
+    pub(crate) fn whole_head(&self) -> KeyHead
         ensures { 0 < result.length
             → (length self.now ≡ result.length) × AreNumbers self.now result.numbers }
     {
-        let mark = self.mark;
-        if mark.offset != 0 || mark.length as usize != self.content.len() {
-            return Mark::none();
+        let head = self.head;
+        if head.offset != 0 || head.length as usize != self.content.len() {
+            return KeyHead::none();
         }
-        mark
+        head
     }
 }

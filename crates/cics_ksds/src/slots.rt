@@ -8,8 +8,8 @@ ghost use Rattle.std.specs.Prelude.{IfOk, IfErr, IfSome, OnOk, OnErr};
 ghost use Rattle.std.specs.Option.{option_copied};
 ghost use Rattle.cics_names.specs.Keyed.{value_at, bytes_cmp};
 ghost use Rattle.cics_ksds.specs.Files.{dropped};
-ghost use Rattle.cics_ksds.specs.Heads.{IsSlotMark};
-ghost use Rattle.cics_ksds.specs.Slots.{IsSlot, AreSlots, IsAt, IsGapFor, Shows};
+ghost use Rattle.cics_ksds.specs.Heads.{IsSlotHead};
+ghost use Rattle.cics_ksds.specs.Slots.{IsSlot, AreSlots, IsAt, IsGapFor};
 ghost use Rattle.cics_ksds.specs.Slots.{slot_key, key_at, file_of, placed, slots_in};
 ghost use Rattle.cics_ksds.specs.Slots.{empty_in, listed, interval_in, interval_at, index_of};
 ghost use Rattle.cics_ksds.specs.Slots.{IsSpot, IsThere, IsSlotOf, IsGapAt, HasFirst};
@@ -21,7 +21,7 @@ use crate::areas::Area;
 use crate::comparing::{Numbers, WORD, order_of};
 use crate::dataset::Dataset;
 use crate::intervals::Interval;
-use crate::numbered::{Mark, Numbered};
+use crate::numbered::{KeyHead, Numbered};
 use cics_names::{NoMemory, Record};
 use std::alloc::Global;
 use std::cmp::Ordering;
@@ -63,12 +63,12 @@ impl Slot {
     }
 
     /// Returns the key head of the key.
-    pub(crate) fn mark(&self) -> Mark
-        ensures { IsSlotMark self.now result }
+    pub(crate) fn head(&self) -> KeyHead
+        ensures { IsSlotHead self.now result }
     {
         match self {
-            Slot::Filled(record) => record.mark(),
-            Slot::Empty(key) => key.whole_mark(),
+            Slot::Filled(record) => record.head(),
+            Slot::Empty(key) => key.whole_head(),
         }
     }
 
@@ -78,7 +78,7 @@ impl Slot {
         requires sought { IfSome sought (AreKeyNumbers definition key.now) }
         ensures { result ≡ bytes_cmp (slot_key definition self.now) key.now }
     {
-        match marked_order(self.mark(), definition, key, sought) {
+        match order_by_head(self.head(), definition, key, sought) {
             Some(order) => order,
             None => order_of(self.key(definition), key),
         }
@@ -146,23 +146,23 @@ fn numbers_of(definition: FileDef, key: &[u8]) -> Option<Numbers>
 }
 
 /// Compares a key with this head with one that is sought. None if the numbers don't tell.
-fn marked_order(
-    mark: Mark,
+fn order_by_head(
+    head: KeyHead,
     definition: FileDef,
     key: &[u8],
     sought: Option<Numbers>,
 ) -> Option<Ordering>
     requires { IfSome sought (AreKeyNumbers definition key.now) }
     ensures { IfSome result (λ order. (slot : Slot) → IsSlot definition slot
-        → IsSlotMark slot mark → order ≡ bytes_cmp (slot_key definition slot) key.now) }
+        → IsSlotHead slot head → order ≡ bytes_cmp (slot_key definition slot) key.now) }
 {
     let Some(sought) = sought else {
         return None;
     };
-    if mark.length as u64 != definition.key_length || mark.offset as u64 != definition.key_offset {
+    if head.length as u64 != definition.key_length || head.offset as u64 != definition.key_offset {
         return None;
     }
-    let order = mark.numbers.order(sought);
+    let order = head.numbers.order(sought);
     if key.len() > Numbers::BYTES && order.is_eq() {
         return None;
     }
@@ -206,7 +206,7 @@ fn first_order(
     requires sought { IfSome sought (AreKeyNumbers definition key.now) }
     ensures { result ≡ bytes_cmp (key_at definition interval.now 0) key.now }
 {
-    match marked_order(interval.head(), definition, key, sought) {
+    match order_by_head(interval.head(), definition, key, sought) {
         Some(order) => order,
         None => order_of(interval.slots()[0].key(definition), key),
     }
@@ -219,7 +219,7 @@ fn area_order(definition: FileDef, area: &Area, key: &[u8], sought: Option<Numbe
     requires sought { IfSome sought (AreKeyNumbers definition key.now) }
     ensures { result ≡ bytes_cmp (first_key_of definition area.now) key.now }
 {
-    match marked_order(area.head(), definition, key, sought) {
+    match order_by_head(area.head(), definition, key, sought) {
         Some(order) => order,
         None => order_of(area.intervals()[0].slots()[0].key(definition), key),
     }

@@ -9,8 +9,8 @@ use Rattle.cics_ksds.specs.declared.definition.FileDef.{FileDef}
 use Rattle.cics_ksds.specs.Files.{first_from, last_to}
 use Rattle.cics_ksds.specs.Prefixes.{has_prefix}
 use Rattle.cics_browse.specs.Positions.{Position, is_end, is_forward, finds_start}
-use Rattle.cics_browse.specs.declared.browses.Place.{Place}
-use Rattle.cics_browse.specs.declared.browses.Place.TheVariants.{Start, Forward, Back}
+use Rattle.cics_browse.specs.declared.browses.Move.{Move}
+use Rattle.cics_browse.specs.declared.browses.Move.TheVariants.{Start, Forward, Back}
 use Rattle.cics_history.specs.Execution.{item_asked}
 use Rattle.cics_dispatch.specs.Machine.Machine.{RegionValue, definition_of}
 use Rattle.cics_dispatch.specs.Machine.Blockers.{browse_of}
@@ -61,29 +61,29 @@ start_spot name d records key generic equal =
 -- READNEXT: from the position on, or after a READNEXT from behind it
 abbrev pub next_spot : Bytes → FileDef → Map Bytes → Position → Spot
 next_spot name d records p =
-    Keys name (bound p.key (not (is_forward p.place))) (In (reached d [] (first_key records p.key (is_forward p.place))))
+    Keys name (bound p.key (not (is_forward p.last_move))) (In (reached d [] (first_key records p.key (is_forward p.last_move))))
 
 -- whether the position is a key that READPREV read
-abbrev pub is_back : Place → Bool
+abbrev pub is_back : Move → Bool
 is_back Start = false
 is_back Forward = false
 is_back Back = true
 
 -- whether the position is a key that was asked for, and doesn't mean the end of the file
 abbrev pub is_asked : Position → Bool
-is_asked p = is_start p.place && not (is_end p.key p.generic) where
-  is_start : Place → Bool
+is_asked p = is_start p.last_move && not (is_end p.key p.generic) where
+  is_start : Move → Bool
   is_start Start = true
   is_start Forward = false
   is_start Back = false
 
 -- the least key that READPREV finds or could find. A key that was asked for is the only one
 abbrev pub lowest : Map Bytes → Position → Bytes
-lowest records p = if is_asked p then p.key else unwrap_or (last_key records p.key (is_back p.place)) []
+lowest records p = if is_asked p then p.key else unwrap_or (last_key records p.key (is_back p.last_move)) []
 
 -- READPREV: up to the position, or after a READPREV up to below it
 abbrev pub prev_spot : Bytes → Map Bytes → Position → Spot
-prev_spot name records p = Keys name (In (lowest records p)) (bound p.key (not (is_back p.place)))
+prev_spot name records p = Keys name (In (lowest records p)) (bound p.key (not (is_back p.last_move)))
 
 -- ---- Commands in a region, as it stands before them
 

@@ -10,7 +10,7 @@ ghost use Rattle.cics_run.specs.Reads.Looks.{read_spot, start_spot, next_spot, i
 ghost use Rattle.cics_run.specs.Reads.Looks.{lowest, prev_spot, spot_of};
 
 use crate::reads::steps::{Bound, Spot};
-use cics_browse::{Browse, Place};
+use cics_browse::{Browse, Move};
 use cics_dispatch::{Region, Verb};
 use cics_ksds::File;
 use cics_names::{Name8, NoMemory, Record};
@@ -102,7 +102,7 @@ impl Target<'_> {
         ensures { IfOk result (λ spot. spot ≡ Some (next_spot self.now.name
             self.now.file.now.definition self.now.file.now.records browse.now)) }
     {
-        let is_forward = matches!(browse.place(), Place::Forward);
+        let is_forward = matches!(browse.last_move(), Move::Forward);
         let key = Record::from_slice(self.alloc, browse.key())?;
         let found = self.first_key(browse.key(), is_forward);
         Ok(Some(Spot::Keys {
@@ -117,10 +117,10 @@ impl Target<'_> {
         ensures { IfOk result (λ key. key ≡ lowest self.now.file.now.records browse.now) }
     {
         let is_end = !browse.is_generic() && is_all_high(browse.key());
-        if matches!(browse.place(), Place::Start) && !is_end {
+        if matches!(browse.last_move(), Move::Start) && !is_end {
             return Record::from_slice(self.alloc, browse.key());
         }
-        let is_back = matches!(browse.place(), Place::Back);
+        let is_back = matches!(browse.last_move(), Move::Back);
         match self.file.last_to(browse.key(), is_back) {
             Some(record) => {
                 let key = self.file.definition().key_in(record.bytes());
@@ -135,7 +135,7 @@ impl Target<'_> {
         ensures { IfOk result (λ spot. spot
             ≡ Some (prev_spot self.now.name self.now.file.now.records browse.now)) }
     {
-        let is_back = matches!(browse.place(), Place::Back);
+        let is_back = matches!(browse.last_move(), Move::Back);
         let key = Record::from_slice(self.alloc, browse.key())?;
         Ok(Some(Spot::Keys {
             file: self.name,

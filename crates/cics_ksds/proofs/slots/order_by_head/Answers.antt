@@ -4,16 +4,16 @@ use Rattle.std.specs.declared.cmp.Ordering.TheVariants.{Equal}
 use Rattle.std.specs.Ordering.{is_eq}
 use Rattle.cics_names.specs.Keyed.{Bytes}
 use Rattle.cics_ksds.specs.declared.definition.FileDef.{FileDef}
-use Rattle.cics_ksds.specs.declared.numbered.Mark.{Mark}
+use Rattle.cics_ksds.specs.declared.numbered.KeyHead.{KeyHead}
 use Rattle.cics_ksds.specs.declared.slots.Slot.{Slot}
 use Rattle.cics_ksds.specs.declared.slots.Slot.TheVariants.{Filled, Empty}
 use Rattle.cics_ksds.specs.Files.{key_of, fits_file}
-use Rattle.cics_ksds.specs.Heads.{IsSlotMark}
+use Rattle.cics_ksds.specs.Heads.{IsSlotHead}
 use Rattle.cics_ksds.specs.Slots.{AreKeyNumbers, IsSlot, slot_key}
 use Rattle.cics_ksds.specs.Words.{AreNumbers}
 use Rattle.cics_ksds.proofs.Words.{by_numbers}
-use Rattle.cics_ksds.proofs.slots.marked_order.Goals as goal
-use Rattle.cics_ksds.proofs.slots.marked_order.Goals.{else-key-gt-BYTES-via-then-key-gt-BYTES+else-is_eq, else-key-gt-BYTES-via-else-key-gt-BYTES}
+use Rattle.cics_ksds.proofs.slots.order_by_head.Goals as goal
+use Rattle.cics_ksds.proofs.slots.order_by_head.Goals.{else-key-gt-BYTES-via-then-key-gt-BYTES+else-is_eq, else-key-gt-BYTES-via-else-key-gt-BYTES}
 
 -- the key of a record that fits has its whole length
 whole : (d : FileDef) (r : Bytes) → IsTrue (fits_file d r) → length (key_of d r) ≡ d.key_length
@@ -21,19 +21,19 @@ whole d r fits =
     let long : d.key_offset + d.key_length ≤ length r = grind arith in
     length-take-le d.key_length (drop d.key_offset r) (omega (arith, length-drop d.key_offset r))
 
--- the mark's numbers are those of the slot's key
-numbers : (d : FileDef) (mark : Mark) → mark.length ≡ d.key_length → mark.offset ≡ d.key_offset → 0 < mark.length → (slot : Slot) → IsSlot d slot → IsSlotMark slot mark
-    → AreKeyNumbers d (slot_key d slot) mark.numbers
-numbers d mark same at some (Filled r) fits marked = record {
+-- the head's numbers are those of the slot's key
+numbers : (d : FileDef) (head : KeyHead) → head.length ≡ d.key_length → head.offset ≡ d.key_offset → 0 < head.length → (slot : Slot) → IsSlot d slot → IsSlotHead slot head
+    → AreKeyNumbers d (slot_key d slot) head.numbers
+numbers d head same at some (Filled r) fits headed = record {
   whole = whole d r fits;
-  numbers = subst (λ (n : ℕ). AreNumbers (take n (drop d.key_offset r)) mark.numbers) same (subst (λ (n : ℕ). AreNumbers (take mark.length (drop n r)) mark.numbers) at (marked some));
+  numbers = subst (λ (n : ℕ). AreNumbers (take n (drop d.key_offset r)) head.numbers) same (subst (λ (n : ℕ). AreNumbers (take head.length (drop n r)) head.numbers) at (headed some));
 }
-numbers d mark same at some (Empty key) fits marked = record { whole = (marked some).0 ∙ same; numbers = (marked some).1 }
+numbers d head same at some (Empty key) fits headed = record { whole = (headed some).0 ∙ same; numbers = (headed some).1 }
 
 pub returns : goal.returns
-returns c = λ slot fits marked.
-    let own = numbers c.args.definition c.args.mark c.if-mark-definition.false c.if-mark-definition-2.false (omega (arith, c.if-mark-definition.false, sought.whole, sought.numbers.long)) slot fits marked in
-    by_numbers (slot_key c.args.definition slot) c.args.key.now c.args.mark.numbers c.in-Some.sought own.numbers sought.numbers (own.whole ∙ sym sought.whole)
+returns c = λ slot fits headed.
+    let own = numbers c.args.definition c.args.head c.if-head-definition.false c.if-head-definition-2.false (omega (arith, c.if-head-definition.false, sought.whole, sought.numbers.long)) slot fits headed in
+    by_numbers (slot_key c.args.definition slot) c.args.key.now c.args.head.numbers c.in-Some.sought own.numbers sought.numbers (own.whole ∙ sym sought.whole)
     c.order-order.result c.order-order.ensures (λ tie. omega (arith, few tie, own.whole, sought.whole))
   where
     sought : AreKeyNumbers c.args.definition c.args.key.now c.in-Some.sought
