@@ -5,7 +5,7 @@ use Rattle.cics_browse.specs.Positions.{Position}
 use Rattle.cics_browse.specs.declared.browses.Move.{Move}
 use Rattle.cics_browse.specs.declared.browses.Move.TheVariants.{Start, Forward, Back}
 
--- the number of a last move: 0 at the start, 1 after a read forward, 2 after a read back
+-- the number of a move: 0 at the start, 1 after a read forward, 2 after a read back
 abbrev pub move_number : Move → ℕ
 move_number Start = 0
 move_number Forward = 1

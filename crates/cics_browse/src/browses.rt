@@ -9,7 +9,7 @@ use cics_ksds::{FileDef, Ordered};
 use cics_names::{Condition, NoMemory, Record, stamp_flag, stamp_number, stamp_text};
 use std::marker::Model;
 
-/// What a browse did last, by which it came to its key.
+/// The last move of a browse: how it came to its key.
 #[derive(Clone, Copy, PartialEq, Eq)]
 pub enum Move {
     /// STARTBR or RESETBR asked for it.
@@ -125,7 +125,7 @@ impl Browse {
         self.key.bytes()
     }
 
-    /// Returns what it did last.
+    /// Returns how it came to its key. A read without a record doesn't change that.
     pub fn last_move(&self) -> Move
         ensures { result ≡ self.now.last_move }
     {
