@@ -27,13 +27,13 @@ ghost use Rattle.cics_dispatch.specs.Words.{key_of, answered, attached, busy_of}
 ghost use Rattle.cics_dispatch.specs.Words.{key_read, op_of, clock_set};
 ghost use Rattle.cics_dispatch.specs.Words.{file_recoverable, IsRegionKept};
 ghost use Rattle.cics_dispatch.specs.Words.{is_keeping, unit_of, IsStep, attach_may_want};
-ghost use Rattle.cics_dispatch.specs.Words.{file_named, OfTask, IsAwake, HasReady, MayPerform};
+ghost use Rattle.cics_dispatch.specs.Words.{file_named, OfTask, IsAwake, HasReady};
 ghost use Rattle.cics_dispatch.specs.Words.{KeepsRegion, IsStepOf, IsStepOrRefused, IsAttempt};
-ghost use Rattle.cics_dispatch.specs.Words.{going_on, waiting_for, whole, AreToldAlike, is_key};
+ghost use Rattle.cics_dispatch.specs.Words.{waiting_for, AreToldAlike, is_key};
 
 use crate::machine::{
     Attempt, Outcome, Reason, Refused, Reply, Tasks, UnitEnding, Waits, file_reason, plain_reply,
-    refill, reply_of_answer,
+    reply_of_answer,
 };
 use cics_history::UnitId;
 use cics_ksds::FileDef;
@@ -307,8 +307,10 @@ impl Dispatcher {
         }
     }
 
-    // Makes a command of the task at an index wait, last of all, for the open unit `holder`. Answers
-    // it QBUSY or ENQBUSY if it has NOSUSPEND. `op` is the updating command that it asks for.
+    // Makes a command of the task at an index wait, last of all, for the open unit `holder`. It
+    // answers the command QBUSY or ENQBUSY if that has NOSUSPEND. `op` is the command's updating
+    // command, if it has one.
+    #[cold]
     fn make_wait(
         &mut self,
         at: usize,
@@ -350,25 +352,6 @@ impl Dispatcher {
                 self.tasks.own_unit(at, unit);
                 let reply = reply_of_answer(answer, &command.verb);
                 Ok(Attempt::Told(self.answer(at, command.resp, reply)))
-            }
-        }
-    }
-
-    // Executes the updating command that was taken out of `command` of the task at an index. If it
-    // must wait, makes the command wait, with its key and FROM put back.
-    fn update(&mut self, at: usize, command: Command, op: Op) -> Result<Outcome, NoMemory>
-        requires within { at < length self.old.machine.tasks }
-        requires may { MayPerform self.old.machine at (whole command (Some op)).verb }
-        requires asked { OfTask self.old.machine.tasks at
-            (λ t. op_of self.old.machine t (whole command (Some op)).verb ≡ Some op) }
-        ensures step { IsStepOrRefused self.old at
-            (going_on self.old.machine (whole command (Some op)) (Some op)) result self.new }
-    {
-        match self.execute(at, &command, op)? {
-            Attempt::Told(outcome) => Ok(outcome),
-            Attempt::MustWait(holder, op) => {
-                let command = refill(self.alloc, command, &op)?;
-                self.make_wait(at, command, op, holder)
             }
         }
     }

@@ -3,7 +3,7 @@
 //! `cics_dispatch::machine` defines a region as a machine, and has the parts that it is made of.
 //! Each call of `Region` that changes it is one step. Read the modules in this order:
 //!
-//! - `regions`, `playing`: the public calls.
+//! - `regions`, with `regions::playing`: the public calls.
 //! - `dispatcher`: the state of a region, and the step of each command.
 #![tactic(auto)]
 
@@ -12,7 +12,6 @@ mod dispatcher;
 pub mod future;
 pub mod machine;
 pub mod notes;
-mod playing;
 mod regions;
 
 pub use crate::machine::{

@@ -6,17 +6,19 @@ ghost use Rattle.std.specs.Bool.{OnTrue};
 ghost use Rattle.std.specs.Option.{option_copied};
 ghost use Rattle.cics_dispatch.specs.declared.machine.outcomes.Refused.TheVariants.{RegionDown};
 ghost use Rattle.cics_dispatch.specs.Words.{is_live, HoldsCommitted, initial_region, region_stamp};
-ghost use Rattle.cics_dispatch.specs.Words.{reason_for, attached, issued, clock_set, woken};
+ghost use Rattle.cics_dispatch.specs.Words.{attached, issued, clock_set, woken};
 ghost use Rattle.cics_dispatch.specs.Words.{expired, IsAtRest, IsFirstToGoOn, IsFirstTooLate};
 ghost use Rattle.cics_dispatch.specs.Words.{without_tasks, IsStep, always, attach_may_want};
 ghost use Rattle.cics_dispatch.specs.Words.{may_want, IsHeadlineRegion, IsSerializableRegion};
 ghost use Rattle.cics_dispatch.specs.Words.{region_listing, replayed_listing, IsRegionStep};
-ghost use Rattle.cics_dispatch.specs.Words.{shut_down, goes_on, task_ended, unit_of, blocker_of};
+ghost use Rattle.cics_dispatch.specs.Words.{shut_down, task_ended, unit_of, blocker_of};
 ghost use Rattle.cics_dispatch.specs.Words.{blockers_of, label_at, number_of, HaveBlocker};
 ghost use Rattle.cics_dispatch.specs.Words.{waiting_command, browse_of};
 
+mod playing;
+
 use crate::dispatcher::Dispatcher;
-use crate::machine::{Expired, Outcome, Reason, Refused, Woken};
+use crate::machine::{Event, Expired, Outcome, Refused, Request, Woken};
 use crate::notes::Notes;
 use cics_browse::Browse;
 use cics_history::UnitId;
@@ -77,20 +79,6 @@ impl Model for Region {
         × IsRemembered r.dispatcher.machine r.notes r.is_settled r.is_in_time };
 }
 
-// Returns the unit of a command's task if the command may have released something of it. A command
-// releases nothing if its verb `keeps` what the unit owns and its task hasn't ended.
-fn giving_up(keeps: bool, outcome: &Outcome, unit: Option<UnitId>) -> Option<UnitId>
-    ensures { result ≡ (if keeps && goes_on outcome.now then None else unit) }
-{
-    if !keeps {
-        return unit;
-    }
-    match outcome {
-        Outcome::Replied(_) | Outcome::Waiting(_) => None,
-        Outcome::Abended(_, _) | Outcome::Ended => unit,
-    }
-}
-
 impl Region {
     /// Returns the region of an opening, without a task, its clock at 0. It copies the files and
     /// queues.
@@ -116,7 +104,7 @@ impl Region {
     ///
     /// - `headline`: each recoverable file and queue holds what a replay of the surviving commands
     ///   gives. In that replay each of them has its answer again.
-    /// - `serializable`: the committed units of work are serializable in the order of their commits.
+    /// - `serializable`: the committed units of work are serializable in their commits' order.
     pub fn promises(&self)
         ensures headline { IsHeadlineRegion self.now }
         ensures serializable { IsSerializableRegion self.now }
@@ -185,38 +173,12 @@ impl Region {
         ensures headline { IsHeadlineRegion self.new }
         ensures serializable { IsSerializableRegion self.new }
     {
-        let mut reason = None;
-        self.issue_told(label, command, &mut reason)
-    }
-
-    /// Issues a command as `issue` does. If a check of it fails, writes the first into `reason`.
-    pub(crate) fn issue_told(
-        &mut self,
-        label: Name8,
-        command: Command,
-        reason: &mut Option<Reason>,
-    ) -> Result<Outcome, Refused>
-        requires blank { reason.old ≡ None }
-        ensures step { IsRegionStep (may_want self.old.machine label command) self.old
-            (issued self.old.machine label command) result self.new }
-        ensures reason { IfOk result (λ _. reason.new
-            ≡ reason_for self.old.machine label command.verb) }
-        ensures headline { IsHeadlineRegion self.new }
-        ensures serializable { IsSerializableRegion self.new }
-    {
-        // First of all: after a shutdown a label is told nothing else, not even `NoTask`.
-        self.refuse_if_down()?;
-        let Some(at) = self.dispatcher.find(&label) else {
-            return Err(Refused::NoTask);
-        };
-        let unit = self.dispatcher.unit_at(at);
-        let keeps = self.dispatcher.is_keeping(&command.verb);
-        let outcome = self.dispatcher.issue(at, label, command, reason)?;
-        let was_blocker = self.notes.forget(giving_up(keeps, &outcome, unit));
-        let waits = self.dispatcher.is_waiting(&label);
-        // It stays so if the command released nothing that another waits for, and doesn't wait.
-        self.is_settled &= !was_blocker & !waits;
-        Ok(outcome)
+        match self.play(Request::Issue(label, command)) {
+            Ok(Event::Issued(_, outcome, _)) => Ok(outcome),
+            Ok(Event::Refused(_, refusal)) => Err(refusal),
+            Ok(_) => unreachable!(),
+            Err(NoMemory) => Err(Refused::NoMemory),
+        }
     }
 
     /// Returns true only if `wake` and `expire` would return `None`: no waiting command may resume,

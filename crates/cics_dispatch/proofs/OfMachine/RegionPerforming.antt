@@ -1,5 +1,5 @@
 -- The commands of the tasks of a region: what their checks tell, and what they answer.
-use Rattle.std.specs.Prelude.{◌≡◌, ℕ, ◌<◌, ◌≤◌, ◌&&◌, if◌then◌else◌, Bool, true, false, Option, Some, None, option_map, is_some, is_none, Result, Ok, Err, OnErr, IsErr, IsErrAnd, length, slice_get, take, [], ◌∷◌, refl}
+use Rattle.std.specs.Prelude.{◌≡◌, ℕ, ◌<◌, ◌≤◌, ◌&&◌, if◌then◌else◌, Bool, true, false, Option, Some, None, option_map, is_some, is_none, IfSome, IfNone, Result, Ok, Err, OnErr, IsErr, IsErrAnd, length, slice_get, take, [], ◌∷◌, refl}
 use Rattle.std.specs.Option.{option_copied}
 use Rattle.std.proofs.Common.{Bor, ◌∙◌, sym, ap, subst}
 use Rattle.std.proofs.lemmas.Bool.{false≢true}
@@ -7,6 +7,7 @@ use Rattle.cics_names.specs.Keyed.{Bytes, value_at}
 use Rattle.cics_dispatch.specs.declared.machine.reasons.Reason.{Reason}
 use Rattle.cics_browse.specs.Positions.{Position}
 use Rattle.cics_ksds.specs.declared.definition.FileDef.{FileDef}
+use Rattle.cics_history.specs.Records.{key_of}
 use Rattle.cics_history.specs.declared.ops.Op.{Op}
 use Rattle.cics_dispatch.specs.Machine.Machine.{Machine, Task, RegionValue, definition_of, task_at, is_waiting}
 use Rattle.cics_dispatch.specs.Machine.Reasons.{condition_of}
@@ -14,7 +15,7 @@ use Rattle.cics_dispatch.specs.Machine.Lengths.{first_reason, key_reason}
 use Rattle.cics_dispatch.specs.Machine.Checks.{file_reason, named_reason, defined_reason, browse_reason, back_reason, reason_of, fault_of, reason_by, reason_for, open_key}
 use Rattle.cics_names.specs.Commands.{file_named}
 use Rattle.cics_dispatch.specs.Machine.Steps.{Stepped, with_outcome, op_of, by_op, performed, checked, issue_refusal, refused_or, issued_by, issued}
-use Rattle.cics_dispatch.specs.Machine.Calls.{MayPerform, IsAwake, HasBrowse}
+use Rattle.cics_dispatch.specs.Machine.Calls.{OfTask, MayPerform, IsAwake, HasBrowse, IsStepOf, going_on}
 use Rattle.cics_dispatch.specs.Machine.Answers.{is_growing, passes_checks, may_want, IsStep}
 use Rattle.cics_names.specs.declared.commands.Command.{Command}
 use Rattle.cics_names.specs.declared.commands.Verb.{Verb}
@@ -90,14 +91,16 @@ pub record IsIssuedTo (m : Machine) (label : Bytes) (at : ℕ) (t : Task) (waits
   pub goes_on : t.has_ended ≡ false
   pub waiting : is_waiting m.waiting label ≡ waits
 
-pub issued_to : {old : RegionValue} (now : RegionValue) (label : Bytes) (at : ℕ) (t : Task) (waits : Bool) → old ≡ now → slice_get old.machine.tasks at ≡ task_at old.machine.tasks label →
+pub issued_to : {old : RegionValue} (now : RegionValue) (label : Bytes) (at : ℕ) (t : Task) (waits : Bool) → old ≡ now → slice_get now.machine.tasks at ≡ task_at now.machine.tasks label →
     slice_get old.machine.tasks at ≡ Some t → t.has_ended ≡ false → is_waiting old.machine.waiting label ≡ waits → IsIssuedTo now.machine label at t waits
-issued_to now label at t waits seen found there goes_on waiting = subst (λ v. IsIssuedTo v.machine label at t waits) seen (record {
-  of_label = sym found ∙ there;
-  there = there;
-  goes_on = goes_on;
-  waiting = waiting;
-})
+issued_to now label at t waits seen found there goes_on waiting =
+    let here = subst (λ v. slice_get v.machine.tasks at ≡ Some t) seen there in
+    record {
+      of_label = sym found ∙ here;
+      there = here;
+      goes_on = goes_on;
+      waiting = subst (λ v. is_waiting v.machine.waiting label ≡ waits) seen waiting;
+    }
 
 -- it is awake if it doesn't wait
 pub issued_awake : (m : Machine) (label : Bytes) (at : ℕ) (t : Task) → IsIssuedTo m label at t false → IsAwake m at
@@ -121,6 +124,39 @@ pub refused_memory : {X : Type 0} (wants : Bool) (old : RegionValue) (s : Steppe
     IsErr r × IsErrAnd r (λ e. e ≡ NoMemory) → wants ≡ true → new ≡ old → IsStep wants old s r new
 refused_memory wants old s (Ok x) new is may same = absurd (false≢true is.0)
 refused_memory wants old s (Err e) new is may same = subst (λ e. IsStep wants old s (Err e) new) (sym is.1) (may, same)
+
+-- ---- A command that is issued, and passes its checks
+
+-- its task may perform it
+pub record IsPassed (m : Machine) (label : Bytes) (c : Command) (at : ℕ) (t : Task) : Type 0 where
+  pub to : IsIssuedTo m label at t false
+  pub passes : reason_of m t c.verb ≡ None
+  pub may : MayPerform m at c.verb
+
+pub passed : (m : Machine) (label : Bytes) (c : Command) (at : ℕ) (t : Task) (reason : Option Reason) → IsIssuedTo m label at t false → OfTask m.tasks at (λ s. reason ≡ reason_of m s c.verb) →
+    IfNone reason (OfTask m.tasks at (λ s. IfSome (op_of m s c.verb) (λ o. length (key_of o) ≤ 255))) → reason ≡ None → IsPassed m label c at t
+passed m label c at t reason to told short none = record {
+  to = to;
+  passes = sym (told t to.there) ∙ none;
+  may = record {
+    awake = issued_awake m label at t to;
+    passed = λ s here. sym (told s here) ∙ none;
+    short = subst (λ r. IfNone r (OfTask m.tasks at (λ s. IfSome (op_of m s c.verb) (λ o. length (key_of o) ≤ 255)))) none short;
+  };
+}
+
+module _ (old : RegionValue) (label : Bytes) (c : Command) (at : ℕ) (t : Task) (p : IsPassed old.machine label c at t) where
+  -- the step that its performance makes is the event's
+  pub step_made : (o : Option Op) → op_of old.machine t c.verb ≡ o → (x : Outcome) (new : RegionValue) → IsStepOf old at (going_on old.machine c o) x new →
+      ((issued old.machine label c).outcome ≡ Ok x) × (new.machine ≡ (issued old.machine label c).machine)
+  step_made o asked x new step =
+      issued_told old.machine label c at t None x new.machine p.to p.passes (step.0 t p.to.there ∙ performed_by old.machine t c o asked)
+
+  -- and so is a refusal, if it takes memory
+  pub step_refused : (r : Result Outcome Refused) (new : RegionValue) → IsErr r × IsErrAnd r (λ e. e ≡ NoMemory) → is_growing c.verb ≡ true → new ≡ old →
+      IsStep (may_want old.machine label c) old (issued old.machine label c) r new
+  step_refused r new is grows same =
+      refused_memory (may_want old.machine label c) old (issued old.machine label c) r new is (wants_memory old.machine label c t p.to.of_label p.to.goes_on p.to.waiting p.passes grows) same
 
 -- ---- A command that updates nothing
 

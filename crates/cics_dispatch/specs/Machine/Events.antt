@@ -1,9 +1,10 @@
 -- The events of a region: what each request, and each turn of draining, leads to.
-use Rattle.std.specs.Prelude.{◌≡◌, ℕ, zero, suc, Bool, false, List, [], ◌∷◌, length, Option, Some, None, Result, Ok, Err}
+use Rattle.std.specs.Prelude.{◌≡◌, ◌&&◌, not, ℕ, zero, suc, Bool, false, List, [], ◌∷◌, length, Option, Some, None, Result, Ok, Err}
 use Rattle.cics_names.specs.Keyed.{Bytes}
 use Rattle.cics_names.specs.declared.commands.Command.{Command}
-use Rattle.cics_dispatch.specs.Machine.Machine.{Machine, Task, task_at}
+use Rattle.cics_dispatch.specs.Machine.Machine.{Machine, RegionValue, Task, task_at}
 use Rattle.cics_dispatch.specs.Machine.Checks.{reason_for}
+use Rattle.cics_dispatch.specs.Machine.Answers.{may_want, attach_may_want}
 use Rattle.cics_dispatch.specs.Machine.Steps.{Stepped, attached, issued}
 use Rattle.cics_dispatch.specs.Machine.Waking.{clock_set, woken, expired}
 use Rattle.cics_dispatch.specs.Machine.Shutdown.{unless_down, shut_down}
@@ -17,6 +18,7 @@ use Rattle.cics_dispatch.specs.declared.machine.outcomes.Outcome.{Outcome}
 use Rattle.cics_dispatch.specs.declared.machine.outcomes.Woken.{Woken}
 use Rattle.cics_dispatch.specs.declared.machine.outcomes.Expired.{Expired}
 use Rattle.cics_dispatch.specs.declared.machine.outcomes.Refused.{Refused}
+use Rattle.cics_dispatch.specs.declared.machine.outcomes.Refused.TheVariants.{NoMemory}
 
 -- an event, and the machine that it left
 pub record Happened : Type 0 where
@@ -46,6 +48,17 @@ played m (request.Clock seconds) = told_by m subject.Clock (λ _. event.ClockSet
 played m (request.Issue label command) =
     told_by m (subject.Task label) (issued_event m label command) (issued m label command)
 played m request.Shutdown = told_by m subject.Shutdown event.ShutDown (shut_down m)
+
+-- whether a request may take memory
+abbrev pub may_want_memory : Machine → Request → Bool
+may_want_memory m (request.Attach label transaction dtimout) = not m.is_down && attach_may_want m label
+may_want_memory m (request.Issue label command) = not m.is_down && may_want m label command
+may_want_memory m _ = false
+
+-- a refused event leaves the region as it was, and its refusal isn't NoMemory
+abbrev pub IsAsBeforeIfRefused : RegionValue → RegionValue → Event → Type 0
+IsAsBeforeIfRefused old new (event.Refused who e) = (e ≡ NoMemory → ⊥) × (new ≡ old)
+IsAsBeforeIfRefused old new _ = Unit {0}
 
 -- ---- Draining
 

@@ -5,18 +5,17 @@ ghost use Rattle.std.specs.Prelude.{IsTrue, IfOk, OnErr};
 ghost use Rattle.cics_names.specs.Commands.{file_named};
 ghost use Rattle.cics_dispatch.specs.Machine.Machine.{task_at};
 ghost use Rattle.cics_dispatch.specs.Machine.Checks.{reason_for};
-ghost use Rattle.cics_dispatch.specs.Machine.Steps.{op_of, code_of, performed, issued};
+ghost use Rattle.cics_dispatch.specs.Machine.Steps.{code_of, issued};
 ghost use Rattle.cics_dispatch.specs.Machine.Answers.{is_growing, may_want, IsStep};
-ghost use Rattle.cics_dispatch.specs.Machine.Calls.{OfTask, MayPerform, KeepsRegion};
+ghost use Rattle.cics_dispatch.specs.Machine.Calls.{MayPerform, KeepsRegion};
 ghost use Rattle.cics_dispatch.specs.Machine.Calls.{IsStepOrRefused, going_on, reads_or_unlocks};
-ghost use Rattle.cics_dispatch.specs.Machine.Emptied.{whole};
 
 use crate::dispatcher::Dispatcher;
 use crate::machine::{
-    BrowseStart, Direction, Outcome, Reason, Refused, UnitEnding, plain_reply, take, take_op,
+    Attempt, BrowseStart, Direction, Outcome, Reason, Refused, UnitEnding, plain_reply, refill,
+    take, take_op,
 };
 use cics_names::{AbendCode, Command, Condition, Name4, Name8, NoMemory, Verb};
-use cics_units::Op;
 
 // Returns the code of an ABEND: four question marks if it gives none.
 fn abend_code(code: Option<Name4>) -> AbendCode
@@ -32,21 +31,6 @@ fn abend_code(code: Option<Name4>) -> AbendCode
 }
 
 impl Dispatcher {
-    // Executes a command of the task at an index that asks for no updating command.
-    fn perform_other(&mut self, at: usize, command: Command) -> Result<Outcome, NoMemory>
-        requires within { at < length self.old.machine.tasks }
-        requires may { MayPerform self.old.machine at command.verb }
-        ensures step { IsStepOrRefused self.old at
-            (going_on self.old.machine command None) result self.new }
-        ensures growing { OnErr result (IsTrue (is_growing command.verb)) }
-    {
-        if command.verb.file().is_some() {
-            self.perform_on_file(at, command)
-        } else {
-            self.perform_on_no_file(at, command)
-        }
-    }
-
     // Executes a command of the task at an index that names a file and asks for no updating
     // command.
     #[inline(never)]
@@ -156,23 +140,6 @@ impl Dispatcher {
         }
     }
 
-    // Performs a command of the task at an index whose checks have passed. `op` is the updating
-    // command that it asks for, taken out of it by `take_op`.
-    fn perform(&mut self, at: usize, command: Command, op: Option<Op>) -> Result<Outcome, NoMemory>
-        requires within { at < length self.old.machine.tasks }
-        requires may { MayPerform self.old.machine at (whole command op).verb }
-        requires asked { OfTask self.old.machine.tasks at
-            (λ t. op ≡ op_of self.old.machine t (whole command op).verb) }
-        ensures step { IsStepOrRefused self.old at
-            (λ t. performed self.old.machine t (whole command op)) result self.new }
-        ensures growing { OnErr result (IsTrue (is_growing (whole command op).verb)) }
-    {
-        match op {
-            Some(op) => self.update(at, command, op),
-            None => self.perform_other(at, command),
-        }
-    }
-
     /// Issues a command of the task of a label, which is at an index: it is answered, or it
     /// waits, or its task ends. Writes `reason` if a check of the command fails.
     ///
@@ -182,7 +149,7 @@ impl Dispatcher {
         &mut self,
         at: usize,
         label: Name8,
-        command: Command,
+        mut command: Command,
         reason: &mut Option<Reason>,
     ) -> Result<Outcome, Refused>
         requires task { slice_get self.old.machine.tasks at ≡ task_at self.old.machine.tasks label }
@@ -201,15 +168,21 @@ impl Dispatcher {
             return Err(Refused::TaskWaiting);
         }
         let open_key = self.open_key(at, &command.verb);
-        match self.failed_check(at, &command.verb, open_key) {
-            Some(failed) => {
-                *reason = Some(failed);
-                Ok(self.answer(at, command.resp, plain_reply(failed.condition())))
+        if let Some(failed) = self.failed_check(at, &command.verb, open_key) {
+            *reason = Some(failed);
+            return Ok(self.answer(at, command.resp, plain_reply(failed.condition())));
+        }
+        let Some(op) = take_op(self.alloc, &mut command.verb, open_key)? else {
+            if command.verb.file().is_some() {
+                return Ok(self.perform_on_file(at, command)?);
             }
-            None => {
-                let mut command = command;
-                let op = take_op(self.alloc, &mut command.verb, open_key)?;
-                Ok(self.perform(at, command, op)?)
+            return Ok(self.perform_on_no_file(at, command)?);
+        };
+        match self.execute(at, &command, op)? {
+            Attempt::Told(outcome) => Ok(outcome),
+            Attempt::MustWait(holder, op) => {
+                let command = refill(self.alloc, command, &op)?;
+                Ok(self.make_wait(at, command, op, holder)?)
             }
         }
     }

@@ -195,8 +195,8 @@ impl Dispatcher {
         }
     }
 
-    // Does as `note_blocker`, for a command that uses the resource of this wait group alone. `found`
-    // is the index of its note, and the note.
+    // Does as `note_blocker`, for a command that uses the resource of this wait group alone.
+    // `found` is the index of its note, and the note.
     fn note_group(
         &self,
         notes: &mut Notes,

@@ -1,19 +1,37 @@
 //! The events of a region: a request or a turn of draining as one call.
 
-ghost use Rattle.std.specs.Prelude.{◌≡◌, IfOk, OnOk, OnErr};
+ghost use Rattle.std.specs.Prelude.{◌≡◌, ◌&&◌, if◌then◌else◌, None, IsTrue, IfOk, OnOk, OnErr};
 ghost use Rattle.cics_dispatch.specs.Machine.Answers.{IsHeadlineRegion, IsSerializableRegion};
-ghost use Rattle.cics_dispatch.specs.Machine.Events.{played, IsTurn};
+ghost use Rattle.cics_dispatch.specs.Machine.Events.{played, may_want_memory, IsTurn};
+ghost use Rattle.cics_dispatch.specs.Machine.Events.{IsAsBeforeIfRefused};
+ghost use Rattle.cics_dispatch.specs.Words.{goes_on};
 ghost use Rattle.cics_dispatch.specs.declared.machine.events.Event.TheVariants.{Refused as RefusedEvent};
 ghost use Rattle.cics_dispatch.specs.declared.machine.outcomes.Refused.TheVariants.{NoMemory as Wanting};
 
-use crate::machine::{Event, Refused, Request, Subject};
+use crate::machine::{Event, Outcome, Refused, Request, Subject};
 use crate::regions::Region;
+use cics_history::UnitId;
 use cics_names::NoMemory;
+
+// Returns the unit of a command's task if the command may have released something of it. A command
+// releases nothing if its verb `keeps` what the unit owns and its task hasn't ended.
+fn giving_up(keeps: bool, outcome: &Outcome, unit: Option<UnitId>) -> Option<UnitId>
+    ensures { result ≡ (if keeps && goes_on outcome.now then None else unit) }
+{
+    if !keeps {
+        return unit;
+    }
+    match outcome {
+        Outcome::Replied(_) | Outcome::Waiting(_) => None,
+        Outcome::Abended(_, _) | Outcome::Ended => unit,
+    }
+}
 
 // Returns the event of a refused request.
 fn refused(subject: Subject, refusal: Refused) -> Result<Event, NoMemory>
     ensures event { IfOk result (λ event. event ≡ RefusedEvent subject refusal) }
     ensures other { OnOk result (refusal ≡ Wanting → ⊥) }
+    ensures memory { OnErr result (refusal ≡ Wanting) }
 {
     match refusal {
         Refused::NoMemory => Err(NoMemory),
@@ -22,15 +40,18 @@ fn refused(subject: Subject, refusal: Refused) -> Result<Event, NoMemory>
 }
 
 impl Region {
-    /// Plays a request, and returns its event: `attach`, `set_clock`, `issue` or `shutdown`. That
-    /// of a command has the first check that it failed, if it failed one.
+    /// Plays a request: attaches a task, sets the clock, issues a command, or shuts the region
+    /// down. Returns its event. That of a command names the first check that failed, if one did.
     ///
-    /// Errors: `NoMemory`, which changes nothing. Any other refusal is an event.
+    /// Errors: `NoMemory`, which changes nothing. Any other refusal is an event, and is that of
+    /// `attach`, `set_clock`, `issue` or `shutdown`.
     #[inline(always)]
     pub fn play(&mut self, request: Request) -> Result<Event, NoMemory>
         ensures played { IfOk result (λ event. (event ≡ (played self.old.machine request).event)
             × (self.new.machine ≡ (played self.old.machine request).machine)) }
+        ensures refused { IfOk result (IsAsBeforeIfRefused self.old self.new) }
         ensures err { OnErr result (self.new ≡ self.old) }
+        ensures memory { OnErr result (IsTrue (may_want_memory self.old.machine request)) }
         ensures headline { IsHeadlineRegion self.new }
         ensures serializable { IsSerializableRegion self.new }
     {
@@ -48,9 +69,24 @@ impl Region {
                 Err(refusal) => refused(Subject::Clock, refusal),
             },
             Request::Issue(label, command) => {
+                // First of all: after a shutdown a label is told nothing else, not even `NoTask`.
+                if let Err(refusal) = self.refuse_if_down() {
+                    return refused(Subject::Task(label), refusal);
+                }
+                let Some(at) = self.dispatcher.find(&label) else {
+                    return refused(Subject::Task(label), Refused::NoTask);
+                };
+                let unit = self.dispatcher.unit_at(at);
+                let keeps = self.dispatcher.is_keeping(&command.verb);
                 let mut reason = None;
-                match self.issue_told(label, command, &mut reason) {
-                    Ok(outcome) => Ok(Event::Issued(label, outcome, reason)),
+                match self.dispatcher.issue(at, label, command, &mut reason) {
+                    Ok(outcome) => {
+                        let was_blocker = self.notes.forget(giving_up(keeps, &outcome, unit));
+                        let waits = self.dispatcher.is_waiting(&label);
+                        // It doesn't wait, and released nothing that another waits for.
+                        self.is_settled &= !was_blocker & !waits;
+                        Ok(Event::Issued(label, outcome, reason))
+                    }
                     Err(refusal) => refused(Subject::Task(label), refusal),
                 }
             }
