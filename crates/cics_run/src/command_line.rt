@@ -317,13 +317,6 @@ fn with_lone_options<'a>(
     with(command, apart_from_options(check))
 }
 
-// Returns the word that names the script's file.
-fn script<'a>(alloc: Global) -> Arg<'a> {
-    Arg::new(alloc, "script")
-        .value_name("SCRIPT")
-        .help("The script's file; without it, or for -, standard input")
-}
-
 // Returns the command line, with its options in the order of the help.
 fn command<'a>(alloc: Global) -> Result<Command<'a>, AllocError> {
     let named = Command::new(alloc, "cicsrun")
@@ -332,7 +325,10 @@ fn command<'a>(alloc: Global) -> Result<Command<'a>, AllocError> {
         .after_help(MORE);
     let runs = with_lone_options(alloc, with_runs(alloc, named));
     let command = with_orders(alloc, runs);
-    with(command, Ok(script(alloc)))
+    let script = Arg::new(alloc, "script")
+        .value_name("SCRIPT")
+        .help("The script's file; without it, or for -, standard input");
+    with(command, Ok(script))
 }
 
 fn read_words(alloc: Global, words: &[String]) -> Result<CommandLine, Error> {
@@ -369,12 +365,7 @@ fn chosen(matches: &ArgMatches) -> Action {
         let progress = matches.get_flag("progress");
         return Action::Orders { wanted, progress };
     }
-    Action::Run(wanted_run(matches))
-}
-
-// Returns the run that the options ask for.
-fn wanted_run(matches: &ArgMatches) -> Wanted {
-    Wanted {
+    Action::Run(Wanted {
         options: Options {
             replay: matches.get_flag("replay"),
             no_list: matches.get_flag("no-list"),
@@ -384,5 +375,5 @@ fn wanted_run(matches: &ArgMatches) -> Wanted {
         with_script: matches.get_flag("with-script"),
         strict: matches.get_flag("strict"),
         why: matches.get_flag("why"),
-    }
+    })
 }

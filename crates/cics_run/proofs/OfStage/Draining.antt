@@ -1,5 +1,5 @@
 -- What an observer sees while a region drains.
-use Rattle.std.proofs.Common.{◌≡◌, ℕ, ◌<◌, length, ap, sym, ◌∙◌, subst, Some, None}
+use Rattle.std.proofs.Common.{◌≡◌, ℕ, ◌<◌, length, ap, sym, ◌∙◌, subst, refl, Option, Some, None}
 use Rattle.std.specs.Bool.{OnTrue}
 use Rattle.std.specs.Prelude.{Bool, true}
 use Rattle.cics_dispatch.specs.Machine.Answers.{IsHeadlineRegion}
@@ -10,7 +10,16 @@ use Rattle.cics_dispatch.specs.declared.machine.events.Event.{Event}
 use Rattle.cics_dispatch.specs.declared.machine.events.Request.{Request}
 use Rattle.cics_dispatch.proofs.OfMachine.Draining.{rest_has_none, turn_fewer, drained_turn, drained_none}
 use Rattle.cics_run.specs.Stage.Seen.{Sight, after_all, after_events, after_fault, after_step}
-use Rattle.cics_run.specs.Stage.Stages.{Step, region_at}
+use Rattle.cics_names.specs.Keyed.{value_at, has_key, is_key_in}
+use Rattle.cics_history.specs.State.{OpeningState}
+use Rattle.cics_history.specs.Openings.{with_file, with_record, with_prefix, with_queue, with_td_record}
+use Rattle.cics_units.specs.Opening.Faults.{file_fault, load_fault, load_td_fault, fault_if}
+use Rattle.cics_units.specs.declared.opening.opening.DefineFault.{DefineFault}
+use Rattle.cics_script.specs.declared.lines.Line.{Line}
+use Rattle.cics_script.specs.declared.lines.Line.TheVariants.{Blank, DefineFile, DefineTsPrefix, DefineTd, LoadFile, LoadTd, Attach, Clock, Issue, Shutdown}
+use Rattle.cics_run.specs.declared.stage.stage.Stage.{Stage}
+use Rattle.cics_run.specs.declared.stage.stage.Stage.TheVariants.{Opening, Running}
+use Rattle.cics_run.specs.Stage.Stages.{Step, defined, definition, region_at}
 use Rattle.cics_run.specs.declared.stage.stage.Fault.{Fault}
 
 -- a region that holds the replay of its surviving entries is that of its machine
@@ -67,3 +76,24 @@ module _ {Seen : Type 0} (sight : Sight Seen) (number : ℕ) where
       → now ≡ after_step sight number before s
   fault_seen s fault before between now seen told is =
       told ∙ ap (λ x. sight.with_fault x number fault) seen ∙ ap (after_fault sight number (after_all sight number before s)) is
+
+-- ---- What defines
+
+module _ {Seen : Type 0} (sight : Sight Seen) (number : ℕ) (seen : Seen) where
+  defined_seen : (o next : OpeningState) (fault : Option DefineFault) → after_step sight number seen (defined o fault next) ≡ after_fault sight number seen (defined o fault next).fault
+  defined_seen o next None = refl
+  defined_seen o next (Some fault) = refl
+
+  -- no request and no event is seen of it, but its fault
+  pub definition_seen : (stage : Stage) (l : Line) → after_step sight number seen (definition stage l) ≡ after_fault sight number seen (definition stage l).fault
+  definition_seen (Opening o) (DefineFile name d) = defined_seen o (with_file o name d) (file_fault o name d)
+  definition_seen (Opening o) (DefineTsPrefix prefix) = defined_seen o (with_prefix o prefix) (fault_if (is_key_in prefix o.prefixes))
+  definition_seen (Opening o) (DefineTd name recovery) = defined_seen o (with_queue o name recovery) (fault_if (has_key name o.queues))
+  definition_seen (Opening o) (LoadFile name content) = defined_seen o (with_record o name content) (load_fault (value_at name o.files) content)
+  definition_seen (Opening o) (LoadTd name content) = defined_seen o (with_td_record o name content) (load_td_fault (value_at name o.queues) content)
+  definition_seen (Opening o) Blank = refl
+  definition_seen (Opening o) (Attach label transaction dtimout) = refl
+  definition_seen (Opening o) (Clock seconds) = refl
+  definition_seen (Opening o) (Issue label command) = refl
+  definition_seen (Opening o) Shutdown = refl
+  definition_seen (Running r) l = refl

@@ -1,7 +1,6 @@
 -- A journal prints the text of each step, tells whether an event of it is amiss, and notes events.
-use Rattle.std.proofs.Common.{◌≡◌, ℕ, List, [], ◌∷◌, ◌++◌, refl, ap, sym, ◌∙◌, append_assoc, append-nil, Option, Some, None, length, arith}
-use Rattle.std.proofs.lemmas.Bool.Decides.{nat_tests}
-use Rattle.std.specs.Prelude.{◌==◌, Bool, true, false, ◌||◌, option_map}
+use Rattle.std.proofs.Common.{◌≡◌, ℕ, List, [], ◌∷◌, ◌++◌, refl, ap, sym, ◌∙◌, append_assoc, append-nil, Option, Some, None}
+use Rattle.std.specs.Prelude.{Bool, true, false, ◌||◌, option_map}
 use Rattle.std.specs.List.{flat_map, fold}
 use Rattle.cics_dispatch.specs.Machine.Events.{Happened}
 use Rattle.cics_run.specs.Stage.Amiss.{is_amiss, any_amiss}
@@ -9,7 +8,6 @@ use Rattle.cics_run.specs.Stage.Journal.{event_line, fault_lines, text_of}
 use Rattle.cics_run.specs.Stage.Notices.{noted, with_notice, notices_of}
 use Rattle.cics_run.specs.Messages.Remarks as remarks
 use Rattle.cics_run.specs.declared.messages.remarks.Remarks.{Remarks}
-use Rattle.cics_run.specs.declared.stage.notices.Notice.{Notice}
 use Rattle.cics_run.specs.declared.stage.stage.Stage.{Stage}
 use Rattle.cics_run.specs.Stage.Printed.{Printed, journal_sight, watched_on}
 use Rattle.cics_run.specs.Stage.Seen.{after_all, after_events, after_fault, after_request, after_step}
@@ -103,14 +101,14 @@ fault_unwatched : (number : ℕ) (w : Watched) (fault : Option Fault) → after_
 fault_unwatched number w None = refl
 fault_unwatched number w (Some fault) = refl
 
-pub step_text : (number : ℕ) (p : Printed) (s : Step) → (after_step journal_sight number p s).text ≡ p.text ++ text_of number s
+step_text : (number : ℕ) (p : Printed) (s : Step) → (after_step journal_sight number p s).text ≡ p.text ++ text_of number s
 step_text number p s =
     let q = after_request journal_sight number p s.asked in
     fault_text number (after_events journal_sight number q s.events) s.fault
     ∙ ap (λ t. t ++ fault_lines number s.fault) (events_text number q s.events ∙ ap (λ t. t ++ lines s.events) (request_text number p s.asked))
     ∙ append_assoc p.text (lines s.events) (fault_lines number s.fault)
 
-pub step_amiss : (number : ℕ) (p : Printed) (s : Step) → (after_step journal_sight number p s).is_amiss ≡ (p.is_amiss || any_amiss s.events)
+step_amiss : (number : ℕ) (p : Printed) (s : Step) → (after_step journal_sight number p s).is_amiss ≡ (p.is_amiss || any_amiss s.events)
 step_amiss number p s =
     let q = after_request journal_sight number p s.asked in
     fault_amiss number (after_events journal_sight number q s.events) s.fault ∙ events_amiss number q s.events
@@ -130,7 +128,7 @@ step_told number p s =
     fault_told number (after_events journal_sight number q s.events) s.fault ∙ events_told number q s.events ∙ request_told number p s.asked
 
 -- what a journal holds of the run that sees a step
-pub step_watched : (number : ℕ) (p : Printed) (s : Step) → (after_step journal_sight number p s).watched ≡ watched_on number p.watched s
+step_watched : (number : ℕ) (p : Printed) (s : Step) → (after_step journal_sight number p s).watched ≡ watched_on number p.watched s
 step_watched number p s =
     let q = after_request journal_sight number p s.asked in
     fault_watched number (after_events journal_sight number q s.events) s.fault
@@ -141,20 +139,24 @@ step_watched number p s =
     by None = refl
     by (Some w) = ap Some (sym (fault_unwatched number (after_all watcher_sight number w s) s.fault))
 
--- the remarks on a step, if its notices are folded in
-pub noted_told : (number : ℕ) (bytes : List ℕ) (stage : Stage) (p q : Printed) (s : Step) (told : Remarks) (notices : List Notice) → p.notices ≡ [] → q ≡ after_step journal_sight number p s
-    → stage ≡ s.stage → notices ≡ q.notices → told ≡ fold (remarks.with_notice stage number bytes) q.told notices → told ≡ remarks.remarked p.told number bytes s
-noted_told number bytes stage p q s told notices none seen at here folded =
-    folded ∙ ap (λ (x : Stage). fold (remarks.with_notice x number bytes) q.told notices) at
-    ∙ ap (λ (r : Remarks). fold (remarks.with_notice s.stage number bytes) r notices) (ap (λ (x : Printed). x.told) seen ∙ step_told number p s)
-    ∙ ap (fold (remarks.with_notice s.stage number bytes) p.told) (here ∙ ap (λ (x : Printed). x.notices) seen ∙ step_notices number p s none)
+-- What a journal holds that has seen a step, once the remarks on it are kept.
+pub record HasKept (number : ℕ) (bytes : List ℕ) (p now : Printed) (s : Step) : Type 0 where
+  pub text : now.text ≡ p.text ++ text_of number s
+  pub amiss : now.is_amiss ≡ (p.is_amiss || any_amiss s.events)
+  pub told : now.told ≡ remarks.remarked p.told number bytes s
+  pub watched : now.watched ≡ watched_on number p.watched s
 
--- there are none, if nothing was noted
-pub nothing_told : (number : ℕ) (bytes : List ℕ) (p q : Printed) (s : Step) → p.notices ≡ [] → q ≡ after_step journal_sight number p s → q.notices ≡ [] → q.told ≡ remarks.remarked p.told number bytes s
-nothing_told number bytes p q s none seen empty =
-    ap (λ (x : Printed). x.told) seen ∙ step_told number p s
-    ∙ ap (fold (remarks.with_notice s.stage number bytes) p.told) (sym empty ∙ ap (λ (x : Printed). x.notices) seen ∙ step_notices number p s none)
-
-pub nothing_left : {A : Type 0} (xs : List A) (b : Bool) → b ≡ (length xs == 0) → b ≡ true → xs ≡ []
-nothing_left [] b e is = refl
-nothing_left (x ∷ xs) b e is = let zero : length (x ∷ xs) ≡ 0 = grind (arith, nat_tests) in absurd (omega arith)
+pub has_kept : (number : ℕ) (bytes : List ℕ) (stage : Stage) (p q now : Printed) (s : Step) → p.notices ≡ [] → q ≡ after_step journal_sight number p s → stage ≡ s.stage →
+    now ≡ record q { told = fold (remarks.with_notice stage number bytes) q.told q.notices } → HasKept number bytes p now s
+has_kept number bytes stage p q now s none seen at kept = record {
+  text = ap (λ (x : Printed). x.text) (kept ∙ (λ i. record (seen i) { told = told i })) ∙ step_text number p s;
+  amiss = ap (λ (x : Printed). x.is_amiss) (kept ∙ (λ i. record (seen i) { told = told i })) ∙ step_amiss number p s;
+  told = ap (λ (x : Printed). x.told) kept ∙ told;
+  watched = ap (λ (x : Printed). x.watched) (kept ∙ (λ i. record (seen i) { told = told i })) ∙ step_watched number p s;
+}
+  where
+    told : fold (remarks.with_notice stage number bytes) q.told q.notices ≡ remarks.remarked p.told number bytes s
+    told =
+        ap (λ (x : Stage). fold (remarks.with_notice x number bytes) q.told q.notices) at
+        ∙ ap (λ (r : Remarks). fold (remarks.with_notice s.stage number bytes) r q.notices) (ap (λ (x : Printed). x.told) seen ∙ step_told number p s)
+        ∙ ap (fold (remarks.with_notice s.stage number bytes) p.told) (ap (λ (x : Printed). x.notices) seen ∙ step_notices number p s none)

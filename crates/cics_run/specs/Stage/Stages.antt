@@ -61,10 +61,16 @@ abbrev pub defined : OpeningState → Option DefineFault → OpeningState → St
 defined o None next = silent (Opening next)
 defined o (Some fault) next = faulty (Opening o) (faults.Definition fault)
 
--- a definition stands before the first line that is none
-abbrev pub definition : Stage → (OpeningState → Step) → Step
-definition (Opening o) define = define o
-definition (Running r) define = faulty (Running r) (faults.Line DefineTooLate)
+-- what a line defines or loads, which it may only before the first request; any other line does
+-- nothing
+abbrev pub definition : Stage → Line → Step
+definition (Opening o) (DefineFile name d) = defined o (file_fault o name d) (with_file o name d)
+definition (Opening o) (DefineTsPrefix prefix) = defined o (fault_if (is_key_in prefix o.prefixes)) (with_prefix o prefix)
+definition (Opening o) (DefineTd name recovery) = defined o (fault_if (has_key name o.queues)) (with_queue o name recovery)
+definition (Opening o) (LoadFile name content) = defined o (load_fault (value_at name o.files) content) (with_record o name content)
+definition (Opening o) (LoadTd name content) = defined o (load_td_fault (value_at name o.queues) content) (with_td_record o name content)
+definition (Opening o) _ = silent (Opening o)
+definition (Running r) line = faulty (Running r) (faults.Line DefineTooLate)
 
 -- a request is played on the region, which then drains
 abbrev pub requested : Stage → Request → Step
@@ -81,15 +87,12 @@ requested stage request =
 -- a line that was read
 abbrev pub followed : Stage → Result Line LineFault → Step
 followed stage (Ok Blank) = silent stage
-followed stage (Ok (DefineFile name d)) = definition stage (λ o. defined o (file_fault o name d) (with_file o name d))
-followed stage (Ok (DefineTsPrefix prefix)) = definition stage (λ o. defined o (fault_if (is_key_in prefix o.prefixes)) (with_prefix o prefix))
-followed stage (Ok (DefineTd name recovery)) = definition stage (λ o. defined o (fault_if (has_key name o.queues)) (with_queue o name recovery))
-followed stage (Ok (LoadFile name content)) = definition stage (λ o. defined o (load_fault (value_at name o.files) content) (with_record o name content))
-followed stage (Ok (LoadTd name content)) = definition stage (λ o. defined o (load_td_fault (value_at name o.queues) content) (with_td_record o name content))
 followed stage (Ok (Attach label transaction dtimout)) = requested stage (request.Attach label transaction dtimout)
 followed stage (Ok (Clock seconds)) = requested stage (request.Clock seconds)
 followed stage (Ok (Issue label command)) = requested stage (request.Issue label command)
 followed stage (Ok Shutdown) = requested stage request.Shutdown
+-- each other line defines or loads
+followed stage (Ok line) = definition stage line
 followed stage (Err fault) = faulty stage (faults.Line fault)
 
 -- the bytes of a line

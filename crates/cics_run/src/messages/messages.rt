@@ -27,8 +27,8 @@ const MOST_WAITING: usize = 10_000;
 /// Returns what to tell of a run that ended with `Status::LineFault`. First come the remarks on its
 /// lines, then the faulty line's message, the line and a caret (`cics_script::advice`). The session
 /// is the one that was run: clause `kept` of `run_over` says that it keeps the remarks, and that
-/// line with its number and its fault. Without a fault it returns the remarks. `file` is the name of
-/// the script's file, if it has one.
+/// line with its number and its fault. Without a fault it returns the remarks. `file` is the name
+/// of the script's file, if it has one.
 pub fn told_of(alloc: Global, session: &Session, file: Option<&[u8]>) -> Result<Vec<u8>, NoMemory>
     ensures told { IfOk result (λ text.
         IsToldOf file.entry session.now session.now.fault text.items) }

@@ -14,7 +14,7 @@ ghost use Rattle.cics_run.specs.Reading.Checks.{status_of, TellsBehind};
 
 use crate::messages::{Remarks, push_remarks, push_told};
 use crate::reading::next_line;
-use crate::reading::requests::{is_played, notice_on};
+use crate::reading::requests::notice_on;
 use crate::session::{RunFault, Sink, Status, Stop, ended, write_pending, write_printed};
 use crate::stage::{Fault, Notice, Observer, Stage};
 use cics_dispatch::{Event, Region, Request};
@@ -86,8 +86,8 @@ struct Checker {
     remarks: Remarks,
 }
 
-// Returns the fault that is told of a line. What a load lacks may be defined by a faulty line before
-// it.
+// Returns the fault that is told of a line. What a load lacks may be defined by a faulty line
+// before it.
 fn told_fault(sure: bool, fault: Option<Fault>) -> Option<Fault>
     ensures { result ≡ told_fault sure fault }
 {
@@ -105,15 +105,27 @@ fn told_notice(sure: bool, notice: Option<Notice>) -> Option<Notice>
     if sure { notice } else { None }
 }
 
-// Plays a line that was read, if a check does, and returns its fault.
+// Plays a definition, a load or an ATTACH, and returns its fault. For another request it only makes
+// the region.
 fn play(stage: &mut Stage, said: Line) -> Result<Option<Fault>, NoMemory>
     ensures { IfOk result (IsPlayed (tried stage.old (Ok said)) stage.new) }
 {
-    if is_played(&said) {
-        return stage.follow(0, said, &mut Nobody);
+    match said {
+        Line::Blank => Ok(None),
+        Line::Attach(label, transaction, dtimout) => {
+            let request = Request::Attach {
+                label,
+                transaction,
+                dtimout,
+            };
+            stage.play(0, request, &mut Nobody)
+        }
+        Line::Clock(_) | Line::Issue(_, _) | Line::Shutdown => {
+            stage.open()?;
+            Ok(None)
+        }
+        definition => stage.define(definition),
     }
-    stage.open()?;
-    Ok(None)
 }
 
 // Tries a line: plays it if it is a definition or an ATTACH, and returns what is found in it.

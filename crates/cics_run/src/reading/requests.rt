@@ -2,7 +2,7 @@
 
 ghost use Rattle.std.specs.Prelude.{◌≡◌};
 ghost use Rattle.cics_names.specs.Commands.{file_named};
-ghost use Rattle.cics_run.specs.Reading.Requests.{is_played, is_attached, name_reason, name_notice};
+ghost use Rattle.cics_run.specs.Reading.Requests.{is_attached, name_reason, name_notice};
 ghost use Rattle.cics_run.specs.Reading.Requests.{notice_on};
 
 use crate::messages::meant_queue;
@@ -10,13 +10,6 @@ use crate::stage::{Notice, Raised, Stage};
 use cics_dispatch::{Reason, Refused, Region};
 use cics_names::{Name8, Verb};
 use cics_script::Line;
-
-/// Returns whether a check plays a line: a definition or an ATTACH.
-pub fn is_played(line: &Line) -> bool
-    ensures { result ≡ is_played line.now }
-{
-    !matches!(line, Line::Clock(_) | Line::Issue(_, _) | Line::Shutdown)
-}
 
 // Returns whether a task was attached with a label.
 fn is_attached(stage: &Stage, label: &Name8) -> bool

@@ -356,7 +356,7 @@ impl Past {
 
     /// Returns the last step by which a task looked at a cell or changed it.
     ///
-    /// Cost: O(log steps + the task's looks at several keys, back to the last that covers the cell).
+    /// Cost: O(log steps + the task's looks at several keys, back to one that covers the cell).
     pub fn near(&self, at: &Touched) -> Option<&Step>
         ensures { option_copied result ≡ near at.now.task at.now.cell self.now }
     {

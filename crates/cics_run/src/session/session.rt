@@ -9,7 +9,7 @@ ghost use Rattle.cics_run.specs.Session.{Form, listed, with_reads, are_reads_ami
 ghost use Rattle.cics_run.specs.Session.{text_at_end, amiss_at, IsNew, Ran, next_text};
 ghost use Rattle.cics_run.specs.Session.{WhereverStands, Feeds, Writes, Closes, Finishes};
 ghost use Rattle.cics_run.specs.Stage.Journal.{script_line};
-ghost use Rattle.cics_run.specs.Stage.Stages.{region_of, listing_at, replay_at};
+ghost use Rattle.cics_run.specs.Stage.Stages.{region_of};
 ghost use Rattle.cics_run.specs.declared.stage.stage.Stage.TheVariants.{Running};
 ghost use Rattle.std.specs.Io.KnownBytes.{Appends};
 ghost use Rattle.cics_run.specs.Reads.Watching.{watched_in};
@@ -125,6 +125,7 @@ pub fn line_len(bytes: &[u8]) -> usize
 }
 
 // Prints a line of the script, if that is wanted.
+#[inline(always)]
 fn push_wanted_line(with_script: bool, line: &[u8], out: &mut Vec<u8>) -> Result<(), NoMemory>
     ensures { OnOk result (out.new.items
         ≡ out.old.items ++ (if with_script then script_line line.now else [])) }
@@ -160,8 +161,8 @@ impl Session {
         write_pending(&mut self.journal.text, sink)
     }
 
-    // Runs the line that is kept, prints its journal lines, and returns whether it has a fault. A
-    // fault is written at once, and its line stays, to be told to a person.
+    // Runs the line that is kept, prints its journal lines, keeps its remarks, and returns whether
+    // it has a fault. A fault is written at once, and its line stays, to be told to a person.
     fn run_kept<K: Sink>(&mut self, sink: &mut K) -> Result<bool, Stop>
         requires { self.old.number + 1 < 2 ^ 64 }
         ensures ran { OnOk result (Ran self.old self.old.line.items self.new) }
@@ -179,9 +180,13 @@ impl Session {
     {
         self.number += 1;
         push_wanted_line(self.with_script, &self.line, &mut self.journal.text)?;
+        self.journal.notices.clear();
+        let alloc = *self.line.allocator();
         self.fault = self
-            .journal
-            .print_line(&mut self.stage, self.number, &self.line)?;
+            .stage
+            .run_line(alloc, self.number, &self.line, &mut self.journal)?;
+        self.journal
+            .keep_remarks(&self.stage, self.number, &self.line)?;
         let is_fault = self.fault.is_some();
         write_printed(&mut self.journal.text, sink, is_fault)?;
         if is_fault {
@@ -189,34 +194,6 @@ impl Session {
         }
         self.line.clear();
         Ok(false)
-    }
-
-    // Runs the lines that more bytes complete, up to the first fault, and returns whether there was
-    // one. Without a fault the printed text may wait to be written.
-    fn run_lines<K: Sink>(&mut self, chunk: &[u8], sink: &mut K) -> Result<bool, Stop>
-        requires { self.old.number + length chunk.now < 2 ^ 64 }
-        ensures feeds { (form : Form) → WhereverStands form (K.contents sink.old) self.old
-            (λ bytes before. Feeds form (bytes ++ chunk.now) before (K.contents sink.new) self.new
-            result) }
-        ensures failed { Rises (K.failed sink.old) (K.failed sink.new) (stopped_writes result) }
-    {
-        let mut rest = chunk;
-        'lines: loop {
-            let (front, behind) = rest.split_at(line_len(rest));
-            match self.line.extend_from_slice(front) {
-                Ok(()) => {}
-                Err(_) => return Err(Stop::NoMemory),
-            }
-            let Some((_, after)) = behind.split_first() else {
-                return Ok(false);
-            };
-            drop_cr(&mut self.line);
-            match self.run_kept(sink) {
-                Ok(false) => rest = after,
-                Ok(true) => return Ok(true),
-                Err(stop) => return Err(stop),
-            }
-        }
     }
 
     /// Runs the lines that more bytes complete, up to the first fault, and returns whether there
@@ -230,13 +207,25 @@ impl Session {
         ensures left { IfOk result (λ fault. fault ≡ false → self.new.journal.text.items ≡ []) }
         ensures failed { Rises (K.failed sink.old) (K.failed sink.new) (stopped_writes result) }
     {
-        match self.run_lines(chunk, sink) {
-            Ok(false) => match self.write(sink) {
-                Ok(()) => Ok(false),
-                Err(stop) => Err(stop),
-            },
-            Ok(true) => Ok(true),
-            Err(stop) => Err(stop),
+        let mut rest = chunk;
+        'lines: loop {
+            let (front, behind) = rest.split_at(line_len(rest));
+            match self.line.extend_from_slice(front) {
+                Ok(()) => {}
+                Err(_) => return Err(Stop::NoMemory),
+            }
+            let Some((_, after)) = behind.split_first() else {
+                return match self.write(sink) {
+                    Ok(()) => Ok(false),
+                    Err(stop) => Err(stop),
+                };
+            };
+            drop_cr(&mut self.line);
+            match self.run_kept(sink) {
+                Ok(false) => rest = after,
+                Ok(true) => return Ok(true),
+                Err(stop) => return Err(stop),
+            }
         }
     }
 
@@ -284,7 +273,7 @@ impl Session {
 }
 
 // Writes what is pending, and behind it what is wanted at the end. Returns whether something is
-// amiss that reads saw or missed.
+// amiss that reads saw or missed. Makes the region if no line has made it yet.
 fn write_end<K: Sink>(
     stage: &mut Stage,
     at_end: AtEnd<'_>,
@@ -300,41 +289,13 @@ fn write_end<K: Sink>(
         (pending.old.items ++ text_at_end at_end.entry stage.old)) }
     ensures failed { Rises (K.failed sink.old) (K.failed sink.new) (stopped_writes result) }
 {
-    match push_at_end(stage, at_end, pending) {
-        Ok(are_amiss) => match write_pending(pending, sink) {
-            Ok(()) => Ok(are_amiss),
-            Err(stop) => Err(stop),
-        },
-        Err(_) => Err(Stop::NoMemory),
-    }
-}
-
-// Prints what is wanted at the end, and returns whether something is amiss that reads saw or
-// missed. Makes the region if no line has made it yet.
-fn push_at_end(stage: &mut Stage, at_end: AtEnd<'_>, out: &mut Vec<u8>) -> Result<bool, NoMemory>
-    ensures amiss { IfOk result (λ are_amiss. are_amiss ≡ amiss_at at_end.entry) }
-    ensures stage { OnOk result (stage.new ≡ Running (region_of stage.old)) }
-    ensures text { OnOk result (out.new.items ≡ out.old.items ++ text_at_end at_end.entry stage.old) }
-{
     stage.open()?;
-    match stage {
-        Stage::Running(region) => push_all_wanted(region, at_end, out),
-        Stage::Opening(_) => unreachable!(),
-    }
-}
-
-// Appends the listing.
-fn push_region(region: &Region, out: &mut Vec<u8>) -> Result<(), NoMemory>
-    ensures { OnOk result (out.new.items ≡ out.old.items ++ listing_at (Running region.now)) }
-{
-    push_listing(out, &region.listing()?)
-}
-
-// Appends the replay.
-fn push_replayed(region: &Region, out: &mut Vec<u8>) -> Result<(), NoMemory>
-    ensures { OnOk result (out.new.items ≡ out.old.items ++ replay_at (Running region.now)) }
-{
-    push_replay(out, &region.replayed()?)
+    let Stage::Running(region) = stage else {
+        unreachable!();
+    };
+    let are_amiss = push_all_wanted(region, at_end, pending)?;
+    write_pending(pending, sink)?;
+    Ok(are_amiss)
 }
 
 // Prints what is asked for of the listing of a region and the replay of its history.
@@ -342,10 +303,10 @@ fn push_listed(region: &Region, options: Options, out: &mut Vec<u8>) -> Result<(
     ensures { OnOk result (out.new.items ≡ out.old.items ++ listed options (Running region.now)) }
 {
     if !options.no_list {
-        push_region(region, out)?;
+        push_listing(out, &region.listing()?)?;
     }
     if options.replay {
-        push_replayed(region, out)?;
+        push_replay(out, &region.replayed()?)?;
     }
     Ok(())
 }

@@ -1,11 +1,11 @@
-//! What a region does as it is asked, and by itself after it.
+//! Plays requests, drains the region, and shows events and faults to an observer.
 
-ghost use Rattle.std.specs.Prelude.{◌≡◌, OnOk};
+ghost use Rattle.std.specs.Prelude.{◌≡◌, IfOk, OnOk};
 ghost use Rattle.cics_dispatch.specs.Machine.Events.{drained, all_played};
-ghost use Rattle.cics_run.specs.Stage.Seen.{after_events};
+ghost use Rattle.cics_run.specs.Stage.Seen.{after_events, after_fault};
 ghost use Rattle.cics_run.specs.Stage.Stages.{region_at};
 
-use crate::stage::Observer;
+use crate::stage::{Fault, Observer};
 use cics_dispatch::{Event, Region, Request};
 use cics_names::NoMemory;
 
@@ -44,6 +44,25 @@ pub fn show<O: Observer>(
         (record { event = event; machine = region.now.machine })) }
 {
     observer.see(number, &event, region)
+}
+
+/// Shows an observer the fault of the line with this number, if there is one. Returns the fault.
+///
+/// Errors: `NoMemory`.
+#[inline(always)]
+pub fn show_fault<O: Observer>(
+    number: u64,
+    fault: Option<Fault>,
+    observer: &mut O,
+) -> Result<Option<Fault>, NoMemory>
+    ensures fault { IfOk result (λ shown. shown ≡ fault) }
+    ensures seen { OnOk result (O.seen observer.new
+        ≡ after_fault O.sight number (O.seen observer.old) fault) }
+{
+    if let Some(fault) = fault {
+        observer.see_fault(number, fault)?;
+    }
+    Ok(fault)
 }
 
 /// Drains a region, and shows each event to an observer.

@@ -1,11 +1,9 @@
 //! The journal of a run, as it is printed.
 
-ghost use Rattle.std.specs.Prelude.{◌≡◌, ◌++◌, ◌||◌, [], false, OnOk, IfOk};
-ghost use Rattle.cics_run.specs.Messages.Remarks.{no_remarks, remarked};
-ghost use Rattle.cics_run.specs.Stage.Amiss.{any_amiss};
-ghost use Rattle.cics_run.specs.Stage.Journal.{text_of};
-ghost use Rattle.cics_run.specs.Stage.Printed.{printed_in, watched_by, watched_on};
-ghost use Rattle.cics_run.specs.Stage.Stages.{step, IsPlayed};
+ghost use Rattle.std.specs.Prelude.{◌≡◌, [], false, OnOk};
+ghost use Rattle.std.specs.List.{fold};
+ghost use Rattle.cics_run.specs.Messages.Remarks.{no_remarks, with_notice};
+ghost use Rattle.cics_run.specs.Stage.Printed.{printed_in};
 
 use crate::messages::{Remarks, keep_alone};
 use crate::reads::Watcher;
@@ -55,34 +53,22 @@ impl Journal {
         }
     }
 
-    /// Runs the line with this number on a stage, prints its journal lines, and returns its fault,
-    /// if it has one. Keeps what a person is told of its events.
+    /// Adds the remarks on the last line, which has this number and led to this stage. `notices`
+    /// has to be cleared before each line.
     ///
     /// Errors: `NoMemory`.
-    pub fn print_line(
-        &mut self,
-        stage: &mut Stage,
-        number: u64,
-        line: &[u8],
-    ) -> Result<Option<Fault>, NoMemory>
-        ensures played { IfOk result (IsPlayed (step stage.old line.now) stage.new) }
-        ensures text { OnOk result (self.new.text.items
-            ≡ self.old.text.items ++ text_of number (step stage.old line.now)) }
-        ensures amiss { OnOk result (self.new.is_amiss
-            ≡ (self.old.is_amiss || any_amiss (step stage.old line.now).events)) }
-        ensures told { OnOk result (self.new.told
-            ≡ remarked self.old.told number line.now (step stage.old line.now)) }
-        ensures watched { OnOk result (watched_by self.new
-            ≡ watched_on number (watched_by self.old) (step stage.old line.now)) }
+    #[inline(always)]
+    pub fn keep_remarks(&mut self, stage: &Stage, number: u64, line: &[u8]) -> Result<(), NoMemory>
+        ensures { OnOk result (printed_in self.new ≡ record (printed_in self.old) {
+          told = fold (with_notice stage.now number line.now) self.old.told self.old.notices.items;
+        }) }
     {
-        self.notices.clear();
-        let fault = stage.run_line(*self.text.allocator(), number, line, self)?;
         let notices = self.notices.as_slice();
-        if !notices.is_empty() {
-            self.told.add_all(stage, number, line, notices)?;
-            keep_alone(&mut self.alone, number, line, notices)?;
+        if notices.is_empty() {
+            return Ok(());
         }
-        Ok(fault)
+        self.told.add_all(stage, number, line, notices)?;
+        keep_alone(&mut self.alone, number, line, notices)
     }
 }
 

@@ -6,12 +6,12 @@ ghost use Rattle.cics_units.specs.Opening.Faults.{AnswersFault};
 ghost use Rattle.cics_units.specs.declared.opening.opening.DefineFault.{DefineFault};
 ghost use Rattle.cics_run.specs.Stage.Seen.{after_all, after_step};
 ghost use Rattle.cics_run.specs.Stage.Stages.{initial_stage, region_of, defined};
-ghost use Rattle.cics_run.specs.Stage.Stages.{requested, followed, step, IsPlayed};
+ghost use Rattle.cics_run.specs.Stage.Stages.{requested, definition, step, IsPlayed};
 ghost use Rattle.cics_run.specs.declared.stage.stage.Stage.TheVariants.{Opening as OpeningStage};
 ghost use Rattle.cics_run.specs.declared.stage.stage.Stage.TheVariants.{Running};
 
 use crate::stage::Observer;
-use crate::stage::draining::{drain, play_seen, show};
+use crate::stage::draining::{drain, play_seen, show, show_fault};
 use cics_dispatch::{Region, Request};
 use cics_names::NoMemory;
 use cics_script::{Line, LineFault, read_line};
@@ -67,6 +67,7 @@ impl Stage {
     /// The observer sees the line's request, its events in their order, and then its fault.
     ///
     /// Errors: `NoMemory`.
+    #[inline(always)]
     pub fn run_line<O: Observer>(
         &mut self,
         alloc: Global,
@@ -78,70 +79,56 @@ impl Stage {
         ensures seen { OnOk result (O.seen observer.new
             ≡ after_step O.sight number (O.seen observer.old) (step self.old line.now)) }
     {
-        let fault = match read_line(alloc, line) {
-            Ok(line) => self.follow(number, line, observer)?,
-            Err(LineFault::NoMemory) => return Err(NoMemory),
-            Err(fault) => Some(Fault::Line(fault)),
-        };
-        if let Some(fault) = fault {
-            observer.see_fault(number, fault)?;
-        }
-        Ok(fault)
-    }
-
-    /// Runs a line that was read. The observer sees its request and its events.
-    pub(crate) fn follow<O: Observer>(
-        &mut self,
-        number: u64,
-        line: Line,
-        observer: &mut O,
-    ) -> Result<Option<Fault>, NoMemory>
-        ensures played { IfOk result (IsPlayed (followed self.old (Ok line)) self.new) }
-        ensures seen { OnOk result (O.seen observer.new
-            ≡ after_all O.sight number (O.seen observer.old) (followed self.old (Ok line))) }
-    {
-        match line {
-            Line::Blank => Ok(None),
-            Line::DefineFile(name, file) => match self {
-                Stage::Opening(opening) => told(opening.define_file(name, file)),
-                Stage::Running(_) => Ok(Some(TOO_LATE)),
+        match read_line(alloc, line) {
+            Ok(line) => match line {
+                Line::Blank => Ok(None),
+                Line::Attach(label, transaction, dtimout) => {
+                    let request = Request::Attach {
+                        label,
+                        transaction,
+                        dtimout,
+                    };
+                    self.play(number, request, observer)
+                }
+                Line::Clock(seconds) => self.play(number, Request::Clock(seconds), observer),
+                Line::Issue(label, command) => {
+                    self.play(number, Request::Issue(label, command), observer)
+                }
+                Line::Shutdown => self.play(number, Request::Shutdown, observer),
+                _ => show_fault(number, self.define(line)?, observer),
             },
-            Line::DefineTsPrefix(prefix) => match self {
-                Stage::Opening(opening) => told(opening.define_ts_prefix(prefix)),
-                Stage::Running(_) => Ok(Some(TOO_LATE)),
-            },
-            Line::DefineTd(name, recovery) => match self {
-                Stage::Opening(opening) => told(opening.define_td(name, recovery)),
-                Stage::Running(_) => Ok(Some(TOO_LATE)),
-            },
-            Line::LoadFile(name, content) => match self {
-                Stage::Opening(opening) => told(opening.load_file(name, content)),
-                Stage::Running(_) => Ok(Some(TOO_LATE)),
-            },
-            Line::LoadTd(name, content) => match self {
-                Stage::Opening(opening) => told(opening.load_td(name, content)),
-                Stage::Running(_) => Ok(Some(TOO_LATE)),
-            },
-            Line::Attach(label, transaction, dtimout) => {
-                let request = Request::Attach {
-                    label,
-                    transaction,
-                    dtimout,
-                };
-                self.play(number, request, observer)
-            }
-            Line::Clock(seconds) => self.play(number, Request::Clock(seconds), observer),
-            Line::Issue(label, command) => {
-                self.play(number, Request::Issue(label, command), observer)
-            }
-            Line::Shutdown => self.play(number, Request::Shutdown, observer),
+            Err(LineFault::NoMemory) => Err(NoMemory),
+            Err(fault) => show_fault(number, Some(Fault::Line(fault)), observer),
         }
     }
 
-    // Plays a request, drains the region, and returns `None`: a request has no fault. The observer
-    // sees the request and each event.
+    /// Defines or loads what a line says, and returns its fault, if it has one. That is
+    /// `DefineTooLate` once there is a region. Before that any other line does nothing.
+    ///
+    /// Errors: `NoMemory`.
     #[inline(always)]
-    fn play<O: Observer>(
+    pub(crate) fn define(&mut self, line: Line) -> Result<Option<Fault>, NoMemory>
+        ensures { IfOk result (IsPlayed (definition self.old line) self.new) }
+    {
+        let Stage::Opening(opening) = self else {
+            return Ok(Some(TOO_LATE));
+        };
+        match line {
+            Line::DefineFile(name, file) => told(opening.define_file(name, file)),
+            Line::DefineTsPrefix(prefix) => told(opening.define_ts_prefix(prefix)),
+            Line::DefineTd(name, recovery) => told(opening.define_td(name, recovery)),
+            Line::LoadFile(name, content) => told(opening.load_file(name, content)),
+            Line::LoadTd(name, content) => told(opening.load_td(name, content)),
+            _ => Ok(None),
+        }
+    }
+
+    /// Plays a request, drains the region, and returns `None`: a request has no fault. The observer
+    /// sees the request and each event.
+    ///
+    /// Errors: `NoMemory`.
+    #[inline(always)]
+    pub(crate) fn play<O: Observer>(
         &mut self,
         number: u64,
         request: Request,
@@ -159,8 +146,11 @@ impl Stage {
             play_seen(region, number, request, observer)?;
             return Ok(None);
         }
-        let event = region.play(request)?;
-        show(region, number, event, observer)?;
+        // No `?`, which would copy the event.
+        match region.play(request) {
+            Ok(event) => show(region, number, event, observer)?,
+            Err(NoMemory) => return Err(NoMemory),
+        }
         drain(region, number, observer)?;
         Ok(None)
     }

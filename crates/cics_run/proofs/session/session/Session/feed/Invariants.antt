@@ -2,7 +2,7 @@ use Rattle.std.proofs.Common.{◌≡◌, ◌++◌, ◌+◌, ◌≤◌, ℕ, List
 use Rattle.cics_run.specs.Session.Running.{Form}
 use Rattle.cics_run.specs.Session.Standing.{Stands}
 use Rattle.cics_run.specs.Session.Streams.{Rises}
-use Rattle.cics_run.proofs.session.session.Session.run_lines.Given as goal
+use Rattle.cics_run.proofs.session.session.Session.feed.Given as goal
 
 -- some bytes came before the rest, and the session stands behind them
 abbrev pub invariant-lines : goal.invariant-lines
